@@ -1,0 +1,198 @@
+-- Laws of tests, of `every`, and of what a count or a sum says about its terms.
+--
+-- In order: negation; `not a || b` as an implication, both ways; disjunction; equal tests, both ways; a conjunction of several tests, both ways;
+-- `every` as a statement about each number, both ways; what a count that is not 0 has found, and the converse; a count split by a second test; a
+-- test passed at most once; a sum split at a number.
+-- Assumes nothing.
+use Prim.Native.Nat.{ℕ, zero, suc, _+_, _-_, _≤_, _<_}
+use native.Mathlib.Nat.{le-refl, add-zero, add-suc}
+use native.Mathlib.Omega.{arith}
+use mathlib.Core.Path.{_≡_, refl, sym, _∙_, ap}
+use mathlib.Core.Logic.{_⊎_, inl, inr}
+use mathlib.Core.Bool.{Bool, true, false, not, _&&_, _||_, Bool·beq}
+use mathlib.Core.List.{List, [], _∷_}
+use lib.ListN.{getD}
+use lib.Dec.{eqb, ltb}
+use Rattle.laws.specs.Sums.{bit, sum, count, every}
+use Rattle.laws.proofs.Sums.{Is, is-true, is-false, is, clash, lt-of, ge-of, eq-of, ne-of, both, left-of, right-of}
+use Rattle.laws.proofs.Sums.{term-le, sum-ext, sum-add, sum-zero, count-none}
+
+infixr 20 _and_
+-- ---- tests
+
+pub not-true : (b : Bool) → (b ≡ true → ⊥) → b ≡ false
+not-true true h = absurd (h refl)
+not-true false h = refl
+
+pub not-is-true : (b : Bool) → b ≡ false → not b ≡ true
+not-is-true true e = sym e
+not-is-true false e = refl
+
+pub false-of-not : (b : Bool) → not b ≡ true → b ≡ false
+false-of-not true e = sym e
+false-of-not false e = refl
+
+-- `not a || b` says that a implies b
+pub implied : (a b : Bool) → (not a || b) ≡ true → a ≡ true → b ≡ true
+implied true b e h = e
+implied false b e h = absurd (clash (sym h))
+
+pub implies : (a b : Bool) → (a ≡ true → b ≡ true) → (not a || b) ≡ true
+implies true b h = h refl
+implies false b h = refl
+
+pub or-left : (a b : Bool) → a ≡ true → (a || b) ≡ true
+or-left true b e = refl
+or-left false b e = absurd (clash (sym e))
+
+pub or-right : (a b : Bool) → b ≡ true → (a || b) ≡ true
+or-right true b e = refl
+or-right false b e = e
+
+pub or-cases : (a b : Bool) → (a || b) ≡ true → (a ≡ true) ⊎ (b ≡ true)
+or-cases true b e = inl refl
+or-cases false b e = inr e
+
+pub beq-eq : (a b : Bool) → Bool·beq a b ≡ true → a ≡ b
+beq-eq true true e = refl
+beq-eq true false e = sym e
+beq-eq false true e = e
+beq-eq false false e = refl
+
+pub eq-beq : (a b : Bool) → a ≡ b → Bool·beq a b ≡ true
+eq-beq true true e = refl
+eq-beq true false e = sym e
+eq-beq false true e = e
+eq-beq false false e = refl
+
+-- two tests that imply each other are equal
+pub test-ext : (a b : Bool) → (a ≡ true → b ≡ true) → (b ≡ true → a ≡ true) → a ≡ b
+test-ext true b f g = sym (f refl)
+test-ext false b f g = sym (not-true b (λ e. clash (sym (g e))))
+
+-- ---- a conjunction of several tests
+
+-- a && b && .. of a list, bracketed as it is written
+abbrev chain : Bool → List Bool → Bool
+chain a [] = a
+chain a (b ∷ l) = chain (a && b) l
+
+abbrev pub conjunction : List Bool → Bool
+conjunction [] = true
+conjunction (a ∷ l) = chain a l
+
+-- each test of a list holds
+pub data AllTrue : List Bool → Type 0 where
+  end : AllTrue []
+  _and_ : {b : Bool} {l : List Bool} → b ≡ true → AllTrue l → AllTrue (b ∷ l)
+
+chain-all : (a : Bool) (l : List Bool) → chain a l ≡ true → AllTrue (a ∷ l)
+chain-all a [] e = e and end
+chain-all a (b ∷ l) e = go (chain-all (a && b) l e)
+  where
+    go : AllTrue ((a && b) ∷ l) → AllTrue (a ∷ b ∷ l)
+    go (p and w) = left-of a b p and right-of a b p and w
+
+conjunction-all : (l : List Bool) → conjunction l ≡ true → AllTrue l
+conjunction-all [] e = end
+conjunction-all (a ∷ l) e = chain-all a l e
+
+all-at : (l : List Bool) → AllTrue l → (i : ℕ) → getD l i true ≡ true
+all-at [] end i = refl
+all-at (b ∷ l) (e and w) zero = e
+all-at (b ∷ l) (e and w) (suc i) = all-at l w i
+
+-- a conjunction holds exactly if each of its tests does: from the conjunction the test at place i, from the tests the conjunction
+pub conjunction-at : (l : List Bool) → conjunction l ≡ true → (i : ℕ) → getD l i true ≡ true
+conjunction-at l e i = all-at l (conjunction-all l e) i
+
+all-chain : (a : Bool) (l : List Bool) → a ≡ true → AllTrue l → chain a l ≡ true
+all-chain a [] e end = e
+all-chain a (b ∷ l) e (p and w) = all-chain (a && b) l (both a b e p) w
+
+pub all-conjunction : (l : List Bool) → AllTrue l → conjunction l ≡ true
+all-conjunction [] end = refl
+all-conjunction (a ∷ l) (e and w) = all-chain a l e w
+
+-- ---- every
+
+pub every-all : (n : ℕ) (p : ℕ → Bool) → every n p ≡ true → (i : ℕ) → i < n → p i ≡ true
+unfolding every
+every-all zero p e i h = absurd (omega arith)
+every-all (suc n) p e i h = go (every-all n p (left-of (every n p) (p n) e) i) (is (eqb i n))
+  where
+    go : (i < n → p i ≡ true) → Is (eqb i n) → p i ≡ true
+    go ih (is-true q) = ap p (eq-of i n q) ∙ right-of (every n p) (p n) e
+    go ih (is-false q) = let ne : i ≡ n → ⊥ = ne-of i n q in ih (omega arith)
+
+pub all-every : (n : ℕ) (p : ℕ → Bool) → ((i : ℕ) → i < n → p i ≡ true) → every n p ≡ true
+unfolding every
+all-every zero p h = refl
+all-every (suc n) p h = both (every n p) (p n) (all-every n p (λ i l. h i (omega arith))) (h n (le-refl (suc n)))
+
+-- ---- counts and sums
+
+-- a sum that is not 0 has a term that is not 0
+pub sum-pos : (n : ℕ) (f : ℕ → ℕ) → 0 < sum n f → (i : ℕ) × (i < n) × (0 < f i)
+unfolding sum
+sum-pos zero f h = absurd (omega arith)
+sum-pos (suc n) f h = go (sum-pos n f) (is (ltb 0 (f n)))
+  where
+    go : (0 < sum n f → (i : ℕ) × (i < n) × (0 < f i)) → Is (ltb 0 (f n)) → (i : ℕ) × (i < suc n) × (0 < f i)
+    go ih (is-true e) = (n, le-refl (suc n), lt-of 0 (f n) e)
+    go ih (is-false e) =
+        let z : f n ≤ 0 = ge-of 0 (f n) e in
+        let w = ih (omega arith) in
+        (w .0, omega arith, w .2)
+
+bit-pos : (b : Bool) → 0 < bit b → b ≡ true
+bit-pos true h = refl
+bit-pos false h = absurd (omega arith)
+
+-- what is counted is there, and what is there is counted
+pub count-pos : (n : ℕ) (p : ℕ → Bool) → 0 < count n p → (i : ℕ) × (i < n) × (p i ≡ true)
+count-pos n p h = let w = sum-pos n (λ i. bit (p i)) h in (w .0, w .1, bit-pos (p (w .0)) (w .2))
+
+pub count-some : (n : ℕ) (p : ℕ → Bool) (i : ℕ) → i < n → p i ≡ true → 0 < count n p
+count-some n p i h e = omega (arith, term-le n (λ j. bit (p j)) i h, ap bit e)
+
+-- the numbers that pass a test: those that pass another one too, and the rest
+bit-split : (a b : Bool) → bit a ≡ bit (a && b) + bit (a && not b)
+bit-split true true = refl
+bit-split true false = refl
+bit-split false b = refl
+
+pub count-split : (n : ℕ) (p q : ℕ → Bool) → count n p ≡ count n (λ i. p i && q i) + count n (λ i. p i && not (q i))
+count-split n p q =
+    sum-ext n (λ i. bit (p i)) (λ i. bit (p i && q i) + bit (p i && not (q i))) (λ i l. bit-split (p i) (q i))
+    ∙ sum-add n (λ i. bit (p i && q i)) (λ i. bit (p i && not (q i)))
+
+-- a test that no two numbers pass is passed at most once
+pub count-once : (n : ℕ) (p : ℕ → Bool) → ((i j : ℕ) → i < j → j < n → p i ≡ true → p j ≡ true → ⊥) → count n p ≤ 1
+unfolding sum
+count-once zero p h = omega arith
+count-once (suc n) p h = go (count-once n p (λ i j l m. h i j l (omega arith))) (is (p n))
+  where
+    go : count n p ≤ 1 → Is (p n) → count n p + bit (p n) ≤ 1
+    go ih (is-true e) =
+        let none : count n p ≡ 0 = count-none n p (λ i l. not-true (p i) (λ q. h i n l (le-refl (suc n)) q e)) in
+        omega (arith, ap bit e)
+    go ih (is-false e) = omega (arith, ap bit e)
+
+-- the terms below m, and the rest
+pub sum-split : (m n : ℕ) (f : ℕ → ℕ) → sum (m + n) f ≡ sum m f + sum n (λ i. f (m + i))
+unfolding sum
+sum-split m zero f = rw (add-zero m) (omega arith)
+sum-split m (suc n) f = rw (add-suc m n) (omega (arith, sum-split m n f))
+
+sum-from : (m n : ℕ) (f : ℕ → ℕ) → m ≤ n → sum n f ≡ sum m f + sum (n - m) (λ i. f (m + i))
+sum-from m n f h = let q : n ≡ m + (n - m) = omega arith in ap (λ (k : ℕ). sum k f) q ∙ sum-split m (n - m) f
+
+-- a sum whose terms from m on are 0, and a term from m on beside the terms below m
+pub sum-below : (m n : ℕ) (f : ℕ → ℕ) → m ≤ n → ((i : ℕ) → m ≤ i → i < n → f i ≡ 0) → sum m f ≡ sum n f
+sum-below m n f h z = omega (arith, sum-from m n f h, sum-zero (n - m) (λ i. f (m + i)) (λ i l. z (m + i) (omega arith) (omega arith)))
+
+pub sum-beyond : (m n : ℕ) (f : ℕ → ℕ) (i : ℕ) → m ≤ i → i < n → sum m f + f i ≤ sum n f
+sum-beyond m n f i h l =
+    let q : m + (i - m) ≡ i = omega arith in
+    omega (arith, sum-from m n f (omega arith), term-le (n - m) (λ j. f (m + j)) (i - m) (omega arith), ap f q)

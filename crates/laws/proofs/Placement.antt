@@ -1,0 +1,387 @@
+-- Placements: a placement exists exactly if every selection of jobs obeys the capacity, and then largest remaining time first finds one.
+--
+-- In order: lists as functions; capacity; a placement obeys the criterion; the r largest needs; the criterion and the excess; one slot for any
+-- choice of the largest needs, by the dual of the criterion; any way of breaking ties (T2); the choice of LRTF; the needs that are left; LRTF places.
+-- Assumes nothing.
+use Prim.Native.Nat.{ℕ, zero, suc, _+_, _-_, _*_, _≤_, _<_, min}
+use native.Mathlib.Nat.{le-refl, mul-comm}
+use native.Mathlib.Omega.{arith}
+use mathlib.Core.Path.{_≡_, refl, sym, _∙_, ap}
+use mathlib.Core.Logic.{_⊎_, inl, inr}
+use mathlib.Core.Bool.{Bool, true, false, not, _&&_}
+use mathlib.Core.List.{List}
+use lib.ListN.{length, List·getD-eq-default}
+use lib.Dec.{ltb}
+use Rattle.laws.specs.Sums.{bit, only, sum, count, position}
+use Rattle.laws.specs.Placement.{Placed, capacity, Criterion, before, chosen, at, tabulate, served, left, lrtf, largest, excess}
+use Rattle.laws.proofs.Sums.{Is, is-true, is-false, is, clash, lt-of, ge-of, ltb-yes, both, left-of, right-of}
+use Rattle.laws.proofs.Sums.{sum-ext, sum-le, sum-zero, sum-add, sum-swap, sum-first, term-le, count-imp, count-le}
+use Rattle.laws.proofs.Sums.{greatest-bounds, greatest-attained}
+use Rattle.laws.proofs.Order.{either, sum-only-const, position-order, position-count, at-position, before-total}
+
+-- ---- lists as functions
+
+pub length-tabulate : (n : ℕ) (f : ℕ → ℕ) → length (tabulate n f) ≡ n
+unfolding tabulate
+length-tabulate zero f = refl
+length-tabulate (suc n) f = ap suc (length-tabulate n (λ i. f (suc i)))
+
+pub at-tabulate : (n : ℕ) (f : ℕ → ℕ) (i : ℕ) → i < n → at (tabulate n f) i ≡ f i
+unfolding tabulate
+at-tabulate zero f i h = absurd (let l : i < 0 = h in omega arith)
+at-tabulate (suc n) f zero h = refl
+at-tabulate (suc n) f (suc i) h = at-tabulate n (λ j. f (suc j)) i (omega arith)
+
+pub at-past : (l : List ℕ) (i : ℕ) → length l ≤ i → at l i ≡ 0
+at-past l i h = List·getD-eq-default l 0 h
+
+-- ---- capacity
+
+pub capacity-mono : (n : ℕ) (x y : ℕ → ℕ) (r : ℕ) → ((s : ℕ) → s < n → x s ≤ y s) → capacity n x r ≤ capacity n y r
+capacity-mono n x y r h = sum-le n (λ s. min r (x s)) (λ s. min r (y s)) (λ s l. omega (arith, h s l))
+
+-- more free cells keep the criterion
+pub criterion-mono : (k : ℕ) (c : ℕ → ℕ) (n : ℕ) (x y : ℕ → ℕ) → ((s : ℕ) → s < n → x s ≤ y s) → Criterion k c n x → Criterion k c n y
+criterion-mono k c n x y h f p = omega (arith, f p, capacity-mono n x y (count k p) h)
+
+-- ---- a placement obeys the criterion
+
+only-count : (n : ℕ) (q : ℕ → Bool) (b : Bool) → only b (count n q) ≡ count n (λ s. b && q s)
+only-count n q true = refl
+only-count n q false = sym (sum-zero n (λ s. 0) (λ s l. refl))
+
+-- T1: in a slot the jobs of a selection take at most as many cells as they are, and as are free
+pub criterion-of-placed : {k : ℕ} {c : ℕ → ℕ} {n : ℕ} {x : ℕ → ℕ} {a : ℕ → ℕ → Bool} → Placed k c n x a → Criterion k c n x
+criterion-of-placed {k} {c} {n} {x} {a} h p =
+    omega (
+      arith,
+      sum-ext k (λ i. only (p i) (c i)) (λ i. sum n (λ s. bit (p i && a i s))) job,
+      sum-swap k n (λ i s. bit (p i && a i s)),
+      sum-le n (λ s. sum k (λ i. bit (p i && a i s))) (λ s. min (count k p) (x s)) slot,
+    )
+  where
+    job : (i : ℕ) → i < k → only (p i) (c i) ≡ count n (λ s. p i && a i s)
+    job i l = ap (only (p i)) (sym (h .exact i l)) ∙ only-count n (a i) (p i)
+
+    slot : (s : ℕ) → s < n → count k (λ i. p i && a i s) ≤ min (count k p) (x s)
+    slot s l =
+        omega (
+          arith,
+          count-imp k (λ i. p i && a i s) p (λ i m. left-of (p i) (a i s)),
+          count-imp k (λ i. p i && a i s) (λ i. a i s) (λ i m. right-of (p i) (a i s)),
+          h .within s l,
+        )
+
+-- ---- the r largest needs
+
+-- what stands no later needs no less
+pub need-of-position : (k : ℕ) (c : ℕ → ℕ) (i j : ℕ) → i < k → position k (before c) j ≤ position k (before c) i → c i ≤ c j
+need-of-position k c i j l h = go (is (before c i j))
+  where
+    go : Is (before c i j) → c i ≤ c j
+    go (is-true e) = absurd (omega (arith, position-order (before-total c) k e l))
+    go (is-false e) = omega (arith, ge-of (c j) (c i + bit (ltb i j)) e)
+
+-- a need that parts the r largest from the others
+threshold : (k : ℕ) (c : ℕ → ℕ) (r : ℕ) → r ≤ k →
+    (t : ℕ) × ((i : ℕ) → i < k → position k (before c) i < r → t ≤ c i) × ((i : ℕ) → i < k → r ≤ position k (before c) i → c i ≤ t)
+threshold k c zero h = (sum k c, (λ i l m. absurd (let z : position k (before c) i < 0 = m in omega arith)), (λ i l m. term-le k c i l))
+threshold k c (suc r) h =
+    let w = at-position (before-total c) k r h in (
+      c (w .0),
+      (λ i l m. need-of-position k c (w .0) i (w .1) (omega (arith, w .2))),
+      (λ i l m. need-of-position k c i (w .0) l (omega (arith, w .2))),
+    )
+
+exchange : (a b : Bool) (c t : ℕ) → (b ≡ true → t ≤ c) → (b ≡ false → c ≤ t) → only a c + only b t ≤ only b c + only a t
+exchange true true c t f g = le-refl (c + t)
+exchange true false c t f g = omega (arith, g refl)
+exchange false true c t f g = omega (arith, f refl)
+exchange false false c t f g = le-refl 0
+
+-- no selection needs more than as many of the largest
+pub largest-bounds : (k : ℕ) (c : ℕ → ℕ) (p : ℕ → Bool) → sum k (λ i. only (p i) (c i)) ≤ largest k c (count k p)
+largest-bounds k c p =
+    omega (
+      arith,
+      sum-le k (λ i. only (p i) (c i) + only (q i) t) (λ i. only (q i) (c i) + only (p i) t) term,
+      sum-add k (λ i. only (p i) (c i)) (λ i. only (q i) t),
+      sum-add k (λ i. only (q i) (c i)) (λ i. only (p i) t),
+      sum-only-const k p t,
+      sum-only-const k q t,
+      ap (λ (r : ℕ). r * t) (position-count (before-total c) k (count k p) (count-le k p)),
+    )
+  where
+    w : (t : ℕ) × ((i : ℕ) → i < k → position k (before c) i < count k p → t ≤ c i) ×
+        ((i : ℕ) → i < k → count k p ≤ position k (before c) i → c i ≤ t)
+    w = threshold k c (count k p) (count-le k p)
+
+    t : ℕ
+    t = w .0
+
+    q : ℕ → Bool
+    q i = ltb (position k (before c) i) (count k p)
+
+    term : (i : ℕ) → i < k → only (p i) (c i) + only (q i) t ≤ only (q i) (c i) + only (p i) t
+    term i l =
+        exchange (p i) (q i) (c i) t (λ e. w .1 i l (lt-of (position k (before c) i) (count k p) e))
+        (λ e. w .2 i l (ge-of (position k (before c) i) (count k p) e))
+
+-- and the r largest are a selection of size r
+pub largest-attained : (k : ℕ) (c : ℕ → ℕ) (r : ℕ) → r ≤ k → (p : ℕ → Bool) × (count k p ≡ r) × (sum k (λ i. only (p i) (c i)) ≡ largest k c r)
+largest-attained k c r h = ((λ i. ltb (position k (before c) i) r), position-count (before-total c) k r h, refl)
+
+-- ---- the criterion and the excess
+
+pub excess-of-criterion : (k : ℕ) (c : ℕ → ℕ) (n : ℕ) (x : ℕ → ℕ) → Criterion k c n x → excess k c n x ≡ 0
+excess-of-criterion k c n x h =
+    let w = greatest-attained k (λ r. largest k c r - capacity n x r) in
+    let v = largest-attained k c (w .0) (w .1) in
+    omega (arith, w .2, v .2, h (v .0), ap (capacity n x) (v .1))
+
+pub criterion-of-excess : (k : ℕ) (c : ℕ → ℕ) (n : ℕ) (x : ℕ → ℕ) → excess k c n x ≡ 0 → Criterion k c n x
+criterion-of-excess k c n x e p =
+    omega (arith, largest-bounds k c p, greatest-bounds k (λ r. largest k c r - capacity n x r) (count k p) (count-le k p))
+
+-- ---- one slot, whatever the choice
+
+-- A choice of the largest needs for a slot with d free cells; the tie is left open.
+pub record Step (k : ℕ) (c : ℕ → ℕ) (d : ℕ) (D : ℕ → Bool) : Type 0 where
+  pub needed : (i : ℕ) → i < k → D i ≡ true → 0 < c i
+  pub fits : count k D ≤ d
+  pub full : (i : ℕ) → i < k → D i ≡ false → 0 < c i → count k D ≡ d
+  pub greater : (i j : ℕ) → i < k → j < k → D i ≡ false → 0 < c i → D j ≡ true → c i ≤ c j
+
+-- The dual of the criterion, over sets S of slots: with m slots outside of S, what the jobs need above m has to go into the cells of S.
+abbrev pub Dual : ℕ → (ℕ → ℕ) → ℕ → (ℕ → ℕ) → Type 0
+Dual k c n x = (S : ℕ → Bool) → sum k (λ i. c i - count n (λ s. not (S s))) ≤ sum n (λ s. only (S s) (x s))
+
+pub dual-of-criterion : (k : ℕ) (c : ℕ → ℕ) (n : ℕ) (x : ℕ → ℕ) → Criterion k c n x → Dual k c n x
+dual-of-criterion k c n x h S =
+    omega (
+      arith,
+      sum-ext k (λ i. (c i - m) + only (p i) m) (λ i. only (p i) (c i)) (λ i l. job i (is (p i))),
+      sum-add k (λ i. c i - m) (λ i. only (p i) m),
+      sum-only-const k p m,
+      h p,
+      sum-le n (λ s. min r (x s)) (λ s. only (not (S s)) r + only (S s) (x s)) (λ s l. slot (S s) (x s)),
+      sum-add n (λ s. only (not (S s)) r) (λ s. only (S s) (x s)),
+      sum-only-const n (λ s. not (S s)) r,
+      mul-comm m r,
+    )
+  where
+    m : ℕ
+    m = count n (λ s. not (S s))
+
+    p : ℕ → Bool
+    p i = ltb m (c i)
+
+    r : ℕ
+    r = count k p
+
+    job : (i : ℕ) → Is (p i) → (c i - m) + only (p i) m ≡ only (p i) (c i)
+    job i (is-true e) = rw e (omega (arith, lt-of m (c i) e))
+    job i (is-false e) = rw e (omega (arith, ge-of m (c i) e))
+
+    slot : (b : Bool) (y : ℕ) → min r y ≤ only (not b) r + only b y
+    slot true y = omega arith
+    slot false y = omega arith
+
+-- a set of slots with one more slot in front
+front : Bool → (ℕ → Bool) → ℕ → Bool
+front b S zero = b
+front b S (suc s) = S s
+
+-- One slot, filled by any such choice, keeps the dual.
+pub dual-step : (k : ℕ) (c : ℕ → ℕ) (n : ℕ) (x : ℕ → ℕ) (D : ℕ → Bool) → Step k c (x 0) D → Dual k c (suc n) x →
+    Dual k (λ i. c i - bit (D i)) n (λ s. x (suc s))
+unfolding front
+dual-step k c n x D h f S = go (either k (λ i l. above i (is (D i)) (is (ltb m (c i)))))
+  where
+    m : ℕ
+    m = count n (λ s. not (S s))
+
+    cells : ℕ
+    cells = sum n (λ s. only (S s) (x (suc s)))
+
+    -- the dual with the slot in front, in S or outside of it
+    dual-front : (b : Bool) → sum k (λ i. c i - (bit (not b) + m)) ≤ only b (x 0) + cells
+    dual-front b =
+        omega (
+          arith,
+          f (front b S),
+          sum-first n (λ s. only (front b S s) (x s)),
+          ap (λ (q : ℕ). sum k (λ i. c i - q)) (sum-first n (λ s. bit (not (front b S s)))),
+        )
+
+    above : (i : ℕ) → Is (D i) → Is (ltb m (c i)) → ((D i ≡ false) × (m < c i)) ⊎ (D i ≡ false → c i ≤ m)
+    above i (is-true e) t = inr (λ g. absurd (clash (sym e ∙ g)))
+    above i (is-false e) (is-true t) = inl (e, lt-of m (c i) t)
+    above i (is-false e) (is-false t) = inr (λ g. ge-of m (c i) t)
+
+    -- where each chosen need is above m, each chosen job has its cell from what is needed above m
+    over : (i : ℕ) → (D i ≡ true → m < c i) → Is (D i) → (c i - bit (D i) - m) + bit (D i) ≡ c i - (0 + m)
+    over i g (is-true e) = rw e (omega (arith, g e))
+    over i g (is-false e) = rw e (omega arith)
+
+    -- where no other need is above m, what is needed above m is needed above m + 1 before
+    under : (i : ℕ) → (D i ≡ false → c i ≤ m) → Is (D i) → c i - bit (D i) - m ≡ c i - (1 + m)
+    under i g (is-true e) = rw e (omega arith)
+    under i g (is-false e) = rw e (omega (arith, g e))
+
+    go : ((i : ℕ) × (i < k) × ((D i ≡ false) × (m < c i))) ⊎ ((i : ℕ) → i < k → D i ≡ false → c i ≤ m) → sum k (λ i. c i - bit (D i) - m) ≤ cells
+    go (inl w) =
+        omega (
+          arith,
+          dual-front true,
+          h .full (w .0) (w .1) (w .2 .0) (omega (arith, w .2 .1)),
+          sum-add k (λ i. c i - bit (D i) - m) (λ i. bit (D i)),
+          sum-ext k (λ i. (c i - bit (D i) - m) + bit (D i)) (λ i. c i - (0 + m))
+              (λ j l. over j (λ e. omega (arith, w .2 .1, h .greater (w .0) j (w .1) l (w .2 .0) (omega (arith, w .2 .1)) e)) (is (D j))),
+        )
+    go (inr g) = omega (arith, dual-front false, sum-ext k (λ i. c i - bit (D i) - m) (λ i. c i - (1 + m)) (λ j l. under j (g j l) (is (D j))))
+
+-- ---- any way of breaking ties
+
+-- Needs that fall slot by slot as such choices have it: with no slot left, none is left. `l s` are the needs before slot s, `D s` the choice there.
+steps-end : (n k : ℕ) (l : ℕ → ℕ → ℕ) (D : ℕ → ℕ → Bool) (x : ℕ → ℕ) → ((s : ℕ) → s < n → Step k (l s) (x s) (D s)) →
+    ((s i : ℕ) → s < n → i < k → l (suc s) i ≡ l s i - bit (D s i)) → Dual k (l 0) n x → (i : ℕ) → i < k → l n i ≡ 0
+unfolding sum
+steps-end zero k l D x step next dual i h = omega (arith, dual (λ s. true), term-le k (λ j. l 0 j - 0) i h)
+steps-end (suc n) k l D x step next dual i h =
+    steps-end n k (λ s. l (suc s)) (λ s. D (suc s)) (λ s. x (suc s)) (λ s m. step (suc s) (omega arith)) (λ s j m. next (suc s) j (omega arith))
+    (λ p.
+    omega (
+      arith,
+      dual-step k (l 0) n x (D 0) (step 0 (omega arith)) dual p,
+      sum-ext k (λ j. l 1 j - count n (λ s. not (p s))) (λ j. l 0 j - bit (D 0 j) - count n (λ s. not (p s)))
+          (λ j m. ap (λ (q : ℕ). q - count n (λ s. not (p s))) (next 0 j (omega arith) m)),
+    )) i h
+
+-- what is left of a need and what the job has got make the need
+steps-got : (k : ℕ) (l : ℕ → ℕ → ℕ) (D : ℕ → ℕ → Bool) (i n : ℕ) → ((s : ℕ) → s < n → l (suc s) i + bit (D s i) ≡ l s i) →
+    l n i + count n (λ s. D s i) ≡ l 0 i
+unfolding sum
+steps-got k l D i zero next = omega arith
+steps-got k l D i (suc n) next = omega (arith, steps-got k l D i n (λ s m. next s (omega arith)), next n (omega arith))
+
+-- T2, whatever breaks ties: where every selection obeys, choosing the largest remaining needs slot by slot makes a placement.
+pub largest-first-places : (k n : ℕ) (x : ℕ → ℕ) (l : ℕ → ℕ → ℕ) (D : ℕ → ℕ → Bool) → ((s : ℕ) → s < n → Step k (l s) (x s) (D s)) →
+    ((s i : ℕ) → s < n → i < k → l (suc s) i ≡ l s i - bit (D s i)) → Criterion k (l 0) n x → Placed k (l 0) n x (λ i s. D s i)
+largest-first-places k n x l D step next h =
+    record {
+      exact = λ i m.
+          omega (
+            arith,
+            steps-got k l D i n (λ s z. whole s i z m (is (D s i))),
+            steps-end n k l D x step next (dual-of-criterion k (l 0) n x h) i m,
+          );
+      within = λ s z. step s z .fits;
+    }
+  where
+    whole : (s i : ℕ) → s < n → i < k → Is (D s i) → l (suc s) i + bit (D s i) ≡ l s i
+    whole s i z m (is-true e) = omega (arith, next s i z m, ap bit e, step s z .needed i m e)
+    whole s i z m (is-false e) = omega (arith, next s i z m, ap bit e)
+
+-- ---- the choice of LRTF
+
+-- the slot holds them
+pub chosen-count : (k : ℕ) (c : ℕ → ℕ) (d : ℕ) → count k (chosen k c d) ≤ d
+chosen-count k c d = go (is (ltb d k))
+  where
+    go : Is (ltb d k) → count k (chosen k c d) ≤ d
+    go (is-true e) =
+        omega (
+          arith,
+          count-imp k (chosen k c d) (λ i. ltb (position k (before c) i) d)
+              (λ i l. right-of (ltb 0 (c i)) (ltb (position k (before c) i) d)),
+          position-count (before-total c) k d (omega (arith, lt-of d k e)),
+        )
+    go (is-false e) = omega (arith, count-le k (chosen k c d), ge-of d k e)
+
+pub chosen-needs : (k : ℕ) (c : ℕ → ℕ) (d i : ℕ) → chosen k c d i ≡ true → 0 < c i
+chosen-needs k c d i e = lt-of 0 (c i) (left-of (ltb 0 (c i)) (ltb (position k (before c) i) d) e)
+
+-- the choice of LRTF is one of the largest needs
+pub chosen-step : (k : ℕ) (c : ℕ → ℕ) (d : ℕ) → Step k c d (chosen k c d)
+chosen-step k c d = record { needed = λ i l. chosen-needs k c d i; fits = chosen-count k c d; full = all; greater = most }
+  where
+    -- a job that is not chosen stands behind those that are
+    behind : (i : ℕ) → chosen k c d i ≡ false → 0 < c i → d ≤ position k (before c) i
+    behind i e h = ge-of (position k (before c) i) d (sym (ap (λ (b : Bool). b && ltb (position k (before c) i) d) (ltb-yes 0 (c i) h)) ∙ e)
+
+    ahead : (i j : ℕ) → i < k → chosen k c d i ≡ false → 0 < c i → ltb (position k (before c) j) d ≡ true → c i ≤ c j
+    ahead i j l e h t = need-of-position k c i j l (omega (arith, behind i e h, lt-of (position k (before c) j) d t))
+
+    most : (i j : ℕ) → i < k → j < k → chosen k c d i ≡ false → 0 < c i → chosen k c d j ≡ true → c i ≤ c j
+    most i j l m e h t = ahead i j l e h (right-of (ltb 0 (c j)) (ltb (position k (before c) j) d) t)
+
+    all : (i : ℕ) → i < k → chosen k c d i ≡ false → 0 < c i → count k (chosen k c d) ≡ d
+    all i l e h =
+        omega (
+          arith,
+          chosen-count k c d,
+          position-count (before-total c) k d (omega (arith, behind i e h, count-le k (λ j. before c j i))),
+          count-imp k (λ j. ltb (position k (before c) j) d) (chosen k c d)
+              (λ j m t. both (ltb 0 (c j)) (ltb (position k (before c) j) d) (ltb-yes 0 (c j) (omega (arith, ahead i j l e h t))) t),
+        )
+
+-- ---- the needs that are left
+
+pub served-length : (l : List ℕ) (d : ℕ) → length (served l d) ≡ length l
+unfolding served
+served-length l d = length-tabulate (length l) (λ i. at l i - bit (chosen (length l) (at l) d i))
+
+pub at-served : (l : List ℕ) (d i : ℕ) → at (served l d) i ≡ at l i - bit (chosen (length l) (at l) d i)
+unfolding served
+at-served l d i = go (is (ltb i (length l)))
+  where
+    go : Is (ltb i (length l)) → at (served l d) i ≡ at l i - bit (chosen (length l) (at l) d i)
+    go (is-true e) = at-tabulate (length l) (λ j. at l j - bit (chosen (length l) (at l) d j)) i (lt-of i (length l) e)
+    go (is-false e) =
+        let past : length l ≤ i = ge-of i (length l) e in
+        omega (arith, at-past l i past, at-past (served l d) i (omega (arith, served-length l d)))
+
+pub left-length : (c : List ℕ) (x : ℕ → ℕ) (s : ℕ) → length (left c x s) ≡ length c
+unfolding left
+left-length c x zero = refl
+left-length c x (suc s) = served-length (left c x s) (x s) ∙ left-length c x s
+
+-- a slot takes one from each job that has a cell in it
+pub left-step : (c : List ℕ) (x : ℕ → ℕ) (i s : ℕ) → at (left c x (suc s)) i + bit (lrtf c x i s) ≡ at (left c x s) i
+unfolding left
+left-step c x i s = go (is (lrtf c x i s))
+  where
+    now : at (served (left c x s) (x s)) i ≡ at (left c x s) i - bit (lrtf c x i s)
+    now = rw left-length at (at-served (left c x s) (x s) i)
+
+    go : Is (lrtf c x i s) → at (served (left c x s) (x s)) i + bit (lrtf c x i s) ≡ at (left c x s) i
+    go (is-true e) = omega (arith, now, ap bit e, chosen-needs (length c) (at (left c x s)) (x s) i e)
+    go (is-false e) = omega (arith, now, ap bit e)
+
+-- what is left of a need and what the job has got make the need
+pub left-got : (c : List ℕ) (x : ℕ → ℕ) (i s : ℕ) → at (left c x s) i + count s (λ t. lrtf c x i t) ≡ at c i
+unfolding left sum
+left-got c x i zero = omega arith
+left-got c x i (suc s) = omega (arith, left-got c x i s, left-step c x i s)
+
+-- ---- LRTF places
+
+-- T2 for this rule: where every selection obeys, LRTF makes a placement
+pub lrtf-places : (c : List ℕ) (n : ℕ) (x : ℕ → ℕ) → Criterion (length c) (at c) n x → Placed (length c) (at c) n x (lrtf c x)
+unfolding left
+lrtf-places c n x h =
+    largest-first-places (length c) n x (λ s. at (left c x s)) (λ s i. lrtf c x i s)
+    (λ s z. chosen-step (length c) (at (left c x s)) (x s)) (λ s i z m. omega (arith, left-step c x i s)) h
+
+-- every need is met
+pub left-end : (c : List ℕ) (n : ℕ) (x : ℕ → ℕ) → Criterion (length c) (at c) n x → (i : ℕ) → i < length c → at (left c x n) i ≡ 0
+left-end c n x h i m = omega (arith, left-got c x i n, lrtf-places c n x h .exact i m)
+
+-- needs without excess are placed by LRTF
+pub fits-placed : (c : List ℕ) (n : ℕ) (x : ℕ → ℕ) → excess (length c) (at c) n x ≡ 0 → Placed (length c) (at c) n x (lrtf c x)
+fits-placed c n x e = lrtf-places c n x (criterion-of-excess (length c) (at c) n x e)
+
+-- needs that can be placed at all have no excess
+pub placed-fits : {k : ℕ} {c : ℕ → ℕ} {n : ℕ} {x : ℕ → ℕ} {a : ℕ → ℕ → Bool} → Placed k c n x a → excess k c n x ≡ 0
+placed-fits {k} {c} {n} {x} h = excess-of-criterion k c n x (criterion-of-placed h)

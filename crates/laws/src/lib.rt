@@ -1,0 +1,1 @@
+// Laws alone: no function runs here.
