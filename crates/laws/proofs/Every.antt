@@ -10,6 +10,7 @@ use native.Mathlib.Omega.{arith}
 use mathlib.Core.Path.{_≡_, refl, sym, _∙_, ap}
 use mathlib.Core.Logic.{_⊎_, inl, inr}
 use mathlib.Core.Bool.{Bool, true, false, not, _&&_, _||_, Bool·beq}
+use mathlib.Core.Option.{none, some}
 use mathlib.Core.List.{List, [], _∷_}
 use lib.ListN.{getD}
 use lib.Dec.{eqb, ltb}
@@ -31,6 +32,27 @@ not-is-true false e = refl
 pub false-of-not : (b : Bool) → not b ≡ true → b ≡ false
 false-of-not true e = sym e
 false-of-not false e = refl
+
+-- and of a negation that fails
+pub true-of-not : (b : Bool) → not b ≡ false → b ≡ true
+true-of-not true e = refl
+true-of-not false e = sym e
+
+pub not-is-false : (b : Bool) → b ≡ true → not b ≡ false
+not-is-false b e = rw e
+
+-- an alternative that fails: neither part holds
+pub neither-left : (a b : Bool) → (a || b) ≡ false → a ≡ false
+neither-left true b e = e
+neither-left false b e = refl
+
+pub neither-right : (a b : Bool) → (a || b) ≡ false → b ≡ false
+neither-right true b e = absurd (clash e)
+neither-right false b e = e
+
+-- what is missing is not there
+pub none-some : {A : Type 0} {a : A} → none ≡ some a → ⊥
+none-some e = let z : _≡_ {A = ℕ} 0 1 = cc in omega arith
 
 -- `not a || b` says that a implies b
 pub implied : (a b : Bool) → (not a || b) ≡ true → a ≡ true → b ≡ true

@@ -22,15 +22,6 @@ use Rattle.laws.proofs.Placement.{capacity-mono}
 
 -- ---- sums and tests
 
--- a disjunction holds if one part does
-pub or-left : (a b : Bool) → a ≡ true → (a || b) ≡ true
-or-left true b e = refl
-or-left false b e = absurd (clash (sym e))
-
-pub or-right : (a b : Bool) → b ≡ true → (a || b) ≡ true
-or-right true b e = refl
-or-right false b e = e
-
 -- two pairs of sums, compared term by term
 pub sum-le-two : (n : ℕ) (f g u v : ℕ → ℕ) → ((i : ℕ) → i < n → f i + g i ≤ u i + v i) → sum n f + sum n g ≤ sum n u + sum n v
 sum-le-two n f g u v h = omega (arith, sum-add n f g, sum-add n u v, sum-le n (λ i. f i + g i) (λ i. u i + v i) h)

@@ -20,7 +20,8 @@ use Rattle.laws.proofs.Sums.{Is, is, is-true, is-false, clash, lt-of, g
 use Rattle.laws.proofs.Sums.{sum-ext, sum-le, sum-zero, sum-but, count-imp, count-none}
 use Rattle.laws.proofs.Order.{either}
 use Rattle.laws.proofs.Placement.{length-tabulate, at-tabulate, at-past}
-use Rattle.laws.proofs.Eviction.{or-left, or-right, sum-le-two, sum-or-and}
+use Rattle.laws.proofs.Every.{or-left, or-right}
+use Rattle.laws.proofs.Eviction.{sum-le-two, sum-or-and}
 
 -- ---- two numbers are equal or not
 

@@ -13,11 +13,11 @@ use mathlib.Core.List.{List}
 use lib.ListN.{length, List·getD-eq-default}
 use lib.Dec.{ltb}
 use Rattle.laws.specs.Sums.{bit, only, sum, count, position}
-use Rattle.laws.specs.Placement.{Placed, capacity, Criterion, before, chosen, at, tabulate, served, left, lrtf, largest, excess}
+use Rattle.laws.specs.Placement.{Placed, SlotRule, capacity, Criterion, before, chosen, at, tabulate, served, left, lrtf, largest, excess}
 use Rattle.laws.proofs.Sums.{Is, is-true, is-false, is, clash, lt-of, ge-of, ltb-yes, both, left-of, right-of}
-use Rattle.laws.proofs.Sums.{sum-ext, sum-le, sum-zero, sum-add, sum-swap, sum-first, term-le, count-imp, count-le}
+use Rattle.laws.proofs.Sums.{sum-ext, sum-le, sum-zero, sum-add, sum-swap, sum-first, term-le, count-ext, count-imp, count-le}
 use Rattle.laws.proofs.Sums.{greatest-bounds, greatest-attained}
-use Rattle.laws.proofs.Order.{either, sum-only-const, position-order, position-count, at-position, before-total}
+use Rattle.laws.proofs.Order.{either, sum-only-const, position-order, order-of-position, position-count, at-position, before-total}
 
 -- ---- lists as functions
 
@@ -302,16 +302,17 @@ chosen-count k c d = go (is (ltb d k))
 pub chosen-needs : (k : ℕ) (c : ℕ → ℕ) (d i : ℕ) → chosen k c d i ≡ true → 0 < c i
 chosen-needs k c d i e = lt-of 0 (c i) (left-of (ltb 0 (c i)) (ltb (position k (before c) i) d) e)
 
+-- a job that needs a slot and is not chosen stands behind those that are
+chosen-behind : (k : ℕ) (c : ℕ → ℕ) (d i : ℕ) → chosen k c d i ≡ false → 0 < c i → d ≤ position k (before c) i
+chosen-behind k c d i e h =
+    ge-of (position k (before c) i) d (sym (ap (λ (b : Bool). b && ltb (position k (before c) i) d) (ltb-yes 0 (c i) h)) ∙ e)
+
 -- the choice of LRTF is one of the largest needs
 pub chosen-step : (k : ℕ) (c : ℕ → ℕ) (d : ℕ) → Step k c d (chosen k c d)
 chosen-step k c d = record { needed = λ i l. chosen-needs k c d i; fits = chosen-count k c d; full = all; greater = most }
   where
-    -- a job that is not chosen stands behind those that are
-    behind : (i : ℕ) → chosen k c d i ≡ false → 0 < c i → d ≤ position k (before c) i
-    behind i e h = ge-of (position k (before c) i) d (sym (ap (λ (b : Bool). b && ltb (position k (before c) i) d) (ltb-yes 0 (c i) h)) ∙ e)
-
     ahead : (i j : ℕ) → i < k → chosen k c d i ≡ false → 0 < c i → ltb (position k (before c) j) d ≡ true → c i ≤ c j
-    ahead i j l e h t = need-of-position k c i j l (omega (arith, behind i e h, lt-of (position k (before c) j) d t))
+    ahead i j l e h t = need-of-position k c i j l (omega (arith, chosen-behind k c d i e h, lt-of (position k (before c) j) d t))
 
     most : (i j : ℕ) → i < k → j < k → chosen k c d i ≡ false → 0 < c i → chosen k c d j ≡ true → c i ≤ c j
     most i j l m e h t = ahead i j l e h (right-of (ltb 0 (c j)) (ltb (position k (before c) j) d) t)
@@ -321,10 +322,43 @@ chosen-step k c d = record { needed = λ i l. chosen-needs k c d i; fits = chose
         omega (
           arith,
           chosen-count k c d,
-          position-count (before-total c) k d (omega (arith, behind i e h, count-le k (λ j. before c j i))),
+          position-count (before-total c) k d (omega (arith, chosen-behind k c d i e h, count-le k (λ j. before c j i))),
           count-imp k (λ j. ltb (position k (before c) j) d) (chosen k c d)
               (λ j m t. both (ltb 0 (c j)) (ltb (position k (before c) j) d) (ltb-yes 0 (c j) (omega (arith, ahead i j l e h t))) t),
         )
+
+-- the choice of LRTF is document 01's rule, its ties included
+pub chosen-rule : (k : ℕ) (c : ℕ → ℕ) (d : ℕ) → SlotRule k c d (chosen k c d)
+chosen-rule k c d = record { many = number (either k (λ i l. sort i (is (chosen k c d i)) (is (ltb 0 (c i))))); most = larger; needed = λ i l. chosen-needs k c d i }
+  where
+    sort : (i : ℕ) → Is (chosen k c d i) → Is (ltb 0 (c i)) → ((chosen k c d i ≡ false) × (0 < c i)) ⊎ (chosen k c d i ≡ ltb 0 (c i))
+    sort i (is-true e) (is-true p) = inr (e ∙ sym p)
+    sort i (is-true e) (is-false p) = inr (absurd (omega (arith, chosen-needs k c d i e, ge-of 0 (c i) p)))
+    sort i (is-false e) (is-true p) = inl (e, lt-of 0 (c i) p)
+    sort i (is-false e) (is-false p) = inr (e ∙ sym p)
+
+    among : count k (chosen k c d) ≤ count k (λ i. ltb 0 (c i))
+    among = count-imp k (chosen k c d) (λ i. ltb 0 (c i)) (λ i l. left-of (ltb 0 (c i)) (ltb (position k (before c) i) d))
+
+    number : ((i : ℕ) × (i < k) × ((chosen k c d i ≡ false) × (0 < c i))) ⊎ ((i : ℕ) → i < k → chosen k c d i ≡ ltb 0 (c i)) →
+        count k (chosen k c d) ≡ min d (count k (λ i. ltb 0 (c i)))
+    number (inl w) = omega (arith, among, chosen-step k c d .full (w .0) (w .1) (w .2 .0) (w .2 .1))
+    number (inr g) = omega (arith, chosen-count k c d, count-ext k (chosen k c d) (λ i. ltb 0 (c i)) g)
+
+    tie : (i j : ℕ) → Is (ltb j i) → c i < c j + bit (ltb j i) → (c i < c j) ⊎ ((c i ≡ c j) × (j < i))
+    tie i j (is-true e) h = part (is (ltb (c i) (c j)))
+      where
+        part : Is (ltb (c i) (c j)) → (c i < c j) ⊎ ((c i ≡ c j) × (j < i))
+        part (is-true p) = inl (lt-of (c i) (c j) p)
+        part (is-false p) = inr (omega (arith, ge-of (c i) (c j) p, ap bit e), lt-of j i e)
+    tie i j (is-false e) h = inl (omega (arith, ap bit e))
+
+    larger : (i j : ℕ) → i < k → j < k → chosen k c d j ≡ true → chosen k c d i ≡ false → 0 < c i → (c i < c j) ⊎ ((c i ≡ c j) × (j < i))
+    larger i j l m e f h =
+        tie i j (is (ltb j i))
+        (lt-of (c i) (c j + bit (ltb j i))
+        (order-of-position (before-total c) k i j
+        (omega (arith, chosen-behind k c d i f h, lt-of (position k (before c) j) d (right-of (ltb 0 (c j)) (ltb (position k (before c) j) d) e)))))
 
 -- ---- the needs that are left
 

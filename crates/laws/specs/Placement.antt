@@ -4,7 +4,8 @@
 -- Assumes nothing.
 use Prim.Native.Nat.{ℕ, zero, suc, _+_, _-_, _≤_, _<_, min}
 use mathlib.Core.Path.{_≡_}
-use mathlib.Core.Bool.{Bool, _&&_}
+use mathlib.Core.Logic.{_⊎_}
+use mathlib.Core.Bool.{Bool, true, false, _&&_}
 use mathlib.Core.List.{List, [], _∷_}
 use lib.ListN.{length, getD}
 use lib.Dec.{ltb, leb}
@@ -33,6 +34,15 @@ before c j i = ltb (c i) (c j + bit (ltb j i))
 -- still to get, never one with none left".
 abbrev pub chosen : ℕ → (ℕ → ℕ) → ℕ → ℕ → Bool
 chosen k c d i = ltb 0 (c i) && ltb (position k (before c) i) d
+
+-- The same as document 01 words it, for a slot with d free cells, needs c and the set D of those that get a cell.
+pub record SlotRule (k : ℕ) (c : ℕ → ℕ) (d : ℕ) (D : ℕ → Bool) : Type 0 where
+  -- "as many presets as there are free bridges", or all that still need a slot
+  pub many : count k D ≡ min d (count k (λ i. ltb 0 (c i)))
+  -- "those with the most slots still to get .. Equal ones: the earlier line first"
+  pub most : (i j : ℕ) → i < k → j < k → D j ≡ true → D i ≡ false → 0 < c i → (c i < c j) ⊎ ((c i ≡ c j) × (j < i))
+  -- "never one with none left"
+  pub needed : (i : ℕ) → i < k → D i ≡ true → 0 < c i
 
 -- the needs of a list of jobs as a function: past the end nothing is needed
 abbrev pub at : List ℕ → ℕ → ℕ

@@ -1,0 +1,97 @@
+-- One event on the running frame, and a list of events. Document 01, "The station text", "Causes" and "What demand 3 speaks of".
+-- Assumes nothing.
+use Prim.Native.Nat.{ℕ, suc}
+use mathlib.Core.Bool.{Bool, true, false, not}
+use mathlib.Core.Option.{Option, none, some}
+use mathlib.Core.List.{List, [], _∷_, _++_}
+use lib.Dec.{ltb}
+use Rattle.laws.specs.Eviction.{ones}
+use Rattle.station.specs.Head.{Head, Job, within}
+use Rattle.station.specs.Refusal.{Refusal, noForm, outOfLimits, outOfPlace, clockBack, try, firstOf}
+use Rattle.station.specs.Form.{Form, frameLine, busyLine, presetLine, clockLine, callLine, jobsOf, form}
+use Rattle.placing.specs.Table.{cell}
+use Rattle.placing.specs.Call.{evictedSet, called}
+use Rattle.placing.specs.Entries.{written, frameCauses, callCauses}
+
+-- "events of every kind (here clocks and calls) .. and faulty lines": a line of whatever bytes, its end included, or a clock or a call handed over.
+pub data Event : Type 0 where
+  line : List ℕ → Event
+  clock : ℕ → Event
+  call : List Job → Event
+
+-- the new clock; the cells evicted; or the refusal
+pub data Answer : Type 0 where
+  now : ℕ → Answer
+  taken : ℕ → Answer
+  refused : Refusal → Answer
+
+-- the lent table and the clock: what the running frame keeps beside its head
+pub record State : Type 0 where
+  pub table : List ℕ
+  pub clock : ℕ
+
+pub record Outcome : Type 0 where
+  pub answer : Answer
+  pub after : State
+
+-- what an event asks for, or the fault of its line
+pub data Asked : Type 0 where
+  setClock : ℕ → Asked
+  place : List Job → Asked
+  fault : Refusal → Asked
+
+-- "a line that is not one of the five forms, or lacks its end"; "A head line after an event is out of place."
+abbrev pub askedByForm : Option Form → Asked
+askedByForm none = fault noForm
+askedByForm (some (frameLine s b)) = fault outOfPlace
+askedByForm (some (busyLine b p)) = fault outOfPlace
+askedByForm (some (presetLine n p m o)) = fault outOfPlace
+askedByForm (some (clockLine t)) = setClock t
+askedByForm (some (callLine p)) = place (jobsOf p)
+
+abbrev pub asked : Event → Asked
+asked (line l) = askedByForm (form l)
+asked (clock t) = setClock t
+asked (call jobs) = place jobs
+
+-- What an event is tried for after 8, a head record's 2, and 11: its line's 1 or 3, "t below 1 or above S + 1" and "a clock below the present one",
+-- or the causes of a call.
+unfoldable pub ownCauses : Head → State → Asked → List (Option Refusal)
+ownCauses h st (setClock t) = try outOfLimits (not (within 1 (suc (h .slots)) t)) ∷ try clockBack (ltb t (st .clock)) ∷ []
+ownCauses h st (place jobs) = callCauses h (st .clock) jobs (cell h (st .table))
+ownCauses h st (fault r) = some r ∷ []
+
+-- the causes of what is asked, in the listed order
+abbrev pub askedCauses : Head → State → Asked → List (Option Refusal)
+askedCauses h st a = frameCauses h (st .clock) (st .table) ++ ownCauses h st a
+
+abbrev pub eventCauses : Head → State → Event → List (Option Refusal)
+eventCauses h st e = askedCauses h st (asked e)
+
+-- An event for which no cause holds: a clock changes the clock alone, a call the table alone.
+unfoldable pub carriedOut : Head → State → Asked → Outcome
+carriedOut h st (setClock t) = record { answer = now t; after = record { table = st .table; clock = t } }
+carriedOut h st (place jobs) = record {
+  answer = taken (ones (evictedSet h (st .clock) jobs (cell h (st .table))));
+  after = record { table = written h (called h (st .clock) jobs (cell h (st .table))) (st .table); clock = st .clock };
+}
+carriedOut h st (fault r) = record { answer = refused r; after = st }
+
+-- One event: refused by the first cause that holds, which changes nothing, or carried out.
+unfoldable pub comesTo : Head → State → Asked → Outcome
+comesTo h st a = elim (firstOf (askedCauses h st a)) [ none ↦ carriedOut h st a | some r ↦ record { answer = refused r; after = st } ]
+
+abbrev pub eventOf : Head → State → Event → Outcome
+eventOf h st e = comesTo h st (asked e)
+
+-- A list of events: "Each event gets the table and clock that the last one left".
+pub record Run : Type 0 where
+  pub answers : List Answer
+  pub after : State
+
+abbrev pub more : Answer → Run → Run
+more a r = record { answers = a ∷ r .answers; after = r .after }
+
+unfoldable pub runOf : Head → State → List Event → Run
+runOf h st [] = record { answers = []; after = st }
+runOf h st (e ∷ es) = more (eventOf h st e .answer) (runOf h (eventOf h st e .after) es)

@@ -1,0 +1,89 @@
+-- The causes tried on a running frame and on a call, read off as facts: what holds where none of them does, and back.
+--
+-- In order: 8, the head record's 2 and 11 (`running-of`, `of-running`); 2, 4 and 9 of a call (`good-of`).
+-- Assumes nothing.
+use Prim.Native.Nat.{ℕ, suc, _+_, _≤_, _<_}
+use native.Mathlib.Omega.{arith}
+use mathlib.Core.Path.{_≡_, refl, sym, _∙_, ap}
+use mathlib.Core.Bool.{Bool, true, false, not, _&&_}
+use mathlib.Core.Option.{Option, none, some}
+use mathlib.Core.List.{List, [], _∷_, _++_}
+use lib.ListN.{length}
+use lib.Dec.{ltb, leb, eqb}
+use Rattle.laws.specs.Sums.{every}
+use Rattle.laws.proofs.Sums.{le-of, ge-of, leb-yes, ltb-no, both, left-of, right-of, eqb-yes, clash}
+use Rattle.laws.proofs.Every.{every-all, false-of-not, true-of-not, not-is-false}
+use Rattle.station.specs.Head.{Head, Job, Valid, valid, within}
+use Rattle.station.specs.Refusal.{Refusal, tooShort, outOfLimits, notWellFormed, numberUsed, tooMany, try, firstOf}
+use Rattle.station.proofs.Head.{within-low, within-high, of-within, valid-of, of-valid}
+use Rattle.station.proofs.Refusal.{first-none, passed}
+use Rattle.placing.specs.Table.{Cells, cell, isUsed, jobCount, wellFormed, WellFormed}
+use Rattle.placing.specs.Valid.{jobAt}
+use Rattle.placing.specs.Entries.{frameCauses, frameAtFault, jobCauses, jobsOutside, jobsUsed, jobsTooMany}
+use Rattle.placing.specs.Claims.{Running}
+use Rattle.placing.proofs.WellFormed.{wellFormed-of, of-wellFormed}
+use Rattle.placing.proofs.Good.{Good}
+
+-- ---- 8, the head record's 2, and 11
+
+pub running-of : (h : Head) (clock : ℕ) (t : List ℕ) → firstOf (frameCauses h clock t) ≡ none → Running h clock t
+running-of h clock t e =
+    let eight = first-none tooShort (ltb (length t) 512) _ e in
+    let two = first-none outOfLimits (not (valid h)) _ (eight .1) in
+    let eleven = first-none notWellFormed (frameAtFault h clock t) [] (two .1) in
+    let ok : (wellFormed h (cell h t) && within 1 (suc (h .slots)) clock) ≡ true = true-of-not _ (eleven .0) in
+    let range = right-of (wellFormed h (cell h t)) (within 1 (suc (h .slots)) clock) ok in
+    record {
+      long = ge-of (length t) 512 (eight .0);
+      valid = valid-of h (true-of-not _ (two .0));
+      wellFormed = wellFormed-of h (cell h t) (left-of (wellFormed h (cell h t)) (within 1 (suc (h .slots)) clock) ok);
+      clock-low = within-low 1 (suc (h .slots)) clock range;
+      clock-high = within-high 1 (suc (h .slots)) clock range;
+    }
+
+pub of-running : (h : Head) (clock : ℕ) (t : List ℕ) → Running h clock t → firstOf (frameCauses h clock t) ≡ none
+unfolding firstOf
+of-running h clock t r =
+    passed tooShort (ltb (length t) 512) (try outOfLimits (not (valid h)) ∷ try notWellFormed (frameAtFault h clock t) ∷ []) (ltb-no (length t) 512 (r .long))
+    ∙ passed outOfLimits (not (valid h)) (try notWellFormed (frameAtFault h clock t) ∷ []) (not-is-false _ (of-valid h (r .valid)))
+    ∙ passed notWellFormed (frameAtFault h clock t) []
+    (not-is-false _ (both (wellFormed h (cell h t)) (within 1 (suc (h .slots)) clock) (of-wellFormed h (cell h t) (r .wellFormed))
+    (of-within 1 (suc (h .slots)) clock (r .clock-low) (r .clock-high))))
+
+-- ---- 2, 4 and 9 of a call
+
+-- each job within its limits
+pub jobs-inside : (jobs : List Job) → jobsOutside jobs ≡ false
+    → (1 ≤ length jobs) × (length jobs ≤ 8) × ((i : ℕ) → i < length jobs → (within 1 255 (jobAt jobs i .number) ≡ true) × (within 1 64 (jobAt jobs i .slots) ≡ true))
+jobs-inside jobs e =
+    let p : Bool = within 1 8 (length jobs) in
+    let q : ℕ → Bool = λ i. within 1 255 (jobAt jobs i .number) && within 1 64 (jobAt jobs i .slots) in
+    let ok : (p && every (length jobs) q) ≡ true = true-of-not _ e in
+    let number = left-of p (every (length jobs) q) ok in
+    let each = every-all (length jobs) q (right-of p (every (length jobs) q) ok) in (
+      within-low 1 8 (length jobs) number,
+      within-high 1 8 (length jobs) number,
+      λ i l. (
+        left-of (within 1 255 (jobAt jobs i .number)) (within 1 64 (jobAt jobs i .slots)) (each i l),
+        right-of (within 1 255 (jobAt jobs i .number)) (within 1 64 (jobAt jobs i .slots)) (each i l),
+      ),
+    )
+
+pub good-of : (h : Head) (jobs : List Job) (t : Cells) → firstOf (jobCauses h jobs t) ≡ none → Good h t jobs
+good-of h jobs t e =
+    let two = first-none outOfLimits (jobsOutside jobs) _ e in
+    let four = first-none numberUsed (jobsUsed h t jobs) _ (two .1) in
+    let nine = first-none tooMany (jobsTooMany h t jobs) [] (four .1) in
+    let inside = jobs-inside jobs (two .0) in
+    let fresh : ℕ → Bool = λ i. not (isUsed h t (jobAt jobs i .number)) in
+    let other : ℕ → ℕ → Bool = λ i j. not (eqb (jobAt jobs j .number) (jobAt jobs i .number)) in
+    let each = every-all (length jobs) (λ i. fresh i && every i (other i)) (true-of-not _ (four .0)) in
+    record {
+      low = λ i l. within-low 1 255 (jobAt jobs i .number) (inside .2 i l .0);
+      high = λ i l. within-high 1 255 (jobAt jobs i .number) (inside .2 i l .0);
+      fresh = λ i l. false-of-not (isUsed h t (jobAt jobs i .number)) (left-of (fresh i) (every i (other i)) (each i l));
+      distinct = λ i j m l same.
+          clash (sym (eqb-yes (jobAt jobs j .number) (jobAt jobs i .number) same)
+          ∙ false-of-not (eqb (jobAt jobs j .number) (jobAt jobs i .number)) (every-all i (other i) (right-of (fresh i) (every i (other i)) (each i l)) j m));
+      few = ge-of 64 (jobCount h t + length jobs) (nine .0);
+    }

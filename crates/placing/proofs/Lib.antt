@@ -1,0 +1,14 @@
+-- The laws of layer 2, by subject: cells and the well-formed table; what is written; the causes; the placing rule and the plan; the eviction order, the least
+-- eviction and the table that a call leaves; the theorems; small frames computed.
+pub mod Cells
+pub mod WellFormed
+pub mod Written
+pub mod Good
+pub mod Causes
+pub mod Placing
+pub mod Plan
+pub mod Order
+pub mod Least
+pub mod Called
+pub mod Theorems
+pub mod Examples

@@ -1,0 +1,144 @@
+-- Laws of `placing`, the way jobs get their cells, for plans and calls alike.
+--
+-- In order: two terms of a sum, and a sum with at most one selected term; the first m numbers that pass a test (`first-of`); how many cells of
+-- a slot pass a test (`placing-count`), what a cell holds (`placing-cases`), and the cells of one job (`placing-job`).
+-- Assumes nothing.
+use Prim.Native.Nat.{ℕ, zero, suc, _+_, _≤_, _<_, min}
+use native.Mathlib.Omega.{arith}
+use mathlib.Core.Path.{_≡_, refl, _∙_, ap}
+use mathlib.Core.Logic.{_⊎_, inl, inr}
+use mathlib.Core.Bool.{Bool, true, false, not, _&&_, cond}
+use mathlib.Core.List.{List}
+use lib.ListN.{length}
+use lib.Dec.{ltb, eqb}
+use Rattle.laws.specs.Sums.{bit, only, sum, count}
+use Rattle.laws.specs.Placement.{left, lrtf, at}
+use Rattle.laws.specs.Cells.{takes}
+use Rattle.laws.proofs.Sums.{Is, is-true, is-false, is, left-of, right-of, bit-le, eqb-self, eqb-no, only-not, term-le, sum-ext, sum-add}
+use Rattle.laws.proofs.Sums.{sum-zero, sum-point, count-none}
+use Rattle.laws.proofs.Order.{either, bit-ltb}
+use Rattle.laws.proofs.Placement.{chosen-count}
+use Rattle.laws.proofs.Cells.{slot-holding, takes-one-job}
+use Rattle.placing.specs.Table.{Cells}
+use Rattle.placing.specs.Plan.{placing, freeCount}
+
+-- ---- sums and counts
+
+-- two terms are no more than the sum
+pub sum-two : (n : ℕ) (f : ℕ → ℕ) (i j : ℕ) → i < n → j < n → (j ≡ i → ⊥) → f i + f j ≤ sum n f
+sum-two n f i j l m ne =
+    let g : ℕ → ℕ = λ s. only (eqb s i) (f s) in
+    let h : ℕ → ℕ = λ s. only (not (eqb s i)) (f s) in
+    omega (
+      arith,
+      sum-add n g h,
+      sum-ext n (λ s. g s + h s) f (λ s r. only-not (eqb s i) (f s)),
+      term-le n g i l,
+      term-le n h j m,
+      ap (λ (b : Bool). only b (f i)) (eqb-self i),
+      ap (λ (b : Bool). only (not b) (f j)) (eqb-no j i ne),
+    )
+
+-- a sum with at most one selected term is that term, or 0 if none is selected
+pub one-selected : (k : ℕ) (g : ℕ → Bool) (v : ℕ → ℕ) → count k g ≤ 1
+    → (sum k (λ i. only (g i) (v i)) ≡ 0) ⊎ ((i : ℕ) × (i < k) × (g i ≡ true) × (sum k (λ i. only (g i) (v i)) ≡ v i))
+one-selected k g v h = go (either k (λ i l. split i (is (g i))))
+  where
+    split : (i : ℕ) → Is (g i) → (g i ≡ true) ⊎ (g i ≡ false)
+    split i (is-true e) = inl e
+    split i (is-false e) = inr e
+
+    off : (i j : ℕ) → i < k → j < k → g i ≡ true → (j ≡ i → ⊥) → Is (g j) → g j ≡ false
+    off i j l m e ne (is-true d) = absurd (omega (arith, sum-two k (λ n. bit (g n)) i j l m ne, ap bit e, ap bit d))
+    off i j l m e ne (is-false d) = d
+
+    go : ((i : ℕ) × (i < k) × (g i ≡ true)) ⊎ ((i : ℕ) → i < k → g i ≡ false)
+        → (sum k (λ i. only (g i) (v i)) ≡ 0) ⊎ ((i : ℕ) × (i < k) × (g i ≡ true) × (sum k (λ i. only (g i) (v i)) ≡ v i))
+    go (inl (i, l, e)) =
+        inr (
+          i,
+          l,
+          e,
+          sum-point k (λ j. only (g j) (v j)) i l (λ j m ne. ap (λ (b : Bool). only b (v j)) (off i j l m e ne (is (g j))))
+              ∙ ap (λ (b : Bool). only b (v i)) e,
+        )
+    go (inr none) = inl (sum-zero k (λ i. only (g i) (v i)) (λ i l. ap (λ (b : Bool). only b (v i)) (none i l)))
+
+-- how many of the first m numbers that pass a test are below n
+pub first-of : (n : ℕ) (a : ℕ → Bool) (m : ℕ) → sum n (λ s. bit (a s && ltb (count s a) m)) ≡ min m (count n a)
+unfolding sum
+first-of zero a m = omega arith
+first-of (suc n) a m = go (first-of n a m) (is (a n))
+  where
+    go : sum n (λ s. bit (a s && ltb (count s a) m)) ≡ min m (count n a) → Is (a n)
+        → sum n (λ s. bit (a s && ltb (count s a) m)) + bit (a n && ltb (count n a) m) ≡ min m (count n a + bit (a n))
+    go ih (is-true e) = rw e (omega (arith, bit-ltb (count n a) m))
+    go ih (is-false e) = rw e (omega arith)
+
+-- ---- placing
+
+-- What the cell of slot s, bridge b holds after jobs were placed: what it held where it was not free; else nothing, or what a job writes that
+-- LRTF places in the slot.
+pub data PlacedCell (bridges : ℕ) (f : ℕ → ℕ → Bool) (c : List ℕ) (v : ℕ → ℕ → ℕ) (t : Cells) (s b w : ℕ) : Type 0 where
+  kept : f s b ≡ false → w ≡ t s b → PlacedCell bridges f c v t s b w
+  unused : f s b ≡ true → w ≡ 0 → PlacedCell bridges f c v t s b w
+  written : f s b ≡ true → (i : ℕ) → i < length c → lrtf c (freeCount bridges f) i s ≡ true → w ≡ v i s → PlacedCell bridges f c v t s b w
+
+module _ (bridges : ℕ) (f : ℕ → ℕ → Bool) (c : List ℕ) (v : ℕ → ℕ → ℕ) (t : Cells) (s : ℕ) where
+  -- how many cells of the slot pass a test: the jobs placed there whose value does, and the cells that were not free
+  pub placing-count : (q : ℕ → Bool) → q 0 ≡ false
+      → count bridges (λ b. q (placing bridges f c v t s b))
+      ≡ count (length c) (λ i. lrtf c (freeCount bridges f) i s && q (v i s)) + count bridges (λ b. not (f s b) && q (t s b))
+  unfolding placing
+  placing-count q z =
+      slot-holding (length c) bridges (λ i. lrtf c (freeCount bridges f) i s) (λ b. f s b) (λ i. v i s) (λ b. t s b) q z
+      (chosen-count (length c) (at (left c (freeCount bridges f) s)) (freeCount bridges f s))
+
+  pub placing-cases : (b : ℕ) → PlacedCell bridges f c v t s b (placing bridges f c v t s b)
+  unfolding placing
+  placing-cases b = go (is (f s b)) (one-selected (length c) taker (λ i. v i s) one)
+    where
+      job : ℕ → Bool
+      job i = lrtf c (freeCount bridges f) i s
+
+      taker : ℕ → Bool
+      taker i = takes job (λ a. f s a) i b
+
+      one : count (length c) taker ≤ 1
+      one = omega (arith, takes-one-job (length c) job (λ a. f s a) b, bit-le (f s b))
+
+      value : ℕ
+      value = sum (length c) (λ i. only (taker i) (v i s))
+
+      of-free : f s b ≡ true → cond (f s b) value (t s b) ≡ value
+      of-free e = ap (λ (x : Bool). cond x value (t s b)) e
+
+      go : Is (f s b) → (value ≡ 0) ⊎ ((i : ℕ) × (i < length c) × (taker i ≡ true) × (value ≡ v i s))
+          → PlacedCell bridges f c v t s b (cond (f s b) value (t s b))
+      go (is-false e) w = kept e (ap (λ (x : Bool). cond x value (t s b)) e)
+      go (is-true e) (inl w) = unused e (of-free e ∙ w)
+      go (is-true e) (inr (i, l, d, w)) = written e i l (right-of (f s b) (job i) (left-of (f s b && job i) _ d)) (of-free e ∙ w)
+
+  -- the cells of one job, by a test that only its value passes
+  pub placing-job : (q : ℕ → Bool) → q 0 ≡ false → (i : ℕ) → i < length c
+      → ((j : ℕ) → j < length c → (j ≡ i → ⊥) → q (v j s) ≡ false)
+      → ((b : ℕ) → b < bridges → f s b ≡ false → q (t s b) ≡ false)
+      → count bridges (λ b. q (placing bridges f c v t s b)) ≡ bit (lrtf c (freeCount bridges f) i s && q (v i s))
+  placing-job q z i l others away =
+      omega (
+        arith,
+        placing-count q z,
+        sum-point (length c) (λ j. bit (job j && q (v j s))) i l (λ j m ne. ap bit (and-none (job j) (others j m ne))),
+        count-none bridges (λ b. not (f s b) && q (t s b)) (λ b m. rest b m (is (f s b))),
+      )
+    where
+      job : ℕ → Bool
+      job j = lrtf c (freeCount bridges f) j s
+
+      and-none : (a : Bool) {b : Bool} → b ≡ false → (a && b) ≡ false
+      and-none true e = e
+      and-none false e = refl
+
+      rest : (b : ℕ) → b < bridges → Is (f s b) → (not (f s b) && q (t s b)) ≡ false
+      rest b m (is-true e) = rw e
+      rest b m (is-false e) = rw e (away b m e)

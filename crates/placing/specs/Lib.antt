@@ -1,0 +1,7 @@
+-- Layer 2, placing: the table, what a valid plan and a valid call are, the rule, plan and call, the two entries, and what is claimed of them.
+pub mod Table
+pub mod Valid
+pub mod Plan
+pub mod Call
+pub mod Entries
+pub mod Claims

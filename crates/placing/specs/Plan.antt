@@ -1,0 +1,84 @@
+-- The plan: rank, grants, and where the presets go. Document 01, "What is granted, and where it goes".
+-- Assumes nothing.
+use Prim.Native.Nat.{ℕ, _+_, _-_, _≤_, _<_}
+use mathlib.Core.Path.{_≡_}
+use mathlib.Core.Bool.{Bool, true, false, not, cond}
+use mathlib.Core.List.{List, map}
+use lib.ListN.{length}
+use lib.Dec.{ltb, eqb}
+use Rattle.laws.specs.Sums.{only, count, position, ascending}
+use Rattle.laws.specs.Placement.{Placed, at, left, lrtf, excess, tabulate}
+use Rattle.laws.specs.Cells.{slotCell}
+use Rattle.laws.specs.Grants.{granted}
+use Rattle.station.specs.Head.{Head, Preset, busyAt, presetAt}
+use Rattle.placing.specs.Table.{Cells, presetCount, numberAt, mandatoryCell, optionalCell, busyCell}
+
+-- Jobs with the needs c go by LRTF into the free cells f, slot by slot; in a slot the chosen ones, in their order, take the free bridges in ascending
+-- order. A free cell that nobody takes is empty, and one that is not free keeps what stands there. `v i s` is what job i writes in slot s.
+abbrev pub freeCount : ℕ → (ℕ → ℕ → Bool) → ℕ → ℕ
+freeCount bridges f s = count bridges (λ b. f s b)
+
+unfoldable pub placing : ℕ → (ℕ → ℕ → Bool) → List ℕ → (ℕ → ℕ → ℕ) → Cells → Cells
+placing bridges f c v t s b =
+    slotCell (length c) (λ i. lrtf c (freeCount bridges f) i s) (λ a. f s a) (λ i. v i s) (λ a. t s a) b
+
+-- "Rank: better priority first, then the earlier line." How many presets come before the one of line i.
+abbrev pub rank : Head → ℕ → ℕ
+rank h i = position (presetCount h) (ascending (λ j. presetAt h j .priority)) i
+
+abbrev pub mandatories : Head → List ℕ
+mandatories h = map (λ (p : Preset). p .mandatory) (h .presets)
+
+abbrev pub optionals : Head → List ℕ
+optionals h = map (λ (p : Preset). p .optional) (h .presets)
+
+-- the bridges that a plan may use: those that are not busy
+abbrev pub planFree : Head → ℕ → ℕ → Bool
+planFree h s b = not (busyAt h s b)
+
+abbrev pub planFreeCount : Head → ℕ → ℕ
+planFreeCount h = freeCount (h .bridges) (planFree h)
+
+-- whether presets with these needs fit: "for every r, the r largest needs together do not exceed" the capacity for r
+abbrev pub planFits : Head → List ℕ → Bool
+planFits h c = eqb (excess (length c) (at c) (h .slots) (planFreeCount h)) 0
+
+-- the meaning of that: a placement of the needs c exists
+abbrev pub PlanFeasible : Head → List ℕ → Type 0
+PlanFeasible h c = (a : ℕ → ℕ → Bool) × Placed (length c) (at c) (h .slots) (planFreeCount h) a
+
+-- what line j needs where line i gets g: its mandatory slots, its grant if it comes before line i in rank, and g if it is line i
+abbrev pub needWith : Head → List ℕ → ℕ → ℕ → ℕ → ℕ
+needWith h gs i g j = at (mandatories h) j + only (ltb (rank h j) (rank h i)) (at gs j) + only (eqb j i) g
+
+-- "all required slots and the grants before it", and g
+abbrev pub needsWith : Head → List ℕ → ℕ → ℕ → List ℕ
+needsWith h gs i g = tabulate (presetCount h) (needWith h gs i g)
+
+-- "Grants: in rank order each preset gets as much refinement, up to o, as still lets all required slots and the grants before it fit."
+pub record GrantRule (h : Head) (gs : List ℕ) : Type 0 where
+  pub long : length gs ≡ presetCount h
+  pub up-to : (i : ℕ) → i < presetCount h → at gs i ≤ presetAt h i .optional
+  pub fits : (i : ℕ) → i < presetCount h → PlanFeasible h (needsWith h gs i (at gs i))
+  pub most : (i : ℕ) → i < presetCount h → (g : ℕ) → g ≤ presetAt h i .optional → PlanFeasible h (needsWith h gs i g) → g ≤ at gs i
+
+-- what each preset gets in all, in file order: its mandatory slots and its grant
+unfoldable pub needs : Head → List ℕ
+needs h = granted (planFits h) (rank h) (optionals h) (mandatories h) (presetCount h)
+
+-- the grants, found so; that they obey the rule above is proved
+unfoldable pub grants : Head → List ℕ
+grants h = tabulate (presetCount h) (λ i. at (needs h) i - at (mandatories h) i)
+
+-- "A preset's first m cells in time are required, the rest refinement."
+abbrev pub planCell : Head → List ℕ → ℕ → ℕ → ℕ
+planCell h c i s =
+    cond
+    (ltb (at c i - at (left c (planFreeCount h) s) i) (presetAt h i .mandatory))
+    (mandatoryCell (numberAt h i))
+    (optionalCell (numberAt h i))
+
+-- the table of the plan
+unfoldable pub planned : Head → Cells
+unfolding placing
+planned h = placing (h .bridges) (planFree h) (needs h) (planCell h (needs h)) (λ s b. busyCell)

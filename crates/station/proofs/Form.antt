@@ -1,0 +1,271 @@
+-- Laws of the forms: recognising inverts printing, both ways.
+--
+-- In order: a word read (`word-self`, `word-had`); what is left (`whole-had`, `or-had`); brackets (`brackets-self`, `brackets-had`, and their
+-- recursion `brackets-step`); `form-self` and `form-had`, the two inverses, and `print-injective`; a printed form is one line (`print-line`),
+-- so forms printed one after the other have these lines (`lines-prints`) and forms (`forms-prints`).
+-- Assumes nothing.
+use Prim.Native.Nat.{ℕ, zero, suc, _≤_}
+use native.Mathlib.Omega.{arith}
+use mathlib.Core.Path.{_≡_, refl, sym, _∙_, ap}
+use mathlib.Core.Bool.{true, false, cond, _&&_}
+use mathlib.Core.Option.{Option, none, some}
+use mathlib.Core.List.{List, [], _∷_, _++_, map}
+use lib.ListN.{length, take, drop, length-append, length-drop}
+use lib.Seq.{drop-append-seam}
+use lib.Dec.{eqb}
+use Rattle.laws.proofs.Sums.{Is, is, is-true, is-false, clash, eqb-self, eqb-no, eq-of, left-of, right-of}
+use Rattle.laws.proofs.Every.{none-some}
+use Rattle.station.specs.Text.{bytes, _then_, isLine, isRest, join, lines, Lines, no-lines, line-then}
+use Rattle.station.specs.Decimal.{digits, digitCount, isDigit, plain, value}
+use Rattle.station.specs.Form.{Pairs, last, next, Form, frameLine, busyLine, presetLine, clockLine, callLine, brackets, print}
+use Rattle.station.specs.Form.{starts, word, number, whole, _orElse_, also, made}
+use Rattle.station.specs.Form.{bracketsIn, readBrackets, frameIn, busyIn, presetIn, clockIn, callIn, form}
+use Rattle.station.proofs.Decimal.{number-digits, number-had, digits-count, digit-low}
+use Rattle.station.proofs.Text.{isLine-cons, rest-line, lines-of-join}
+
+-- ---- a word read
+
+starts-append : (w r : List ℕ) → starts w (w ++ r) ≡ true
+unfolding starts
+starts-append [] r = refl
+starts-append (c ∷ w) r = rw (eqb-self c) (starts-append w r)
+
+starts-had : (w l : List ℕ) → starts w l ≡ true → l ≡ w ++ drop (length w) l
+unfolding starts
+starts-had [] l e = refl
+starts-had (c ∷ w) [] e = absurd (clash (sym e))
+starts-had (c ∷ w) (b ∷ l) e =
+    let here : c ≡ b = eq-of c b (left-of (eqb c b) (starts w l) e) in
+    let later : l ≡ w ++ drop (length w) l = starts-had w l (right-of (eqb c b) (starts w l) e) in
+    ap (λ (x : ℕ). x ∷ l) (sym here) ∙ ap (λ (x : List ℕ). c ∷ x) later
+
+module _ {A : Type 0} where
+  pub word-self : (w r : List ℕ) (k : List ℕ → Option A) → word w (w ++ r) k ≡ k r
+  unfolding word
+  word-self w r k = rw (starts-append w r, drop-append-seam w r) refl
+
+  -- it read, so the text was the word and then the rest
+  pub word-had : {G : Type 0} (w l : List ℕ) (k : List ℕ → Option A) (a : A) → word w l k ≡ some a
+      → ((r : List ℕ) → l ≡ w ++ r → k r ≡ some a → G) → G
+  unfolding word
+  word-had {G} w l k a e f = go (is (starts w l)) e
+    where
+      go : Is (starts w l) → word w l k ≡ some a → G
+      go (is-true s) e = f (drop (length w) l) (starts-had w l s) (rw s at e)
+      go (is-false s) e = absurd (none-some (rw s at e))
+
+  -- ---- what is left
+
+  pub whole-had : {G : Type 0} (b : A) (l : List ℕ) (a : A) → whole b l ≡ some a → (l ≡ [] → b ≡ a → G) → G
+  whole-had b [] a e f = f refl (cc)
+  whole-had b (x ∷ l) a e f = absurd (none-some e)
+
+  pub or-had : {G : Type 0} (x y : Option A) (a : A) → (x orElse y) ≡ some a → (x ≡ some a → G) → (y ≡ some a → G) → G
+  or-had none y a e f g = g e
+  or-had (some x) y a e f g = f e
+
+  -- what was found stays found
+  or-first : (x y : Option A) {a : A} → x ≡ some a → (x orElse y) ≡ some a
+  or-first x y e = rw e refl
+
+made-had : {A B G : Type 0} (f : A → B) (x : Option A) (b : B) → made f x ≡ some b → ((a : A) → x ≡ some a → f a ≡ b → G) → G
+made-had f none b e g = absurd (none-some e)
+made-had f (some a) b e g = g a refl (cc)
+
+also-had : {G : Type 0} (m n : ℕ) (x : Option Pairs) (p : Pairs) → also m n x ≡ some p → ((q : Pairs) → x ≡ some q → next m n q ≡ p → G) → G
+also-had m n none p e g = absurd (none-some e)
+also-had m n (some q) p e g = g q refl (cc)
+
+-- ---- brackets
+
+after-le : (a r : List ℕ) → length r ≤ length (a ++ r)
+after-le a r = omega (arith, length-append a r)
+
+bracketsIn-self : (k : ℕ) (p : Pairs) → length (brackets p) ≤ k → bracketsIn k (brackets p) ≡ some p
+unfolding brackets bracketsIn bytes digitCount word starts
+bracketsIn-self zero (last m n) h = absurd (omega arith)
+bracketsIn-self zero (next m n p) h = absurd (omega arith)
+bracketsIn-self (suc k) (last m n) h =
+    number-digits m (bytes " " then digits n then bytes "))\n") _ refl
+    ∙ number-digits n (bytes "))\n") _ refl
+bracketsIn-self (suc k) (next m n p) h =
+    number-digits m (bytes " " then digits n then bytes ") " then brackets p) _ refl
+    ∙ number-digits n (bytes ") " then brackets p) _ refl
+    ∙ ap (also m n)
+    (bracketsIn-self k p
+    (omega (arith, after-le (digits m) (bytes " " then digits n then bytes ") " then brackets p), after-le (digits n) (bytes ") " then brackets p))))
+
+bracketsIn-had : (k : ℕ) (l : List ℕ) (p : Pairs) → bracketsIn k l ≡ some p → l ≡ brackets p
+unfolding brackets bracketsIn bytes
+bracketsIn-had zero l p e = absurd (none-some e)
+bracketsIn-had (suc k) l p e =
+    word-had (bytes "(") l _ p e (λ l₁ e₁ q₁. number-had l₁ _ p q₁ (λ m l₂ e₂ c₂ q₂. word-had (bytes " ") l₂ _ p q₂ (λ l₃ e₃ q₃.
+    number-had l₃ _ p q₃ (λ n l₄ e₄ c₄ q₄. or-had (word (bytes "))\n") l₄ (whole (last m n))) _ p q₄
+    (λ q. word-had (bytes "))\n") l₄ _ p q (λ l₅ e₅ q₅. whole-had (last m n) l₅ p q₅ (λ e₆ e₇. rw (e₁, e₂, e₃, e₄, e₅, e₆, ← e₇) refl)))
+    (λ q. word-had (bytes ") ") l₄ _ p q (λ l₅ e₅ q₅. also-had m n (bracketsIn k l₅) p q₅ (λ r e₆ e₇.
+    rw (e₁, e₂, e₃, e₄, e₅, bracketsIn-had k l₅ r e₆, ← e₇) refl)))))))
+
+pub brackets-self : (p : Pairs) → readBrackets (brackets p) ≡ some p
+unfolding readBrackets
+brackets-self p = bracketsIn-self (length (brackets p)) p (omega arith)
+
+pub brackets-had : (l : List ℕ) (p : Pairs) → readBrackets l ≡ some p → l ≡ brackets p
+unfolding readBrackets
+brackets-had l p e = bracketsIn-had (length l) l p e
+
+-- enough fuel is enough
+bracketsIn-enough : (k : ℕ) (l : List ℕ) → length l ≤ k → bracketsIn k l ≡ readBrackets l
+bracketsIn-enough k l h = go (bracketsIn k l) (readBrackets l) refl refl
+  where
+    go : (x y : Option Pairs) → bracketsIn k l ≡ x → readBrackets l ≡ y → x ≡ y
+    go none none e d = refl
+    go none (some p) e d =
+        let q : l ≡ brackets p = brackets-had l p d in
+        sym e ∙ ap (bracketsIn k) q ∙ bracketsIn-self k p (rw q at h)
+    go (some p) y e d = sym (brackets-self p) ∙ ap readBrackets (sym (bracketsIn-had k l p e)) ∙ d
+
+module _ {A : Type 0} where
+  word-cong : (w l : List ℕ) (j k : List ℕ → Option A) → ((r : List ℕ) → length r ≤ length l → j r ≡ k r) → word w l j ≡ word w l k
+  unfolding word
+  word-cong w l j k f =
+      ap (λ (x : Option A). cond (starts w l) x none) (f (drop (length w) l) (omega (arith, length-drop (length w) l)))
+
+  number-cong : (l : List ℕ) (j k : ℕ → List ℕ → Option A) → ((n : ℕ) (r : List ℕ) → length r ≤ length l → j n r ≡ k n r) → number l j ≡ number l k
+  unfolding number
+  number-cong l j k f =
+      ap (λ (x : Option A). cond (plain l) x none)
+      (f (value (take (digitCount l) l)) (drop (digitCount l) l) (omega (arith, length-drop (digitCount l) l)))
+
+-- brackets without fuel: one bracket, and then the end of the line or a blank and the brackets that are left
+pub brackets-step : (l : List ℕ) → readBrackets l ≡ word (bytes "(") l (λ l₁. number l₁ (λ m l₂. word (bytes " ") l₂ (λ l₃. number l₃ (λ n l₄.
+    word (bytes "))\n") l₄ (whole (last m n)) orElse word (bytes ") ") l₄ (λ l₅. also m n (readBrackets l₅))))))
+unfolding readBrackets bracketsIn word starts bytes
+brackets-step [] = refl
+brackets-step (c ∷ l) =
+    ap (λ (x : Option Pairs). cond (eqb 40 c && true) x none)
+    (number-cong l _ _ (λ m l₂ h₂. word-cong (bytes " ") l₂ _ _ (λ l₃ h₃. number-cong l₃ _ _ (λ n l₄ h₄.
+    ap (λ (x : Option Pairs). word (bytes "))\n") l₄ (whole (last m n)) orElse x)
+    (word-cong (bytes ") ") l₄ _ _ (λ l₅ h₅. ap (also m n) (bracketsIn-enough (length l) l₅ (omega arith))))))))
+
+-- ---- the two inverses
+
+-- a form printed is recognised
+pub form-self : (f : Form) → form (print f) ≡ some f
+unfolding form print frameIn busyIn presetIn clockIn callIn bytes word starts digitCount
+form-self (frameLine s b) =
+    or-first _ _ (number-digits s (bytes " " then digits b then bytes ")\n") _ refl ∙ number-digits b (bytes ")\n") _ refl)
+form-self (busyLine b p) =
+    or-first _ _ (number-digits b (bytes " " then brackets p) _ refl ∙ ap (made (busyLine b)) (brackets-self p))
+form-self (presetLine n p m o) =
+    or-first _ _
+    (number-digits n (bytes " " then digits p then bytes " " then digits m then bytes " " then digits o then bytes ")\n") _ refl
+    ∙ number-digits p (bytes " " then digits m then bytes " " then digits o then bytes ")\n") _ refl
+    ∙ number-digits m (bytes " " then digits o then bytes ")\n") _ refl
+    ∙ number-digits o (bytes ")\n") _ refl)
+form-self (clockLine t) = or-first _ _ (number-digits t (bytes ")\n") _ refl)
+form-self (callLine p) = ap (made callLine) (brackets-self p)
+
+frame-had : (l : List ℕ) (f : Form) → frameIn l ≡ some f → l ≡ print f
+unfolding frameIn print bytes
+frame-had l f e =
+    word-had (bytes "(frame ") l _ f e (λ l₁ e₁ q₁. number-had l₁ _ f q₁ (λ s l₂ e₂ c₂ q₂. word-had (bytes " ") l₂ _ f q₂ (λ l₃ e₃ q₃.
+    number-had l₃ _ f q₃ (λ b l₄ e₄ c₄ q₄. word-had (bytes ")\n") l₄ _ f q₄ (λ l₅ e₅ q₅. whole-had (frameLine s b) l₅ f q₅ (λ e₆ e₇.
+    rw (e₁, e₂, e₃, e₄, e₅, e₆, ← e₇) refl))))))
+
+busy-had : (l : List ℕ) (f : Form) → busyIn l ≡ some f → l ≡ print f
+unfolding busyIn print
+busy-had l f e =
+    word-had (bytes "(busy ") l _ f e (λ l₁ e₁ q₁. number-had l₁ _ f q₁ (λ b l₂ e₂ c₂ q₂. word-had (bytes " ") l₂ _ f q₂ (λ l₃ e₃ q₃.
+    made-had (busyLine b) (readBrackets l₃) f q₃ (λ p e₄ e₅. rw (e₁, e₂, e₃, brackets-had l₃ p e₄, ← e₅) refl))))
+
+preset-had : (l : List ℕ) (f : Form) → presetIn l ≡ some f → l ≡ print f
+unfolding presetIn print bytes
+preset-had l f e =
+    word-had (bytes "(preset ") l _ f e (λ l₁ e₁ q₁. number-had l₁ _ f q₁ (λ n l₂ e₂ c₂ q₂. word-had (bytes " ") l₂ _ f q₂ (λ l₃ e₃ q₃.
+    number-had l₃ _ f q₃ (λ p l₄ e₄ c₄ q₄. word-had (bytes " ") l₄ _ f q₄ (λ l₅ e₅ q₅. number-had l₅ _ f q₅ (λ m l₆ e₆ c₆ q₆.
+    word-had (bytes " ") l₆ _ f q₆ (λ l₇ e₇ q₇. number-had l₇ _ f q₇ (λ o l₈ e₈ c₈ q₈. word-had (bytes ")\n") l₈ _ f q₈ (λ l₉ e₉ q₉.
+    whole-had (presetLine n p m o) l₉ f q₉ (λ e₀ e. rw (e₁, e₂, e₃, e₄, e₅, e₆, e₇, e₈, e₉, e₀, ← e) refl))))))))))
+
+clock-had : (l : List ℕ) (f : Form) → clockIn l ≡ some f → l ≡ print f
+unfolding clockIn print bytes
+clock-had l f e =
+    word-had (bytes "(clock ") l _ f e (λ l₁ e₁ q₁. number-had l₁ _ f q₁ (λ t l₂ e₂ c₂ q₂. word-had (bytes ")\n") l₂ _ f q₂ (λ l₃ e₃ q₃.
+    whole-had (clockLine t) l₃ f q₃ (λ e₄ e₅. rw (e₁, e₂, e₃, e₄, ← e₅) refl))))
+
+call-had : (l : List ℕ) (f : Form) → callIn l ≡ some f → l ≡ print f
+unfolding callIn print
+call-had l f e =
+    word-had (bytes "(call ") l _ f e (λ l₁ e₁ q₁. made-had callLine (readBrackets l₁) f q₁ (λ p e₂ e₃. rw (e₁, brackets-had l₁ p e₂, ← e₃) refl))
+
+-- a line that has a form is that form printed
+pub form-had : (l : List ℕ) (f : Form) → form l ≡ some f → l ≡ print f
+unfolding form
+form-had l f e =
+    or-had (frameIn l) _ f e (frame-had l f) (λ e₁. or-had (busyIn l) _ f e₁ (busy-had l f) (λ e₂. or-had (presetIn l) _ f e₂ (preset-had l f)
+    (λ e₃. or-had (clockIn l) (callIn l) f e₃ (clock-had l f) (call-had l f))))
+
+-- one text for one form
+pub print-injective : (f g : Form) → print f ≡ print g → f ≡ g
+print-injective f g e =
+    let q : some f ≡ some g = sym (form-self f) ∙ ap form e ∙ form-self g in
+    cc
+
+-- ---- a printed form is one line
+
+digit-rest : (b : ℕ) → isDigit b ≡ true → eqb b 10 ≡ false
+digit-rest b d = let low = digit-low b d in eqb-no b 10 (λ q. omega arith)
+
+-- digits before a line: a line
+count-line : (l r : List ℕ) → digitCount l ≡ length l → isLine r ≡ true → isLine (l ++ r) ≡ true
+unfolding digitCount
+count-line [] r e h = h
+count-line (b ∷ l) r e h = go (is (isDigit b)) (λ c. count-line l r c h) e
+  where
+    go : Is (isDigit b) → (digitCount l ≡ length l → isLine (l ++ r) ≡ true) → digitCount (b ∷ l) ≡ suc (length l) → isLine (b ∷ (l ++ r)) ≡ true
+    go (is-true d) ih e =
+        let c : suc (digitCount l) ≡ suc (length l) = rw d at e in
+        isLine-cons b (l ++ r) (digit-rest b d) (ih (omega arith))
+    go (is-false d) ih e = absurd (let c : 0 ≡ suc (length l) = rw d at e in omega arith)
+
+digits-line : (n : ℕ) (r : List ℕ) → isLine r ≡ true → isLine (digits n ++ r) ≡ true
+digits-line n r h = count-line (digits n) r (digits-count n) h
+
+line-end : isLine (bytes ")\n") ≡ true
+unfolding isLine bytes
+line-end = refl
+
+brackets-end : isLine (bytes "))\n") ≡ true
+unfolding isLine bytes
+brackets-end = refl
+
+brackets-line : (p : Pairs) → isLine (brackets p) ≡ true
+unfolding brackets bytes isRest
+brackets-line (last m n) =
+    rest-line (bytes "(") _ refl (digits-line m _ (rest-line (bytes " ") _ refl (digits-line n _ brackets-end)))
+brackets-line (next m n p) =
+    rest-line (bytes "(") _ refl (digits-line m _ (rest-line (bytes " ") _ refl (digits-line n _ (rest-line (bytes ") ") _ refl (brackets-line p)))))
+
+-- byte 10 stands at the end of a printed form and nowhere else
+pub print-line : (f : Form) → isLine (print f) ≡ true
+unfolding print bytes isRest
+print-line (frameLine s b) =
+    rest-line (bytes "(frame ") _ refl (digits-line s _ (rest-line (bytes " ") _ refl (digits-line b _ line-end)))
+print-line (busyLine b p) = rest-line (bytes "(busy ") _ refl (digits-line b _ (rest-line (bytes " ") _ refl (brackets-line p)))
+print-line (presetLine n p m o) =
+    rest-line (bytes "(preset ") _ refl (digits-line n _ (rest-line (bytes " ") _ refl (digits-line p _ (rest-line (bytes " ") _ refl
+    (digits-line m _ (rest-line (bytes " ") _ refl (digits-line o _ line-end)))))))
+print-line (clockLine t) = rest-line (bytes "(clock ") _ refl (digits-line t _ line-end)
+print-line (callLine p) = rest-line (bytes "(call ") _ refl (brackets-line p)
+
+prints-shape : (fs : List Form) → Lines (map print fs)
+prints-shape [] = no-lines
+prints-shape (f ∷ fs) = line-then (print-line f) (prints-shape fs)
+
+-- the lines of forms printed one after the other
+pub lines-prints : (fs : List Form) → lines (join (map print fs)) ≡ map print fs
+lines-prints fs = lines-of-join (prints-shape fs)
+
+-- and their forms
+pub forms-prints : (fs : List Form) → map form (map print fs) ≡ map some fs
+forms-prints [] = refl
+forms-prints (f ∷ fs) = rw (form-self f, forms-prints fs) refl

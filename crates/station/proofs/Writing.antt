@@ -1,0 +1,265 @@
+-- What is read is valid and is written as it was read: "The head has one text only, and the writer makes it."
+--
+-- In order: one more preset, one more busy line; what was read so far is valid and is written as it was read (`Good`); `read-valid`,
+-- `read-written` and `read-lines`.
+-- Assumes nothing.
+use Prim.Native.Nat.{ℕ, zero, suc, _+_, _-_, _^_, _≤_, _<_}
+use native.Mathlib.Nat.{add-zero}
+use native.Mathlib.Omega.{arith}
+use mathlib.Core.Path.{_≡_, refl, sym, _∙_, ap, subst}
+use mathlib.Core.Bool.{true, false, not, _&&_, _||_}
+use mathlib.Core.Option.{none, some}
+use mathlib.Core.List.{List, [], _∷_, _++_, map, append-assoc, append-nil}
+use lib.ListN.{length, take, getD, set, replicate, length-append, length-set, length-map}
+use lib.Seq.{getD-set-other, take-at}
+use lib.Dec.{eqb, ltb}
+use lib.Pow.{pow-pos}
+use Rattle.laws.proofs.Sums.{clash, ge-of, gt-of, ne-of, ltb-yes, eqb-no, both, left-of, right-of}
+use Rattle.laws.proofs.Every.{false-of-not, true-of-not, neither-left, neither-right}
+use Rattle.station.specs.Head.{Preset, Head, Valid, within, inLimits, hasNumber, allInLimits, allDistinct, masksIn}
+use Rattle.station.specs.Refusal.{firstOf}
+use Rattle.station.specs.Text.{lines, join}
+use Rattle.station.specs.Form.{Pairs, Form, frameLine, busyLine, presetLine, clockLine, callLine, isEvent, print}
+use Rattle.station.specs.Writing.{maskOf, ordered, stretches, busyLineOf, busyLines, presetLineOf, formsOf, textOf}
+use Rattle.station.specs.Reading.{Reading, accepted, refused, headOf, SoFar, begin, presetOf, ends, more}
+use Rattle.station.specs.Reading.{misplaced, outside, used, full, causes}
+use Rattle.station.specs.Reading.{Passes, no-more, one-more, Stops, at-end, at-event, at-no-form, at-fault, Means, too-long, no-text, by-lines}
+use Rattle.station.proofs.Mask.{stretches-zero, stretches-mask, mask-lt}
+use Rattle.station.proofs.Head.{Parts, valid-parts, within-low, within-high, of-masks}
+use Rattle.station.proofs.Reading.{NoCause, no-cause, headOf-means}
+
+-- ---- one more preset
+
+limits-append : (ps : List Preset) (p : Preset) → allInLimits ps ≡ true → inLimits p ≡ true → allInLimits (ps ++ (p ∷ [])) ≡ true
+unfolding allInLimits
+limits-append [] p e l = both (inLimits p) true l refl
+limits-append (x ∷ ps) p e l =
+    both (inLimits x) (allInLimits (ps ++ (p ∷ []))) (left-of (inLimits x) (allInLimits ps) e)
+    (limits-append ps p (right-of (inLimits x) (allInLimits ps) e) l)
+
+number-append : (n : ℕ) (ps : List Preset) (p : Preset) → hasNumber n ps ≡ false → eqb n (p .number) ≡ false → hasNumber n (ps ++ (p ∷ [])) ≡ false
+unfolding hasNumber
+number-append n [] p e q = rw q refl
+number-append n (x ∷ ps) p e q =
+    rw (neither-left (eqb n (x .number)) (hasNumber n ps) e) (number-append n ps p (neither-right (eqb n (x .number)) (hasNumber n ps) e) q)
+
+distinct-append : (ps : List Preset) (p : Preset) → allDistinct ps ≡ true → hasNumber (p .number) ps ≡ false → allDistinct (ps ++ (p ∷ [])) ≡ true
+unfolding allDistinct hasNumber
+distinct-append [] p e u = refl
+distinct-append (x ∷ ps) p e u =
+    let other : eqb (x .number) (p .number) ≡ false =
+    eqb-no (x .number) (p .number)
+    (λ q. ne-of (p .number) (x .number) (neither-left (eqb (p .number) (x .number)) (hasNumber (p .number) ps) u) (sym q)) in
+    let fresh : hasNumber (x .number) ps ≡ false =
+    false-of-not (hasNumber (x .number) ps) (left-of (not (hasNumber (x .number) ps)) (allDistinct ps) e) in
+    rw (number-append (x .number) ps p fresh other)
+    (distinct-append ps p (right-of (not (hasNumber (x .number) ps)) (allDistinct ps) e)
+    (neither-right (eqb (p .number) (x .number)) (hasNumber (p .number) ps) u))
+
+map-append : {A B : Type 0} (f : A → B) (a b : List A) → map f (a ++ b) ≡ map f a ++ map f b
+map-append f [] b = refl
+map-append f (x ∷ a) b = ap (λ k. f x ∷ k) (map-append f a b)
+
+-- ---- one more busy line
+
+masks-set : (k w : ℕ) (ms : List ℕ) (i m : ℕ) → i < k → m < w → masksIn k w ms ≡ true → masksIn k w (set ms i m) ≡ true
+unfolding masksIn
+masks-set k w [] i m h l e = refl
+masks-set zero w (x ∷ ms) i m h l e = absurd (omega arith)
+masks-set (suc k) w (x ∷ ms) zero m h l e = both (ltb m w) (masksIn k w ms) (ltb-yes m w l) (right-of (ltb x w) (masksIn k w ms) e)
+masks-set (suc k) w (x ∷ ms) (suc i) m h l e =
+    both (ltb x w) (masksIn k w (set ms i m)) (left-of (ltb x w) (masksIn k w ms) e)
+    (masks-set k w ms i m (omega arith) l (right-of (ltb x w) (masksIn k w ms) e))
+
+busyLines-none : (c : ℕ) (ms : List ℕ) → ((j : ℕ) → getD ms j 0 ≡ 0) → busyLines c ms ≡ []
+unfolding busyLines
+busyLines-none c [] z = refl
+busyLines-none c (m ∷ ms) z = rw (z 0, stretches-zero 64 1) (busyLines-none (suc c) ms (λ j. z (suc j)))
+
+-- a mask written where no later bridge has one
+busyLines-set : (c : ℕ) (ms : List ℕ) (i m : ℕ) (p : Pairs) → i < length ms → ((j : ℕ) → i ≤ j → getD ms j 0 ≡ 0) → stretches 64 1 m ≡ some p
+    → busyLines c (set ms i m) ≡ busyLines c ms ++ (busyLine (c + i) p ∷ [])
+unfolding busyLines
+busyLines-set c [] i m p h z e = absurd (omega arith)
+busyLines-set c (x ∷ ms) zero m p h z e =
+    rw (e, z 0 (omega arith), stretches-zero 64 1, busyLines-none (suc c) ms (λ j. z (suc j) (omega arith)), add-zero c) refl
+busyLines-set c (x ∷ ms) (suc i) m p h z e =
+    let at : suc c + i ≡ c + suc i = omega arith in
+    ap (λ (k : List Form). busyLineOf c (stretches 64 1 x) ++ k)
+    (busyLines-set (suc c) ms i m p (omega arith) (λ j l. z (suc j) (omega arith)) e ∙ ap (λ (k : ℕ). busyLines (suc c) ms ++ (busyLine k p ∷ [])) at)
+    ∙ sym (append-assoc (busyLineOf c (stretches 64 1 x)) (busyLines (suc c) ms) (busyLine (c + suc i) p ∷ []))
+
+-- ---- what was read so far is valid and is written as it was read
+
+data Good : SoFar → List Form → Type 0 where
+  at-start : Good begin []
+  under-way : {r : SoFar} {fs : List Form} → r .begun ≡ true → Parts (r .head) → ((b : ℕ) → r .from ≤ suc b → getD (r .head .busy) b 0 ≡ 0)
+      → formsOf (r .head) ≡ fs → Good r fs
+
+no-mask : (n b : ℕ) → getD {A = ℕ} (replicate n 0) b 0 ≡ 0
+no-mask zero b = refl
+no-mask (suc n) zero = refl
+no-mask (suc n) (suc b) = no-mask n b
+
+good-frame : (s b : ℕ) → NoCause begin (frameLine s b) → Good (more begin (frameLine s b)) (frameLine s b ∷ [])
+unfolding more outside formsOf allInLimits allDistinct masksIn
+good-frame s b c =
+    let ok : (within 1 64 s && within 1 8 b) ≡ true = true-of-not (within 1 64 s && within 1 8 b) (c .in-limits) in
+    under-way {r = more begin (frameLine s b)} refl
+    (record {
+      slots = left-of (within 1 64 s) (within 1 8 b) ok;
+      bridges = right-of (within 1 64 s) (within 1 8 b) ok;
+      masks = refl;
+      busy = of-masks b (2 ^ s) (replicate 8 0) (λ i. omega (arith, no-mask 8 i, pow-pos s)) (λ i l. no-mask 8 i);
+      number = omega arith;
+      limits = refl;
+      distinct = refl;
+    })
+    (λ i l. no-mask 8 i)
+    (ap (λ (k : List Form). frameLine s b ∷ (k ++ [])) (busyLines-none 1 (replicate 8 0) (no-mask 8)))
+
+no-presets : (ps : List Preset) → length ps ≤ 0 → ps ≡ []
+no-presets [] h = refl
+no-presets (p ∷ ps) h = absurd (omega arith)
+
+forms-busy : (h : Head) (b : ℕ) (p : Pairs) → 1 ≤ b → b - 1 < length (h .busy) → h .presets ≡ []
+    → ((j : ℕ) → b - 1 ≤ j → getD (h .busy) j 0 ≡ 0) → stretches 64 1 (maskOf p) ≡ some p
+    → formsOf (record { slots = h .slots; bridges = h .bridges; busy = set (h .busy) (b - 1) (maskOf p); presets = h .presets })
+    ≡ formsOf h ++ (busyLine b p ∷ [])
+unfolding formsOf
+forms-busy h b p low room bare z e =
+    let at : 1 + (b - 1) ≡ b = omega arith in
+    let lines : busyLines 1 (set (h .busy) (b - 1) (maskOf p)) ≡ busyLines 1 (h .busy) ++ (busyLine b p ∷ []) =
+    busyLines-set 1 (h .busy) (b - 1) (maskOf p) p room z e ∙ ap (λ (k : ℕ). busyLines 1 (h .busy) ++ (busyLine k p ∷ [])) at in
+    ap (λ (k : List Form). frameLine (h .slots) (h .bridges) ∷ k)
+    (ap (λ (k : List Preset). busyLines 1 (set (h .busy) (b - 1) (maskOf p)) ++ map presetLineOf k) bare
+    ∙ append-nil (busyLines 1 (set (h .busy) (b - 1) (maskOf p))) ∙ lines
+    ∙ ap (λ (k : List Form). k ++ (busyLine b p ∷ [])) (sym (append-nil (busyLines 1 (h .busy)))
+    ∙ ap (λ (k : List Preset). busyLines 1 (h .busy) ++ map presetLineOf k) (sym bare)))
+
+-- the facts of a busy line that passes
+good-busy : (r : SoFar) (fs : List Form) (b : ℕ) (p : Pairs) → r .begun ≡ true → Parts (r .head)
+    → ((i : ℕ) → r .from ≤ suc i → getD (r .head .busy) i 0 ≡ 0) → formsOf (r .head) ≡ fs → NoCause r (busyLine b p)
+    → Good (more r (busyLine b p)) (fs ++ (busyLine b p ∷ []))
+unfolding more outside misplaced formsOf
+good-busy r fs b p g a z w c =
+    let h = r .head in
+    let ok : (within 1 (h .bridges) b && ordered 1 (h .slots) p) ≡ true =
+    true-of-not (within 1 (h .bridges) b && ordered 1 (h .slots) p) (c .in-limits) in
+    let inside : within 1 (h .bridges) b ≡ true = left-of (within 1 (h .bridges) b) (ordered 1 (h .slots) p) ok in
+    let stretch : ordered 1 (h .slots) p ≡ true = right-of (within 1 (h .bridges) b) (ordered 1 (h .slots) p) ok in
+    let b-low : 1 ≤ b = within-low 1 (h .bridges) b inside in
+    let b-high : b ≤ h .bridges = within-high 1 (h .bridges) b inside in
+    let most : h .bridges ≤ 8 = within-high 1 8 (h .bridges) (a .bridges) in
+    let all : h .slots ≤ 64 = within-high 1 64 (h .slots) (a .slots) in
+    let early : (not (r .begun) || ltb 0 (length (h .presets))) ≡ false =
+    neither-left (not (r .begun) || ltb 0 (length (h .presets))) (ltb b (r .from)) (c .in-place) in
+    let up : r .from ≤ b = ge-of b (r .from) (neither-right (not (r .begun) || ltb 0 (length (h .presets))) (ltb b (r .from)) (c .in-place)) in
+    let none-yet : length (h .presets) ≤ 0 = ge-of 0 (length (h .presets)) (neither-right (not (r .begun)) (ltb 0 (length (h .presets))) early) in
+    let room : b - 1 < length (h .busy) = omega (arith, a .masks) in
+    under-way {r = more r (busyLine b p)} g
+    (record {
+      slots = a .slots;
+      bridges = a .bridges;
+      masks = length-set (h .busy) (b - 1) (maskOf p) ∙ a .masks;
+      busy = masks-set (h .bridges) (2 ^ h .slots) (h .busy) (b - 1) (maskOf p) (omega arith) (mask-lt (h .slots) p stretch) (a .busy);
+      number = a .number;
+      limits = a .limits;
+      distinct = a .distinct;
+    })
+    (λ i l. getD-set-other (h .busy) (b - 1) i (maskOf p) 0 (λ q. omega arith) ∙ z i (omega arith))
+    (forms-busy h b p b-low room (no-presets (h .presets) none-yet) (λ j l. z j (omega arith)) (stretches-mask (h .slots) p all stretch)
+    ∙ ap (λ (k : List Form). k ++ (busyLine b p ∷ [])) w)
+
+-- the facts of a preset line that passes
+good-preset : (r : SoFar) (fs : List Form) (n p m o : ℕ) → r .begun ≡ true → Parts (r .head)
+    → ((i : ℕ) → r .from ≤ suc i → getD (r .head .busy) i 0 ≡ 0) → formsOf (r .head) ≡ fs → NoCause r (presetLine n p m o)
+    → Good (more r (presetLine n p m o)) (fs ++ (presetLine n p m o ∷ []))
+unfolding more outside used full formsOf
+good-preset r fs n p m o g a z w c =
+    let h = r .head in
+    let x = presetOf n p m o in
+    let small : length (h .presets) < 32 = gt-of 32 (length (h .presets)) (c .fits) in
+    under-way {r = more r (presetLine n p m o)} g
+    (record {
+      slots = a .slots;
+      bridges = a .bridges;
+      masks = a .masks;
+      busy = a .busy;
+      number = omega (arith, length-append (h .presets) (x ∷ []));
+      limits = limits-append (h .presets) x (a .limits) (true-of-not (inLimits x) (c .in-limits));
+      distinct = distinct-append (h .presets) x (a .distinct) (c .unused);
+    })
+    z
+    (ap (λ (k : List Form). frameLine (h .slots) (h .bridges) ∷ k)
+    (ap (λ (k : List Form). busyLines 1 (h .busy) ++ k) (map-append presetLineOf (h .presets) (x ∷ []))
+    ∙ sym (append-assoc (busyLines 1 (h .busy)) (map presetLineOf (h .presets)) (presetLine n p m o ∷ [])))
+    ∙ ap (λ (k : List Form). k ++ (presetLine n p m o ∷ [])) w)
+
+good-more : {r : SoFar} {fs : List Form} (f : Form) → ends r f ≡ false → firstOf (causes r f) ≡ none → Good r fs → Good (more r f) (fs ++ (f ∷ []))
+unfolding misplaced
+good-more (frameLine s b) e c at-start = good-frame s b (no-cause begin (frameLine s b) c)
+good-more (busyLine b p) e c at-start = absurd (clash (no-cause begin (busyLine b p) c .in-place))
+good-more (presetLine n p m o) e c at-start = absurd (clash (no-cause begin (presetLine n p m o) c .in-place))
+good-more (clockLine t) e c at-start = absurd (clash (no-cause begin (clockLine t) c .in-place))
+good-more (callLine p) e c at-start = absurd (clash (no-cause begin (callLine p) c .in-place))
+good-more (frameLine s b) e c (under-way {r} g a z w) = absurd (clash (sym g ∙ no-cause r (frameLine s b) c .in-place))
+good-more (busyLine b p) e c (under-way {r} {fs} g a z w) = good-busy r fs b p g a z w (no-cause r (busyLine b p) c)
+good-more (presetLine n p m o) e c (under-way {r} {fs} g a z w) = good-preset r fs n p m o g a z w (no-cause r (presetLine n p m o) c)
+good-more (clockLine t) e c (under-way g a z w) = absurd (clash (sym g ∙ e))
+good-more (callLine p) e c (under-way g a z w) = absurd (clash (sym g ∙ e))
+
+good-passes : {r q : SoFar} {fs : List Form} (done : List Form) → Passes r fs q → Good r done → Good q (done ++ fs)
+good-passes done no-more g = rw append-nil g
+good-passes done (one-more {f} {fs} e c p) g =
+    rw append-assoc at (good-passes (done ++ (f ∷ [])) p (good-more f e c g))
+
+-- ---- what an accepted text has
+
+Facts : List ℕ → Reading → Type 0
+Facts t (accepted h n) = Valid h × (textOf h ≡ join (take n (lines t))) × (n ≡ length (formsOf h))
+Facts t (refused n c) = Unit {0}
+
+ended : (t : List ℕ) (fs : List Form) (q : SoFar) (ls : List (List ℕ)) → lines t ≡ map print fs ++ ls → q .begun ≡ true → Good q fs
+    → Facts t (accepted (q .head) (length fs))
+unfolding Facts textOf
+ended t fs q ls e b at-start = absurd (clash (sym b))
+ended t fs q ls e b (under-way g a z w) = (
+  valid-parts (q .head) a,
+  ap (λ (k : List Form). join (map print k)) w
+      ∙ ap join (sym (take-at (map print fs) ls (length fs) (length-map fs print)))
+      ∙ ap (λ (k : List (List ℕ)). join (take (length fs) k)) (sym e),
+  ap length (sym w),
+)
+
+facts-stops : (t : List ℕ) {fs : List Form} {q : SoFar} {ls : List (List ℕ)} {x : Reading}
+    → lines t ≡ map print fs ++ ls → Good q fs → Stops (length fs) q ls x → Facts t x
+unfolding Facts
+facts-stops t {fs} {q} {ls} e g (at-end b) = ended t fs q [] e b g
+facts-stops t {fs} {q} {ls} e g (at-event {l} {ls = ms} {f} d a) = ended t fs q (l ∷ ms) e (right-of (isEvent f) (q .begun) a) g
+facts-stops t e g (at-no-form d) = tt
+facts-stops t e g (at-fault d a c) = tt
+
+facts : {t : List ℕ} {x : Reading} → Means t x → Facts t x
+unfolding Facts
+facts (too-long h) = tt
+facts (no-text e) = tt
+facts {t} (by-lines h e p s) = facts-stops t e (good-passes [] p at-start) s
+
+read-facts : (t : List ℕ) (h : Head) (n : ℕ) → headOf t ≡ accepted h n → Facts t (accepted h n)
+read-facts t h n e = subst (Facts t) e (facts (headOf-means t))
+
+-- what a text yields is valid
+pub read-valid : (t : List ℕ) (h : Head) (n : ℕ) → headOf t ≡ accepted h n → Valid h
+unfolding Facts
+read-valid t h n e = read-facts t h n e .0
+
+-- what a text yields is written as it was read: "The head has one text only"
+pub read-written : (t : List ℕ) (h : Head) (n : ℕ) → headOf t ≡ accepted h n → textOf h ≡ join (take n (lines t))
+unfolding Facts
+read-written t h n e = read-facts t h n e .1
+
+-- the number of lines is that of the head's text
+pub read-lines : (t : List ℕ) (h : Head) (n : ℕ) → headOf t ≡ accepted h n → n ≡ length (formsOf h)
+unfolding Facts
+read-lines t h n e = read-facts t h n e .2

@@ -1,0 +1,133 @@
+-- The five forms of a line: what each says, the one text that it has, and the recogniser. Document 01, "The station text".
+-- Assumes nothing.
+use Prim.Native.Nat.{ℕ, zero, suc}
+use mathlib.Core.Bool.{Bool, true, false, cond, _&&_}
+use mathlib.Core.Option.{Option, none, some}
+use mathlib.Core.List.{List, [], _∷_}
+use lib.ListN.{length, take, drop}
+use lib.Dec.{eqb}
+use Rattle.station.specs.Head.{Job}
+use Rattle.station.specs.Text.{bytes, _then_}
+use Rattle.station.specs.Decimal.{digits, digitCount, plain, value}
+
+-- At least one bracket of two numbers: the stretches of a busy line, "at least one stretch", or the jobs of a call.
+pub data Pairs : Type 0 where
+  last : ℕ → ℕ → Pairs
+  next : ℕ → ℕ → Pairs → Pairs
+
+-- The five forms, with their numbers as they stand: whether a value is within its limits is not the form's matter.
+pub data Form : Type 0 where
+  frameLine : ℕ → ℕ → Form  -- `(frame S B)`
+  busyLine : ℕ → Pairs → Form  -- `(busy b (f t) (f t))`
+  presetLine : ℕ → ℕ → ℕ → ℕ → Form  -- `(preset n p m o)`
+  clockLine : ℕ → Form  -- `(clock t)`
+  callLine : Pairs → Form  -- `(call (n c) (n c))`
+
+-- "Events follow: `(clock t)` and `(call (n c) (n c))`."
+abbrev pub isEvent : Form → Bool
+isEvent (frameLine s b) = false
+isEvent (busyLine b p) = false
+isEvent (presetLine n p m o) = false
+isEvent (clockLine t) = true
+isEvent (callLine p) = true
+
+-- "A call is a list of jobs, each with a number and a length c."
+unfoldable pub jobsOf : Pairs → List Job
+jobsOf (last n c) = record { number = n; slots = c } ∷ []
+jobsOf (next n c p) = record { number = n; slots = c } ∷ jobsOf p
+
+-- ---- the text of a form: "Nested brackets, one form a line, each line ended by byte 10. One blank parts two items."
+
+-- the brackets of a line, and its end
+unfoldable pub brackets : Pairs → List ℕ
+brackets (last m n) = bytes "(" then digits m then bytes " " then digits n then bytes "))\n"
+brackets (next m n p) = bytes "(" then digits m then bytes " " then digits n then bytes ") " then brackets p
+
+-- the one text of a form, byte 10 included
+unfoldable pub print : Form → List ℕ
+print (frameLine s b) = bytes "(frame " then digits s then bytes " " then digits b then bytes ")\n"
+print (busyLine b p) = bytes "(busy " then digits b then bytes " " then brackets p
+print (presetLine n p m o) =
+    bytes "(preset " then digits n then bytes " " then digits p then bytes " " then digits m then bytes " " then digits o then bytes ")\n"
+print (clockLine t) = bytes "(clock " then digits t then bytes ")\n"
+print (callLine p) = bytes "(call " then brackets p
+
+-- ---- the recogniser: each reader hands on what is left
+
+-- l begins with w
+unfoldable pub starts : List ℕ → List ℕ → Bool
+starts [] l = true
+starts (c ∷ w) [] = false
+starts (c ∷ w) (b ∷ l) = eqb c b && starts w l
+
+module _ {A : Type 0} where
+  -- the word w, then what k makes of the rest
+  unfoldable pub word : List ℕ → List ℕ → (List ℕ → Option A) → Option A
+  word w l k =
+      let rest = k (drop (length w) l) in
+      cond (starts w l) rest none
+
+  -- a number, then what k makes of it and the rest
+  unfoldable pub number : List ℕ → (ℕ → List ℕ → Option A) → Option A
+  number l k =
+      let rest = k (value (take (digitCount l) l)) (drop (digitCount l) l) in
+      cond (plain l) rest none
+
+  -- a where nothing is left
+  abbrev pub whole : A → List ℕ → Option A
+  whole a [] = some a
+  whole a (b ∷ l) = none
+
+  -- the first of two that is there
+  infixr 30 _orElse_
+  abbrev pub _orElse_ : Option A → Option A → Option A
+  none orElse y = y
+  some x orElse y = some x
+
+-- one more bracket before the others
+abbrev pub also : ℕ → ℕ → Option Pairs → Option Pairs
+also m n none = none
+also m n (some p) = some (next m n p)
+
+-- k brackets at most, and the end of the line
+unfoldable pub bracketsIn : ℕ → List ℕ → Option Pairs
+bracketsIn zero l = none
+bracketsIn (suc k) l =
+    word (bytes "(") l (λ l₁. number l₁ (λ m l₂. word (bytes " ") l₂ (λ l₃. number l₃ (λ n l₄.
+    word (bytes "))\n") l₄ (whole (last m n)) orElse word (bytes ") ") l₄ (λ l₅. also m n (bracketsIn k l₅))))))
+
+-- a bracket has more than one byte: a text has fewer brackets than bytes
+unfoldable pub readBrackets : List ℕ → Option Pairs
+readBrackets l = bracketsIn (length l) l
+
+-- what f makes of what was read, if it was
+abbrev pub made : {A B : Type 0} → (A → B) → Option A → Option B
+made f none = none
+made f (some a) = some (f a)
+
+-- `(frame S B)`
+unfoldable pub frameIn : List ℕ → Option Form
+frameIn l =
+    word (bytes "(frame ") l (λ l₁. number l₁ (λ s l₂. word (bytes " ") l₂ (λ l₃. number l₃ (λ b l₄. word (bytes ")\n") l₄ (whole (frameLine s b))))))
+
+-- `(busy b (f t) (f t))`
+unfoldable pub busyIn : List ℕ → Option Form
+busyIn l = word (bytes "(busy ") l (λ l₁. number l₁ (λ b l₂. word (bytes " ") l₂ (λ l₃. made (busyLine b) (readBrackets l₃))))
+
+-- `(preset n p m o)`
+unfoldable pub presetIn : List ℕ → Option Form
+presetIn l =
+    word (bytes "(preset ") l (λ l₁. number l₁ (λ n l₂. word (bytes " ") l₂ (λ l₃. number l₃ (λ p l₄. word (bytes " ") l₄ (λ l₅. number l₅ (λ m l₆.
+    word (bytes " ") l₆ (λ l₇. number l₇ (λ o l₈. word (bytes ")\n") l₈ (whole (presetLine n p m o))))))))))
+
+-- `(clock t)`
+unfoldable pub clockIn : List ℕ → Option Form
+clockIn l = word (bytes "(clock ") l (λ l₁. number l₁ (λ t l₂. word (bytes ")\n") l₂ (whole (clockLine t))))
+
+-- `(call (n c) (n c))`; "A call or busy line without any bracket in it lacks its form."
+unfoldable pub callIn : List ℕ → Option Form
+callIn l = word (bytes "(call ") l (λ l₁. made callLine (readBrackets l₁))
+
+-- The form of a line, byte 10 included; none is "a line that is not one of the five forms, or lacks its end".
+unfoldable pub form : List ℕ → Option Form
+form l = frameIn l orElse busyIn l orElse presetIn l orElse clockIn l orElse callIn l

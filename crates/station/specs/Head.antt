@@ -1,0 +1,103 @@
+-- The head of a station text as a record, and when a record is one that a text yields. Document 01, "The frame and its parts".
+-- Slots and bridges are counted from 0 here: slot s is the paper's slot s + 1, bridge b its bridge b + 1.
+-- Assumes nothing.
+use Prim.Native.Nat.{ℕ, zero, suc, _≤_, _<_, _/_, _%_, _^_}
+use mathlib.Core.Path.{_≡_}
+use mathlib.Core.Bool.{Bool, true, false, not, _&&_, _||_}
+use mathlib.Core.List.{List, [], _∷_, map}
+use lib.ListN.{length, getD}
+use lib.Dec.{eqb, ltb, leb}
+
+-- "A preset has a number, a priority (0 is best), m required slots and o refinement slots."
+pub record Preset : Type 0 where
+  pub number : ℕ
+  pub priority : ℕ
+  pub mandatory : ℕ
+  pub optional : ℕ
+
+-- "A frame has S slots .. and B bridges"; the busy cells, one mask of 64 bits for each of eight bridges, slot s being the bit of worth 2 ^ s;
+-- the presets in file order.
+pub record Head : Type 0 where
+  pub slots : ℕ
+  pub bridges : ℕ
+  pub busy : List ℕ
+  pub presets : List Preset
+
+-- "A call is a list of jobs, each with a number and a length c."
+pub record Job : Type 0 where
+  pub number : ℕ
+  pub slots : ℕ
+
+-- bit s of a mask
+abbrev pub taken : ℕ → ℕ → Bool
+taken mask s = eqb (mask / 2 ^ s % 2) 1
+
+-- the head's busy cells
+abbrev pub busyAt : Head → ℕ → ℕ → Bool
+busyAt h s b = taken (getD (h .busy) b 0) s
+
+-- what stands past the last preset: no preset at all
+abbrev pub noPreset : Preset
+noPreset = record { number = 0; priority = 0; mandatory = 0; optional = 0 }
+
+-- the preset of line i, counted from 0
+abbrev pub presetAt : Head → ℕ → Preset
+presetAt h i = getD (h .presets) i noPreset
+
+-- A preset within the limits of document 01's table.
+pub record InLimits (p : Preset) : Type 0 where
+  pub number-low : 1 ≤ p .number
+  pub number-high : p .number ≤ 255
+  pub priority : p .priority ≤ 9
+  pub mandatory : p .mandatory ≤ 64
+  pub optional : p .optional ≤ 64
+
+-- A head record that some text yields: within the limits, busy cells inside the frame only, no preset's number twice.
+pub record Valid (h : Head) : Type 0 where
+  pub slots-low : 1 ≤ h .slots
+  pub slots-high : h .slots ≤ 64
+  pub bridges-low : 1 ≤ h .bridges
+  pub bridges-high : h .bridges ≤ 8
+  pub masks : length (h .busy) ≡ 8
+  pub in-frame : (b : ℕ) → getD (h .busy) b 0 < 2 ^ h .slots
+  pub no-bridge : (b : ℕ) → h .bridges ≤ b → getD (h .busy) b 0 ≡ 0
+  pub number-of-presets : length (h .presets) ≤ 32
+  pub limits : (i : ℕ) → i < length (h .presets) → InLimits (presetAt h i)
+  pub distinct : (i j : ℕ) → j < i → i < length (h .presets) → presetAt h j .number ≡ presetAt h i .number → ⊥
+
+-- ---- the same as a test
+
+-- from lo to hi, both included
+abbrev pub within : ℕ → ℕ → ℕ → Bool
+within lo hi n = leb lo n && leb n hi
+
+-- `InLimits` as a test
+abbrev pub inLimits : Preset → Bool
+inLimits p = within 1 255 (p .number) && leb (p .priority) 9 && leb (p .mandatory) 64 && leb (p .optional) 64
+
+-- some preset of the list has the number n
+unfoldable pub hasNumber : ℕ → List Preset → Bool
+hasNumber n [] = false
+hasNumber n (p ∷ ps) = eqb n (p .number) || hasNumber n ps
+
+-- every preset is within the limits
+unfoldable pub allInLimits : List Preset → Bool
+allInLimits [] = true
+allInLimits (p ∷ ps) = inLimits p && allInLimits ps
+
+-- no number twice
+unfoldable pub allDistinct : List Preset → Bool
+allDistinct [] = true
+allDistinct (p ∷ ps) = not (hasNumber (p .number) ps) && allDistinct ps
+
+-- the first k masks are below w, and the others 0
+unfoldable pub masksIn : ℕ → ℕ → List ℕ → Bool
+masksIn k w [] = true
+masksIn zero w (m ∷ ms) = eqb m 0 && masksIn zero w ms
+masksIn (suc k) w (m ∷ ms) = ltb m w && masksIn k w ms
+
+-- `Valid` as a test
+unfoldable pub valid : Head → Bool
+valid h =
+    within 1 64 (h .slots) && within 1 8 (h .bridges) && eqb (length (h .busy)) 8 && masksIn (h .bridges) (2 ^ h .slots) (h .busy)
+    && leb (length (h .presets)) 32 && allInLimits (h .presets) && allDistinct (h .presets)

@@ -1,0 +1,8 @@
+-- Layer 1, reading: what a head is, the refusals, the text and its forms.
+pub mod Head
+pub mod Refusal
+pub mod Text
+pub mod Decimal
+pub mod Form
+pub mod Writing
+pub mod Reading
