@@ -10,5 +10,6 @@ pub mod Plan
 pub mod Order
 pub mod Least
 pub mod Called
+pub mod Room
 pub mod Theorems
 pub mod Examples
