@@ -1,32 +1,34 @@
 -- One event on a running frame: what it can come to, and what it keeps.
 --
--- In order: the cases of an event; a call as an event is the call of the layer below; the refusals that an event's own causes never give; the frame that is
--- left is a running one.
+-- In order: the cases of an event (`event-is`); a call as an event is the call of the layer below (`event-call`); who asked for an answer
+-- (`taken-asks`, `now-asks`); the refusals that an event's own causes never give (`event-never-eleven`, `seven-asks`); the frame is a running one
+-- afterwards (`event-running`).
 -- Assumes nothing.
-use Prim.Native.Nat.{ℕ, suc, _+_, _≤_, _<_}
+use Prim.Native.Nat.{ℕ, suc, _<_}
 use native.Mathlib.Omega.{arith}
-use mathlib.Core.Path.{_≡_, refl, sym, _∙_, ap, subst}
+use mathlib.Core.Path.{_≡_, refl, sym, _∙_, ap}
 use mathlib.Core.Logic.{_⊎_, inl, inr, _↔_}
-use mathlib.Core.Bool.{Bool, true, false, not, _&&_}
+use mathlib.Core.Bool.{true, not}
 use mathlib.Core.Option.{Option, none, some}
 use mathlib.Core.List.{List, [], _∷_, _++_}
-use lib.ListN.{length}
 use lib.Dec.{ltb, lit<}
 use Rattle.laws.specs.Eviction.{ones}
 use Rattle.laws.proofs.Sums.{clash}
 use Rattle.laws.proofs.Every.{true-of-not}
-use Rattle.station.specs.Head.{Head, Job, Valid, within}
-use Rattle.station.specs.Refusal.{Refusal, numberOf, noForm, outOfLimits, outOfPlace, numberUsed, clockBack, callNotFeasible, tooMany, notWellFormed, try, firstOf}
-use Rattle.station.specs.Form.{Form, frameLine, busyLine, presetLine, clockLine, callLine, jobsOf, form}
-use Rattle.station.proofs.Head.{within-low, within-high}
+use Rattle.station.specs.Head.{Head, Job, within}
+use Rattle.station.specs.Refusal.{Refusal, numberOf, noForm, outOfLimits, outOfPlace, numberUsed, clockBack, callNotFeasible, tooMany, notWellFormed}
+use Rattle.station.specs.Refusal.{try, firstOf}
+use Rattle.station.specs.Form.{Form, frameLine, busyLine, presetLine, clockLine, callLine, form}
 use Rattle.station.proofs.Refusal.{first-none, append-none, left-none, Never, end, skip, never-first}
+use Rattle.station.proofs.Head.{within-low, within-high}
 use Rattle.placing.specs.Table.{cell}
 use Rattle.placing.specs.Call.{evictedSet, called, callFits}
-use Rattle.placing.specs.Entries.{written, frameCauses, callCauses, jobsOutside, jobsUsed, jobsTooMany, CallAnswer, CallOutcome, callOf}
-use Rattle.placing.specs.Claims.{Running, CallClaim}
+use Rattle.placing.specs.Entries.{written, frameCauses, jobsOutside, jobsUsed, jobsTooMany, CallAnswer, CallOutcome, callOf}
+use Rattle.placing.specs.Claims.{Running}
 use Rattle.placing.proofs.Causes.{of-running}
 use Rattle.placing.proofs.Theorems.{call-claim}
-use Rattle.frame.specs.Event.{Event, line, clock, call, Asked, setClock, place, fault, asked, askedByForm, Answer, now, taken, refused, State, Outcome, ownCauses, askedCauses, eventCauses, carriedOut, comesTo, eventOf}
+use Rattle.frame.specs.Event.{Event, line, clock, call, Asked, setClock, place, fault, asked, askedByForm, Answer, now, taken, refused, State}
+use Rattle.frame.specs.Event.{Outcome, ownCauses, askedCauses, eventCauses, carriedOut, comesTo, eventOf}
 use Rattle.frame.specs.Demands.{EventIs, stopped, clockSet, placed}
 
 -- ---- the cases of an event
@@ -85,14 +87,17 @@ answerOf-refused (CallAnswer.taken m) r q = cc
 answerOf-refused (CallAnswer.refused s) r q = cc
 
 module _ (h : Head) (st : State) (e : Event) (jobs : List Job) (asks : asked e ≡ place jobs) where
-  pub call-taken : (n : ℕ) → eventOf h st e .answer ≡ taken n → callOf h (st .clock) jobs (st .table) .answer ≡ CallAnswer.taken n
-  call-taken n q = answerOf-taken (callOf h (st .clock) jobs (st .table) .answer) n (sym (ap (λ (o : Outcome). o .answer) (event-call h st e jobs asks)) ∙ q)
+  same-answer : eventOf h st e .answer ≡ answerOf (callOf h (st .clock) jobs (st .table) .answer)
+  same-answer = ap (λ (o : Outcome). o .answer) (event-call h st e jobs asks)
 
-  -- 7 as the answer to the event is 7 as the answer to the call
+  pub call-taken : (n : ℕ) → eventOf h st e .answer ≡ taken n → callOf h (st .clock) jobs (st .table) .answer ≡ CallAnswer.taken n
+  call-taken n q = answerOf-taken (callOf h (st .clock) jobs (st .table) .answer) n (sym same-answer ∙ q)
+
+  -- and a refusal is the call's
   pub call-refused : (r : Refusal) → (eventOf h st e .answer ≡ refused r) ↔ (callOf h (st .clock) jobs (st .table) .answer ≡ CallAnswer.refused r)
   call-refused r = (
-    λ q. answerOf-refused (callOf h (st .clock) jobs (st .table) .answer) r (sym (ap (λ (o : Outcome). o .answer) (event-call h st e jobs asks)) ∙ q),
-    λ q. ap (λ (o : Outcome). o .answer) (event-call h st e jobs asks) ∙ ap answerOf q,
+    λ q. answerOf-refused (callOf h (st .clock) jobs (st .table) .answer) r (sym same-answer ∙ q),
+    λ q. same-answer ∙ ap answerOf q,
   )
 
   pub call-table : eventOf h st e .after .table ≡ callOf h (st .clock) jobs (st .table) .table
@@ -166,14 +171,19 @@ own-refusal h st e r run q = go (eventOf h st e) (event-is h st e) q
     go _ (clockSet c f g) p = cc
     go _ (placed jobs f g) p = cc
 
+-- and never one that the causes of what was asked do not give
+own-never : (h : Head) (st : State) (e : Event) {r : Refusal} (a : Asked) → asked e ≡ a → Never r (ownCauses h st a)
+    → firstOf (ownCauses h st (asked e)) ≡ some r → ⊥
+own-never h st e a q n f = never-first n (ap (λ (x : Asked). firstOf (ownCauses h st x)) (sym q) ∙ f)
+
 -- "11 was never met"
 pub event-never-eleven : (h : Head) (st : State) (e : Event) → Running h (st .clock) (st .table) → eventOf h st e .answer ≡ refused notWellFormed → ⊥
 event-never-eleven h st e run q = go (asked e) refl (own-refusal h st e notWellFormed run q)
   where
     go : (a : Asked) → asked e ≡ a → firstOf (ownCauses h st (asked e)) ≡ some notWellFormed → ⊥
-    go (setClock t) s f = never-first (clock-never h st t notWellFormed (lit< tt)) (ap (λ (a : Asked). firstOf (ownCauses h st a)) (sym s) ∙ f)
-    go (place jobs) s f = never-first (place-never h st jobs notWellFormed (lit< tt)) (ap (λ (a : Asked). firstOf (ownCauses h st a)) (sym s) ∙ f)
-    go (fault r) s f = never-first (fault-never h st e r notWellFormed s (lit< tt)) (ap (λ (a : Asked). firstOf (ownCauses h st a)) (sym s) ∙ f)
+    go (setClock t) s = own-never h st e (setClock t) s (clock-never h st t notWellFormed (lit< tt))
+    go (place jobs) s = own-never h st e (place jobs) s (place-never h st jobs notWellFormed (lit< tt))
+    go (fault r) s = own-never h st e (fault r) s (fault-never h st e r notWellFormed s (lit< tt))
 
 -- 7 is an answer to calls alone
 pub seven-asks : (h : Head) (st : State) (e : Event) → Running h (st .clock) (st .table) → eventOf h st e .answer ≡ refused callNotFeasible
@@ -181,13 +191,14 @@ pub seven-asks : (h : Head) (st : State) (e : Event) → Running h (st .clock) (
 seven-asks h st e run q = go (asked e) refl (own-refusal h st e callNotFeasible run q)
   where
     go : (a : Asked) → asked e ≡ a → firstOf (ownCauses h st (asked e)) ≡ some callNotFeasible → (jobs : List Job) × (asked e ≡ place jobs)
-    go (setClock t) s f = absurd (never-first (clock-never h st t callNotFeasible (lit< tt)) (ap (λ (a : Asked). firstOf (ownCauses h st a)) (sym s) ∙ f))
+    go (setClock t) s f = absurd (own-never h st e (setClock t) s (clock-never h st t callNotFeasible (lit< tt)) f)
     go (place jobs) s f = (jobs, s)
-    go (fault r) s f = absurd (never-first (fault-never h st e r callNotFeasible s (lit< tt)) (ap (λ (a : Asked). firstOf (ownCauses h st a)) (sym s) ∙ f))
+    go (fault r) s f = absurd (own-never h st e (fault r) s (fault-never h st e r callNotFeasible s (lit< tt)) f)
 
--- ---- the frame that is left
+-- ---- the frame afterwards
 
-pub event-running : (h : Head) (st : State) (e : Event) → Running h (st .clock) (st .table) → Running h (eventOf h st e .after .clock) (eventOf h st e .after .table)
+pub event-running : (h : Head) (st : State) (e : Event) → Running h (st .clock) (st .table)
+    → Running h (eventOf h st e .after .clock) (eventOf h st e .after .table)
 event-running h st e run = go (eventOf h st e) (event-is h st e) refl
   where
     go : (o : Outcome) → EventIs h st e o → eventOf h st e ≡ o → Running h (o .after .clock) (o .after .table)
@@ -207,11 +218,11 @@ event-running h st e run = go (eventOf h st e) (event-is h st e) refl
         let took = call-taken h st e jobs asks (ones (evictedSet h (st .clock) jobs (cell h (st .table)))) (ap (λ (o : Outcome). o .answer) q) in
         let same : written h (called h (st .clock) jobs (cell h (st .table))) (st .table) ≡ callOf h (st .clock) jobs (st .table) .table =
         sym (ap (λ (o : Outcome). o .after .table) q) ∙ call-table h st e jobs asks in
-        let claim = call-claim h (st .clock) jobs (st .table) in
+        let callClaim = call-claim h (st .clock) jobs (st .table) in
         rw same (record {
-          long = omega (arith, run .long, claim .past .long);
+          long = omega (arith, run .long, callClaim .past .long);
           valid = run .valid;
-          wellFormed = claim .valid (ones (evictedSet h (st .clock) jobs (cell h (st .table)))) took .wellFormed;
+          wellFormed = callClaim .valid (ones (evictedSet h (st .clock) jobs (cell h (st .table)))) took .wellFormed;
           clock-low = run .clock-low;
           clock-high = run .clock-high;
         })

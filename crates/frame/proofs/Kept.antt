@@ -1,32 +1,32 @@
--- What events leave as it was, one event and a whole list: busy, mandatory and call cells, all past the frame; optional cells only go, and as many as were reported.
+-- What events leave as it was, one event and a whole list: busy, mandatory and call cells, all past the frame; optional cells only go, and as
+-- many as were reported.
 --
--- In order: what is kept (`Kept`), of nothing done, of two steps in turn, of one event, of a list; the optional cells counted; the clock.
+-- In order: what is kept (`Kept`), of nothing done (`kept-same`), of two steps in turn (`kept-twice`), of one event (`event-kept`), of a list
+-- (`run-kept`); the optional cells counted (`run-counted`); the clock (`run-clock`).
 -- Assumes nothing.
-use Prim.Native.Nat.{ℕ, zero, suc, _+_, _≤_, _<_}
+use Prim.Native.Nat.{ℕ, _+_, _<_}
 use native.Mathlib.Omega.{arith}
 use mathlib.Core.Path.{_≡_, refl, sym, _∙_, ap, subst}
-use mathlib.Core.Logic.{_⊎_, inl, inr}
-use mathlib.Core.Bool.{Bool, true, false, not, _&&_, _||_}
+use mathlib.Core.Bool.{true, _||_}
 use mathlib.Core.List.{List, [], _∷_}
-use lib.ListN.{length}
 use lib.Dec.{eqb}
 use Rattle.laws.specs.Eviction.{ones}
-use Rattle.laws.proofs.Sums.{Is, is, is-true, is-false, eq-of, ne-of, eqb-yes, clash, lt-of}
-use Rattle.laws.proofs.Every.{or-right}
+use Rattle.laws.proofs.Sums.{Is, is-true, is-false, is, clash, lt-of, eq-of, ne-of, eqb-yes}
+use Rattle.laws.proofs.Every.{neither-right}
 use Rattle.station.specs.Head.{Head, Job}
-use Rattle.placing.specs.Table.{Cells, cell, cells, Each, kindOf, isBusy, isMandatory, isOptional, isCall, callCell, holding, hasJob, hasPreset, isUsed, WellFormed}
-use Rattle.placing.specs.Valid.{ValidCall, Change, jobAt, lost, optionalCount}
-use Rattle.placing.specs.Call.{evictedSet, called}
-use Rattle.placing.specs.Entries.{written, CallAnswer, callOf}
-use Rattle.placing.specs.Claims.{Running, SamePast, CallClaim}
-use Rattle.placing.proofs.Cells.{cells-pos, cells-some}
-use Rattle.placing.proofs.Good.{Good}
-use Rattle.placing.proofs.Called.{JobFills, hasJob-of, changed-keeps-fixed, changed-kept-fixed, changed-optional, changed-call, changed-new-call, changed-optional-count}
+use Rattle.placing.specs.Table.{Cells, cell, Each, kindOf, isBusy, isMandatory, isOptional, isCall, callCell, holding, hasJob, hasPreset, WellFormed}
+use Rattle.placing.specs.Valid.{Change, jobAt, optionalCount}
+use Rattle.placing.specs.Call.{evictedSet}
+use Rattle.placing.specs.Entries.{CallAnswer, callOf}
+use Rattle.placing.specs.Claims.{Running, SamePast}
+use Rattle.placing.proofs.Cells.{cells-pos}
+use Rattle.placing.proofs.Good.{Good, hasJob-of}
+use Rattle.placing.proofs.Called.{changed-keeps-fixed, changed-kept-fixed, changed-optional, changed-call, changed-new-call, changed-optional-count}
 use Rattle.placing.proofs.Theorems.{call-accepted, call-claim}
-use Rattle.frame.specs.Event.{Event, asked, place, Answer, now, taken, refused, State, Outcome, eventOf, runOf}
+use Rattle.frame.specs.Event.{Event, Answer, now, taken, refused, State, Outcome, eventOf, runOf}
 use Rattle.frame.specs.Demands.{EventIs, stopped, clockSet, placed, SameFixed, lastClock, totalTaken}
-use Rattle.frame.proofs.Event.{event-is, event-running, call-taken, call-table}
 use Rattle.frame.proofs.Run.{kept-over}
+use Rattle.frame.proofs.Event.{event-is, call-taken, call-table, event-running}
 
 pub record Kept (h : Head) (t u : List ℕ) : Type 0 where
   pub fixed : Each h (λ s b. SameFixed (cell h t s b) (cell h u s b))
@@ -67,9 +67,12 @@ kept-twice h t u v w a b = record {
   where
     still : (n : ℕ) → hasJob h (cell h t) n ≡ true → hasJob h (cell h u) n ≡ true
     still n e =
-        let p = cells-pos h (λ s b. eqb (cell h t s b) (callCell n)) (lt-of 0 (holding h (cell h t) (callCell n)) e) in
-        let here = eq-of (cell h t (p .0) (p .1)) (callCell n) (p .4) in
-        hasJob-of h (cell h u) n (p .0) (p .1) (p .2) (p .3) (a .calls (p .0) (p .1) (p .2) (p .3) (call-cell h (cell h t) w n (p .0) (p .1) (p .2) (p .3) here) ∙ here)
+        go (cells-pos h (λ s b. eqb (cell h t s b) (callCell n)) (lt-of 0 (holding h (cell h t) (callCell n)) e))
+      where
+        go : (s b : ℕ) × (s < h .slots) × (b < h .bridges) × (eqb (cell h t s b) (callCell n) ≡ true) → hasJob h (cell h u) n ≡ true
+        go (s, b, l, m, p) =
+            let here = eq-of (cell h t s b) (callCell n) p in
+            hasJob-of h (cell h u) n s b l m (a .calls s b l m (call-cell h (cell h t) w n s b l m here) ∙ here)
 
 -- ---- one event
 
@@ -106,11 +109,12 @@ module _ (h : Head) (clock : ℕ) (jobs : List Job) (t : List ℕ) (n : ℕ) (to
           let f = changed-new-call h clock jobs (cell h t) (cell h u) good changes s b l m
           (call-cell h (cell h u) (call-claim h clock jobs t .valid n took .wellFormed) k s b l m q) (ne-of (cell h u s b) (cell h t s b) p) in
           let number : jobAt jobs (f .0) .number ≡ k = omega (arith, f .2) in
-          absurd (clash (sym (or-right (hasPreset h (jobAt jobs (f .0) .number)) (hasJob h (cell h t) (jobAt jobs (f .0) .number))
-          (ap (hasJob h (cell h t)) number ∙ e)) ∙ good .fresh (f .0) (f .1)))
+          absurd (clash (sym e ∙ ap (hasJob h (cell h t)) (sym number)
+          ∙ neither-right (hasPreset h (jobAt jobs (f .0) .number)) (hasJob h (cell h t) (jobAt jobs (f .0) .number)) (good .fresh (f .0) (f .1))))
 
   call-counted : optionalCount h (cell h t) ≡ optionalCount h (cell h (callOf h clock jobs t .table)) + n
-  call-counted = changed-optional-count h clock jobs (cell h t) (cell h u) good changes ∙ ap (λ (k : ℕ). optionalCount h (cell h u) + k) (sym (call-claim h clock jobs t .reported n took))
+  call-counted =
+      omega (arith, changed-optional-count h clock jobs (cell h t) (cell h u) good changes, call-claim h clock jobs t .reported n took)
 
 pub event-kept : (h : Head) (st : State) (e : Event) → Kept h (st .table) (eventOf h st e .after .table)
 event-kept h st e = go (eventOf h st e) (event-is h st e) refl
@@ -128,7 +132,7 @@ event-kept h st e = go (eventOf h st e) (event-is h st e) refl
 pub run-kept : (h : Head) (st : State) (es : List Event) → Running h (st .clock) (st .table) → Kept h (st .table) (runOf h st es .after .table)
 run-kept h st es run =
     kept-over h (λ x. Running h (x .clock) (x .table)) (λ x y. Kept h (x .table) (y .table)) (λ x p. kept-same h (x .table))
-    (λ x y z p q a b. kept-twice h (x .table) (y .table) (z .table) (p .wellFormed) a b) (λ x e p. event-running h x e p) (λ x e p. event-kept h x e) st es run
+    (λ x y z p q. kept-twice h (x .table) (y .table) (z .table) (p .wellFormed)) (event-running h) (λ x e p. event-kept h x e) st es run
 
 -- ---- the optional cells, counted
 

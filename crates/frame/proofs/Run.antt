@@ -1,13 +1,15 @@
 -- A list of events, taken apart: what each event gets and answers, in terms of `eventOf` alone.
+--
+-- In order: one answer for each event (`answered`); what event j comes to (`outcome-at`, `answer-at`, `state-next`), and the whole list
+-- (`state-end`); what each event keeps, of each state (`kept-at`) and of the whole list (`kept-over`); the list from event j on (`run-rest`).
 -- Assumes nothing.
-use Prim.Native.Nat.{ℕ, zero, suc, _+_, _≤_, _<_}
+use Prim.Native.Nat.{ℕ, zero, suc, _<_}
 use native.Mathlib.Nat.{le-of-suc-le-suc, not-suc-le-zero}
-use native.Mathlib.Omega.{arith}
-use mathlib.Core.Path.{_≡_, refl, sym, _∙_, ap}
+use mathlib.Core.Path.{_≡_, refl, ap}
 use mathlib.Core.List.{List, [], _∷_}
 use lib.ListN.{length, drop}
 use Rattle.station.specs.Head.{Head}
-use Rattle.frame.specs.Event.{Event, State, eventOf, runOf}
+use Rattle.frame.specs.Event.{Event, State, Outcome, eventOf, runOf}
 use Rattle.frame.specs.Demands.{stateAt, eventAt, answerAt}
 
 -- every event has one answer
@@ -16,21 +18,21 @@ unfolding runOf
 answered h st [] = refl
 answered h st (e ∷ es) = ap suc (answered h (eventOf h st e .after) es)
 
--- the answer to event j is that of `eventOf` on the table and clock it gets
+-- event j comes to what `eventOf` says on the table and clock it gets: its answer, and what the next event gets
+pub outcome-at : (h : Head) (st : State) (es : List Event) (j : ℕ) → j < length es
+    → _≡_ {A = Outcome} (record { answer = answerAt h st es j; after = stateAt h st es (suc j) }) (eventOf h (stateAt h st es j) (eventAt es j))
+unfolding runOf
+outcome-at h st [] j l = absurd (not-suc-le-zero l)
+outcome-at h st (e ∷ es) zero l = refl
+outcome-at h st (e ∷ es) (suc j) l = outcome-at h (eventOf h st e .after) es j (le-of-suc-le-suc l)
+
 pub answer-at : (h : Head) (st : State) (es : List Event) (j : ℕ) → j < length es
     → answerAt h st es j ≡ eventOf h (stateAt h st es j) (eventAt es j) .answer
-unfolding runOf
-answer-at h st [] j l = absurd (not-suc-le-zero l)
-answer-at h st (e ∷ es) zero l = refl
-answer-at h st (e ∷ es) (suc j) l = answer-at h (eventOf h st e .after) es j (le-of-suc-le-suc l)
+answer-at h st es j l = ap (λ (o : Outcome). o .answer) (outcome-at h st es j l)
 
--- and the next event gets what it leaves
 pub state-next : (h : Head) (st : State) (es : List Event) (j : ℕ) → j < length es
     → stateAt h st es (suc j) ≡ eventOf h (stateAt h st es j) (eventAt es j) .after
-unfolding runOf
-state-next h st [] j l = absurd (not-suc-le-zero l)
-state-next h st (e ∷ es) zero l = refl
-state-next h st (e ∷ es) (suc j) l = state-next h (eventOf h st e .after) es j (le-of-suc-le-suc l)
+state-next h st es j l = ap (λ (o : Outcome). o .after) (outcome-at h st es j l)
 
 -- what the whole list leaves
 pub state-end : (h : Head) (st : State) (es : List Event) → stateAt h st es (length es) ≡ runOf h st es .after

@@ -1,38 +1,35 @@
--- The starred frames of document 01, "Frames to try": one list of cases, each a station text and how its listing begins, and one fact, that all hold, by computing.
--- Beside them the other frames to try of that list that a text can state, and the frames that docs/CALLS.md works out against versions 1 to 3 of the
--- manual's page. (What holds of every placement of the frame with free 3, 1, 1, 1 is in the placing crate's proofs/Examples.antt.)
+-- The starred frames of document 01, "Frames to try": one list of cases, each a station text and how its listing begins, and one fact, that all
+-- hold, by computing. Beside them the other frames to try of that list that a text can state, and the frames that docs/CALLS.md works out against
+-- versions 1 to 3 of the manual's page.
+--
+-- In order: cases and their test; `starred`, `others`, `refuting`; `frames-hold`. (What holds of every placement of the frame with free 3, 1, 1, 1 is
+-- in the placing crate's proofs/Examples.antt.)
 -- Assumes nothing.
 use Prim.Native.Nat.{ℕ}
 use Prim.Native.String.{String}
 use mathlib.Core.Path.{_≡_, refl}
-use mathlib.Core.Bool.{Bool, true, false, _&&_}
+use mathlib.Core.Bool.{Bool, true, _&&_}
 use mathlib.Core.List.{List, [], _∷_}
 use lib.ListN.{replicate}
-use Rattle.laws.specs.Sums.{sum, greatest, every}
-use Rattle.laws.specs.Placement.{tabulate, served, left}
-use Rattle.laws.specs.Grants.{granted, turn, most}
-use Rattle.laws.specs.Eviction.{added, searched, ones}
-use Rattle.station.specs.Head.{valid, hasNumber, allInLimits, allDistinct, masksIn}
-use Rattle.station.specs.Refusal.{firstOf}
-use Rattle.station.specs.Text.{bytes, lines}
-use Rattle.station.specs.Decimal.{digitsIn, digits, digitCount, plain, valueFrom}
-use Rattle.station.specs.Form.{starts, word, number, bracketsIn, readBrackets, frameIn, busyIn, presetIn, clockIn, callIn, form, jobsOf}
-use Rattle.station.specs.Writing.{maskOf, ordered}
-use Rattle.station.specs.Reading.{misplaced, outside, used, full, more, readFrom, headOf}
-use Rattle.placing.specs.Table.{wellFormed}
-use Rattle.placing.specs.Plan.{needs, grants, planned, placing}
-use Rattle.placing.specs.Call.{called, evictedSet, evictionOrder, downward, inSet, callFits}
-use Rattle.placing.specs.Entries.{written, planOf}
+use Rattle.station.specs.Text.{bytes}
+use Rattle.station.specs.Decimal.{digitsIn, digits}
+use Rattle.station.specs.Form.{starts, jobsOf}
+use Rattle.station.proofs.Examples.{reads}
+use Rattle.placing.proofs.Examples.{plans, calls}
 use Rattle.frame.specs.Event.{ownCauses, carriedOut, comesTo, runOf}
 use Rattle.frame.specs.Text.{wholeWithPlan, wholeWithHead, wholeOf}
-use Rattle.frame.specs.Listing.{refusedLine, grantedLine, answerLine, cellText, cellTexts, slotLine, slotLines, grantedLines, answerLines, listingOf}
+use Rattle.frame.specs.Listing.{refusedLine, grantedLine, answerLine, cellText, cellTexts, slotLine, slotLines, grantedLines, answerLines}
+use Rattle.frame.specs.Listing.{listingOf}
 
 -- a station text, and how its listing begins
 pub record Case : Type 0 where
   pub text : String
   pub listing : String
 
--- a lent table of 512 cells
+abbrev shows : String → String → Case
+shows t l = record { text = t; listing = l }
+
+-- a table of 512 empty cells
 blank : List ℕ
 blank = replicate 512 0
 
@@ -48,86 +45,63 @@ allHold (c ∷ cs) = holds c && allHold cs
 pub starred : List Case
 starred =
     -- "The listing above, its final table."
-    record {
-      text = "(frame 4 2)\n(busy 2 (2 3))\n(preset 1 0 2 1)\n(preset 2 1 1 2)\n(clock 2)\n(call (9 2))\n(call (10 1))\n(call (11 1))\n";
-      listing = "(granted 1 1)\n(granted 2 2)\n(now 2)\n(taken 2)\n(taken 1)\n(refused 8 7)\n(slot 1 m1 m2)\n(slot 2 m1 -)\n(slot 3 c9 -)\n(slot 4 c10 c9)\n";
-    }
+    shows "(frame 4 2)\n(busy 2 (2 3))\n(preset 1 0 2 1)\n(preset 2 1 1 2)\n(clock 2)\n(call (9 2))\n(call (10 1))\n(call (11 1))\n"
+    "(granted 1 1)\n(granted 2 2)\n(now 2)\n(taken 2)\n(taken 1)\n(refused 8 7)\n(slot 1 m1 m2)\n(slot 2 m1 -)\n(slot 3 c9 -)\n(slot 4 c10 c9)\n"
     -- "S 10, B 3, nothing busy, m 5 4 3 3 2, o 4 4 4 3 3, equal priority: grants 4 4 4 1 0"
-    ∷ record {
-      text = "(frame 10 3)\n(preset 1 0 5 4)\n(preset 2 0 4 4)\n(preset 3 0 3 4)\n(preset 4 0 3 3)\n(preset 5 0 2 3)\n";
-      listing = "(granted 1 4)\n(granted 2 4)\n(granted 3 4)\n(granted 4 1)\n(granted 5 0)\n";
-    }
+    ∷ shows "(frame 10 3)\n(preset 1 0 5 4)\n(preset 2 0 4 4)\n(preset 3 0 3 4)\n(preset 4 0 3 3)\n(preset 5 0 2 3)\n"
+    "(granted 1 4)\n(granted 2 4)\n(granted 3 4)\n(granted 4 1)\n(granted 5 0)\n"
     -- "Free bridges 3, 1, 1, 1; m 3 and 3, o 0: number 5."
-    ∷ record { text = "(frame 4 3)\n(busy 2 (2 4))\n(busy 3 (2 4))\n(preset 1 0 3 0)\n(preset 2 0 3 0)\n"; listing = "(refused 5 5)\n" }
+    ∷ shows "(frame 4 3)\n(busy 2 (2 4))\n(busy 3 (2 4))\n(preset 1 0 3 0)\n(preset 2 0 3 0)\n" "(refused 5 5)\n"
     -- "Free 3, 1, 2, 1, the same presets: they fit."
-    ∷ record {
-      text = "(frame 4 3)\n(busy 2 (2 2) (4 4))\n(busy 3 (2 4))\n(preset 1 0 3 0)\n(preset 2 0 3 0)\n";
-      listing = "(granted 1 0)\n(granted 2 0)\n(slot 1 m1 m2 0)\n";
-    }
+    ∷ shows "(frame 4 3)\n(busy 2 (2 2) (4 4))\n(busy 3 (2 4))\n(preset 1 0 3 0)\n(preset 2 0 3 0)\n"
+    "(granted 1 0)\n(granted 2 0)\n(slot 1 m1 m2 0)\n"
     -- "Empty 3, 1, 1, 1 and one refinement cell in slot 2; a call of 3 and 3 takes 1."
-    ∷ record {
-      text = "(frame 4 4)\n(busy 2 (3 4))\n(busy 3 (2 4))\n(busy 4 (2 4))\n(preset 1 0 1 1)\n(call (5 3) (6 3))\n";
-      listing = "(granted 1 1)\n(taken 1)\n(slot 1 m1 c5 c6 0)\n(slot 2 c5 c6 - -)\n(slot 3 c5 - - -)\n(slot 4 c6 - - -)\n";
-    }
+    ∷ shows "(frame 4 4)\n(busy 2 (3 4))\n(busy 3 (2 4))\n(busy 4 (2 4))\n(preset 1 0 1 1)\n(call (5 3) (6 3))\n"
+    "(granted 1 1)\n(taken 1)\n(slot 1 m1 c5 c6 0)\n(slot 2 c5 c6 - -)\n(slot 3 c5 - - -)\n(slot 4 c6 - - -)\n"
     -- "S 3, B 2, three presets of m 2: slot 1 holds presets 1 2, slot 2 holds 1 3, slot 3 holds 2 3."
-    ∷ record {
-      text = "(frame 3 2)\n(preset 1 0 2 0)\n(preset 2 0 2 0)\n(preset 3 0 2 0)\n";
-      listing = "(granted 1 0)\n(granted 2 0)\n(granted 3 0)\n(slot 1 m1 m2)\n(slot 2 m1 m3)\n(slot 3 m2 m3)\n";
-    }
+    ∷ shows "(frame 3 2)\n(preset 1 0 2 0)\n(preset 2 0 2 0)\n(preset 3 0 2 0)\n"
+    "(granted 1 0)\n(granted 2 0)\n(granted 3 0)\n(slot 1 m1 m2)\n(slot 2 m1 m3)\n(slot 3 m2 m3)\n"
     -- "S 64, B 1, one preset of m 64: fits. With S 63: 5. m 65: 2."
-    ∷ record { text = "(frame 64 1)\n(preset 1 0 64 0)\n"; listing = "(granted 1 0)\n(slot 1 m1)\n" }
-    ∷ record { text = "(frame 63 1)\n(preset 1 0 64 0)\n"; listing = "(refused 2 5)\n" }
-    ∷ record { text = "(frame 64 1)\n(preset 1 0 65 0)\n"; listing = "(refused 2 2)\n" }
+    ∷ shows "(frame 64 1)\n(preset 1 0 64 0)\n" "(granted 1 0)\n(slot 1 m1)\n"
+    ∷ shows "(frame 63 1)\n(preset 1 0 64 0)\n" "(refused 2 5)\n"
+    ∷ shows "(frame 64 1)\n(preset 1 0 65 0)\n" "(refused 2 2)\n"
     -- "A call at clock S + 1: 7."
-    ∷ record { text = "(frame 2 1)\n(clock 3)\n(call (5 1))\n"; listing = "(now 3)\n(refused 3 7)\n(slot 1 0)\n(slot 2 0)\n" }
+    ∷ shows "(frame 2 1)\n(clock 3)\n(call (5 1))\n" "(now 3)\n(refused 3 7)\n(slot 1 0)\n(slot 2 0)\n"
     -- "Priorities 0 and 9 hold refinement that fills the last slot, all else being busy; a one-slot call takes the 9's."
-    ∷ record {
-      text = "(frame 2 2)\n(busy 1 (1 1))\n(busy 2 (1 1))\n(preset 1 0 0 1)\n(preset 2 9 0 1)\n(call (7 1))\n";
-      listing = "(granted 1 1)\n(granted 2 1)\n(taken 1)\n(slot 1 - -)\n(slot 2 o1 c7)\n";
-    }
+    ∷ shows "(frame 2 2)\n(busy 1 (1 1))\n(busy 2 (1 1))\n(preset 1 0 0 1)\n(preset 2 9 0 1)\n(call (7 1))\n"
+    "(granted 1 1)\n(granted 2 1)\n(taken 1)\n(slot 1 - -)\n(slot 2 o1 c7)\n"
     ∷ []
 
--- The frames without a star: "Clock 3 after 3 is accepted; 2 after 3 is 6. No text at all: 3 at line 1. No presets: no granted lines. `(call (5 1) (5 1))`: 4."
--- A clock outside its limits is 2 even where it is below the present one.
+-- The frames without a star: "Clock 3 after 3 is accepted; 2 after 3 is 6. No text at all: 3 at line 1. No presets: no granted lines.
+-- `(call (5 1) (5 1))`: 4." A clock outside its limits is 2 even where it is below the present one.
 pub others : List Case
 others =
-    record {
-      text = "(frame 3 1)\n(clock 3)\n(clock 3)\n(clock 2)\n(clock 0)\n(clock 5)\n(call (5 1) (5 1))\n(frame 3 1)\n(clock 4)";
-      listing = "(now 3)\n(now 3)\n(refused 4 6)\n(refused 5 2)\n(refused 6 2)\n(refused 7 4)\n(refused 8 3)\n(refused 9 1)\n(slot 1 0)\n";
-    }
-    ∷ record { text = ""; listing = "(refused 1 3)\n" }
+    shows "(frame 3 1)\n(clock 3)\n(clock 3)\n(clock 2)\n(clock 0)\n(clock 5)\n(call (5 1) (5 1))\n(frame 3 1)\n(clock 4)"
+    "(now 3)\n(now 3)\n(refused 4 6)\n(refused 5 2)\n(refused 6 2)\n(refused 7 4)\n(refused 8 3)\n(refused 9 1)\n(slot 1 0)\n"
+    ∷ shows "" "(refused 1 3)\n"
     ∷ []
 
 -- The frames of docs/CALLS.md.
 pub refuting : List Case
 refuting =
-    -- version 1, "as many cells as slots asked for are enough": six cells, six slots asked for, and no placement; nor with a refinement cell in slot 1
-    record { text = "(frame 4 3)\n(busy 2 (2 4))\n(busy 3 (2 4))\n(call (5 3) (6 3))\n"; listing = "(refused 4 7)\n(slot 1 0 0 0)\n" }
-    ∷ record {
-      text = "(frame 4 4)\n(busy 2 (2 4))\n(busy 3 (2 4))\n(busy 4 (2 4))\n(preset 1 0 0 1)\n(call (5 3) (6 3))\n";
-      listing = "(granted 1 1)\n(refused 6 7)\n(slot 1 o1 0 0 0)\n";
-    }
-    -- version 2, "a call takes refinement only for what the empty cells lack in number, in time order": six empty cells for six slots, and one must go;
-    -- and where one is lacking, the first in time does not help
-    ∷ record { text = "(frame 4 4)\n(busy 2 (3 4))\n(busy 3 (2 4))\n(busy 4 (2 4))\n(preset 1 0 1 1)\n(call (5 3) (6 3))\n"; listing = "(granted 1 1)\n(taken 1)\n" }
-    ∷ record {
-      text = "(frame 3 3)\n(busy 1 (2 3))\n(busy 2 (2 2))\n(preset 1 0 0 2)\n(preset 2 0 1 0)\n(call (5 3) (6 1))\n";
-      listing = "(granted 1 2)\n(granted 2 0)\n(taken 1)\n(slot 1 o1 m2 c5)\n(slot 2 - - c5)\n(slot 3 - c5 c6)\n";
-    }
+    -- version 1, "as many cells as slots asked for are enough": six cells, six slots asked for, and no placement; nor with an optional cell in
+    -- slot 1
+    shows "(frame 4 3)\n(busy 2 (2 4))\n(busy 3 (2 4))\n(call (5 3) (6 3))\n" "(refused 4 7)\n(slot 1 0 0 0)\n"
+    ∷ shows "(frame 4 4)\n(busy 2 (2 4))\n(busy 3 (2 4))\n(busy 4 (2 4))\n(preset 1 0 0 1)\n(call (5 3) (6 3))\n"
+    "(granted 1 1)\n(refused 6 7)\n(slot 1 o1 0 0 0)\n"
+    -- version 2, "a call takes refinement only for what the empty cells lack in number, in time order": six empty cells for six slots, and one
+    -- must go; and where one is lacking, the first in time does not help
+    ∷ shows "(frame 4 4)\n(busy 2 (3 4))\n(busy 3 (2 4))\n(busy 4 (2 4))\n(preset 1 0 1 1)\n(call (5 3) (6 3))\n" "(granted 1 1)\n(taken 1)\n"
+    ∷ shows "(frame 3 3)\n(busy 1 (2 3))\n(busy 2 (2 2))\n(preset 1 0 0 2)\n(preset 2 0 1 0)\n(call (5 3) (6 1))\n"
+    "(granted 1 2)\n(granted 2 0)\n(taken 1)\n(slot 1 o1 m2 c5)\n(slot 2 - - c5)\n(slot 3 - c5 c6)\n"
     -- version 3, "in each slot the worst preset loses first": over the whole frame the worst preset loses first, though its slot comes later
-    ∷ record {
-      text = "(frame 2 1)\n(preset 1 0 0 1)\n(preset 2 1 0 1)\n(call (5 1))\n";
-      listing = "(granted 1 1)\n(granted 2 1)\n(taken 1)\n(slot 1 o1)\n(slot 2 c5)\n";
-    }
+    ∷ shows "(frame 2 1)\n(preset 1 0 0 1)\n(preset 2 1 0 1)\n(call (5 1))\n"
+    "(granted 1 1)\n(granted 2 1)\n(taken 1)\n(slot 1 o1)\n(slot 2 c5)\n"
     ∷ []
 
 -- Every starred frame comes out as document 01 says, and so do the others; every frame of docs/CALLS.md comes out as that page says.
 pub frames-hold : (allHold starred ≡ true) × (allHold others ≡ true) × (allHold refuting ≡ true)
 unfolding
-    allHold starred others refuting sum greatest every tabulate served left granted turn most added searched ones
-    valid hasNumber allInLimits allDistinct masksIn firstOf bytes lines digitsIn digits digitCount plain valueFrom
-    starts word number bracketsIn readBrackets frameIn busyIn presetIn clockIn callIn form jobsOf maskOf ordered
-    misplaced outside used full more readFrom headOf wellFormed needs grants planned placing
-    called evictedSet evictionOrder downward inSet callFits written planOf ownCauses carriedOut comesTo runOf
-    wholeWithPlan wholeWithHead wholeOf refusedLine grantedLine answerLine cellText cellTexts slotLine slotLines grantedLines answerLines listingOf
+    allHold starred others refuting reads plans calls jobsOf ownCauses carriedOut comesTo runOf wholeWithPlan wholeWithHead wholeOf
+    digits digitsIn refusedLine grantedLine answerLine cellText cellTexts slotLine slotLines grantedLines answerLines listingOf
 frames-hold = (refl, refl, refl)

@@ -1,13 +1,13 @@
 -- The three demands as statements about `wholeOf`, `headOf`, `textOf`, `planOf`, `eventOf` and `runOf`, each a record whose fields are document 01's
 -- sentences in their order. That they hold for all texts, tables, starts and lists of events is `demand-1`, `demand-2` and `demand-3` in proofs/Demands.antt.
 -- Assumes nothing.
-use Prim.Native.Nat.{ℕ, zero, suc, _+_, _*_, _≤_, _<_}
+use Prim.Native.Nat.{ℕ, suc, _+_, _≤_, _<_}
 use mathlib.Core.Path.{_≡_}
-use mathlib.Core.Logic.{_⊎_, _↔_}
-use mathlib.Core.Bool.{Bool, true, false, _||_}
-use mathlib.Core.Option.{Option, none, some}
+use mathlib.Core.Logic.{_↔_}
+use mathlib.Core.Bool.{true, _||_}
+use mathlib.Core.Option.{none, some}
 use mathlib.Core.List.{List, [], _∷_}
-use lib.ListN.{length, getD, take, drop}
+use lib.ListN.{length, getD, take}
 use Rattle.laws.specs.Placement.{at, left, lrtf, SlotRule}
 use Rattle.laws.specs.Eviction.{FirstSmallest, ones}
 use Rattle.station.specs.Head.{Head, Job, Valid}
@@ -21,7 +21,7 @@ use Rattle.placing.specs.Plan.{GrantRule, planFreeCount, freeCount, needs, plan
 use Rattle.placing.specs.Call.{emptyCount, evictionOrder, InEvictionOrder, slotsOf, lengths, evictedSet, callFree, called}
 use Rattle.placing.specs.Entries.{written, PlanAnswer, planOf, CallAnswer, callOf}
 use Rattle.placing.specs.Claims.{Running, SamePast, Fits, beforeSeven}
-use Rattle.frame.specs.Event.{Event, line, Asked, setClock, place, asked, Answer, now, taken, refused, State, Outcome, Run, eventCauses, eventOf, runOf}
+use Rattle.frame.specs.Event.{Event, line, setClock, place, asked, Answer, now, taken, refused, State, Outcome, Run, eventCauses, runOf}
 use Rattle.frame.specs.Text.{Whole, notRead, notPlanned, ran, startOf, eventsOf, wholeOf}
 
 -- ---- where an event stands in a list

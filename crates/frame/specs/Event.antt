@@ -1,7 +1,7 @@
 -- One event on the running frame, and a list of events. Document 01, "The station text", "Causes" and "What demand 3 speaks of".
 -- Assumes nothing.
 use Prim.Native.Nat.{ℕ, suc}
-use mathlib.Core.Bool.{Bool, true, false, not}
+use mathlib.Core.Bool.{not}
 use mathlib.Core.Option.{Option, none, some}
 use mathlib.Core.List.{List, [], _∷_, _++_}
 use lib.Dec.{ltb}

@@ -2,14 +2,13 @@
 -- Assumes nothing.
 use Prim.Native.Nat.{ℕ, zero, suc}
 use mathlib.Core.List.{List, [], _∷_}
-use lib.ListN.{length}
 use Rattle.laws.specs.Placement.{at}
 use Rattle.station.specs.Head.{Head, Preset}
 use Rattle.station.specs.Refusal.{Refusal, numberOf}
 use Rattle.station.specs.Text.{bytes, _then_}
 use Rattle.station.specs.Decimal.{digits}
 use Rattle.placing.specs.Table.{cell, kindOf, numberIn}
-use Rattle.frame.specs.Event.{Answer, now, taken, refused, State, Run}
+use Rattle.frame.specs.Event.{Answer, now, taken, refused}
 use Rattle.frame.specs.Text.{Whole, notRead, notPlanned, ran}
 
 -- "Refused: line and number."

@@ -1,8 +1,7 @@
 -- A whole text: head, plan, then every line as an event. Document 01, "The station text" and "Causes".
 -- Assumes nothing.
 use Prim.Native.Nat.{ℕ}
-use mathlib.Core.Bool.{Bool, true, false}
-use mathlib.Core.Option.{Option, none, some}
+use mathlib.Core.Option.{none, some}
 use mathlib.Core.List.{List, [], _∷_, map}
 use lib.ListN.{length, drop}
 use lib.Dec.{ltb}
@@ -10,7 +9,7 @@ use Rattle.station.specs.Head.{Head}
 use Rattle.station.specs.Refusal.{Refusal, tooShort, textTooLong, try, firstOf}
 use Rattle.station.specs.Text.{lines}
 use Rattle.station.specs.Reading.{Reading, headOf}
-use Rattle.placing.specs.Entries.{PlanAnswer, PlanOutcome, planOf}
+use Rattle.placing.specs.Entries.{PlanAnswer, planOf}
 use Rattle.frame.specs.Event.{Event, State, Run, runOf, line}
 
 -- What a text comes to. `notRead`: the head is refused, with its line; nothing is changed. `notPlanned`: the head is read and its plan refused, at the last

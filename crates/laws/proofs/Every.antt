@@ -1,8 +1,9 @@
 -- Laws of tests, of `every`, and of what a count or a sum says about its terms.
 --
--- In order: negation; `not a || b` as an implication, both ways; disjunction; equal tests, both ways; a conjunction of several tests, both ways;
--- `every` as a statement about each number, both ways; what a count that is not 0 has found, and the converse; a count split by a second test; a
--- test passed at most once; a sum split at a number.
+-- In order: negation; an alternative that fails; `not a || b` as an implication, both ways; disjunction; tests that exclude or imply one another;
+-- equal tests, both ways; a conjunction of several tests, both ways; `every` as a statement about each number, both ways; one of two properties of
+-- each number (`either`); numbers that never stand twice; what a count that is not 0 has found, and the converse; a count split by a second test, and
+-- of one or the other; a test passed at most once, and the one selected term; a sum split at a number.
 -- Assumes nothing.
 use Prim.Native.Nat.{ℕ, zero, suc, _+_, _-_, _≤_, _<_}
 use native.Mathlib.Nat.{le-refl, add-zero, add-suc}
@@ -13,17 +14,13 @@ use mathlib.Core.Bool.{Bool, true, false, not, _&&_, _||_, Bool·beq}
 use mathlib.Core.Option.{none, some}
 use mathlib.Core.List.{List, [], _∷_}
 use lib.ListN.{getD}
-use lib.Dec.{eqb, ltb}
-use Rattle.laws.specs.Sums.{bit, sum, count, every}
-use Rattle.laws.proofs.Sums.{Is, is-true, is-false, is, clash, lt-of, ge-of, eq-of, ne-of, both, left-of, right-of}
-use Rattle.laws.proofs.Sums.{term-le, sum-ext, sum-add, sum-zero, count-none}
+use lib.Dec.{ltb, eqb}
+use Rattle.laws.specs.Sums.{bit, only, sum, count, every}
+use Rattle.laws.proofs.Sums.{Is, is-true, is-false, is, clash, not-true, lt-of, ge-of, eq-of, ne-of, both, left-of, right-of, sum-ext}
+use Rattle.laws.proofs.Sums.{sum-zero, term-le, sum-lt-some, sum-add, sum-or-and, count-none, sum-point, sum-two}
 
 infixr 20 _and_
 -- ---- tests
-
-pub not-true : (b : Bool) → (b ≡ true → ⊥) → b ≡ false
-not-true true h = absurd (h refl)
-not-true false h = refl
 
 pub not-is-true : (b : Bool) → b ≡ false → not b ≡ true
 not-is-true true e = sym e
@@ -33,7 +30,7 @@ pub false-of-not : (b : Bool) → not b ≡ true → b ≡ false
 false-of-not true e = sym e
 false-of-not false e = refl
 
--- and of a negation that fails
+-- a negation that fails
 pub true-of-not : (b : Bool) → not b ≡ false → b ≡ true
 true-of-not true e = refl
 true-of-not false e = sym e
@@ -50,7 +47,7 @@ pub neither-right : (a b : Bool) → (a || b) ≡ false → b ≡ false
 neither-right true b e = absurd (clash e)
 neither-right false b e = e
 
--- what is missing is not there
+-- nothing is not something
 pub none-some : {A : Type 0} {a : A} → none ≡ some a → ⊥
 none-some e = let z : _≡_ {A = ℕ} 0 1 = cc in omega arith
 
@@ -75,6 +72,17 @@ pub or-cases : (a b : Bool) → (a || b) ≡ true → (a ≡ true) ⊎ (b ≡ tr
 or-cases true b e = inl refl
 or-cases false b e = inr e
 
+-- one test excludes the other
+pub never-both : (a b : Bool) → (a ≡ true → b ≡ false) → (a && b) ≡ false
+never-both true b h = h refl
+never-both false b h = refl
+
+-- a test that is implied adds nothing
+pub and-implied : (a b : Bool) → (b ≡ true → a ≡ true) → (a && b) ≡ b
+and-implied true b f = refl
+and-implied false true f = f refl
+and-implied false false f = refl
+
 pub beq-eq : (a b : Bool) → Bool·beq a b ≡ true → a ≡ b
 beq-eq true true e = refl
 beq-eq true false e = sym e
@@ -86,11 +94,6 @@ eq-beq true true e = refl
 eq-beq true false e = sym e
 eq-beq false true e = e
 eq-beq false false e = refl
-
--- two tests that imply each other are equal
-pub test-ext : (a b : Bool) → (a ≡ true → b ≡ true) → (b ≡ true → a ≡ true) → a ≡ b
-test-ext true b f g = sym (f refl)
-test-ext false b f g = sym (not-true b (λ e. clash (sym (g e))))
 
 -- ---- a conjunction of several tests
 
@@ -152,22 +155,36 @@ unfolding every
 all-every zero p h = refl
 all-every (suc n) p h = both (every n p) (p n) (all-every n p (λ i l. h i (omega arith))) (h n (le-refl (suc n)))
 
+-- where each number has one of two properties, some number has the first or all have the second
+pub either : {P Q : ℕ → Type 0} (n : ℕ) → ((i : ℕ) → i < n → P i ⊎ Q i) → ((i : ℕ) × (i < n) × P i) ⊎ ((i : ℕ) → i < n → Q i)
+either zero h = inr (λ i l. absurd (let m : i < 0 = l in omega arith))
+either {P} {Q} (suc n) h = go (either n (λ i l. h i (omega arith))) (h n (le-refl (suc n)))
+  where
+    all : ((i : ℕ) → i < n → Q i) → Q n → (i : ℕ) → i < suc n → Is (eqb i n) → Q i
+    all f q i l (is-true e) = rw (eq-of i n e) q
+    all f q i l (is-false e) = let ne : i ≡ n → ⊥ = ne-of i n e in f i (omega arith)
+
+    go : ((i : ℕ) × (i < n) × P i) ⊎ ((i : ℕ) → i < n → Q i) → P n ⊎ Q n → ((i : ℕ) × (i < suc n) × P i) ⊎ ((i : ℕ) → i < suc n → Q i)
+    go (inl w) d = inl (w .0, omega arith, w .2)
+    go (inr f) (inl p) = inl (n, le-refl (suc n), p)
+    go (inr f) (inr q) = inr (λ i l. all f q i l (is (eqb i n)))
+
+-- numbers that never stand twice, the earlier before the later, tell their places
+pub injective-below : (n : ℕ) (f : ℕ → ℕ) → ((i j : ℕ) → j < i → i < n → f j ≡ f i → ⊥) → (i j : ℕ) → i < n → j < n → f i ≡ f j → i ≡ j
+injective-below n f apart i j l m e = go (is (ltb i j)) (is (ltb j i))
+  where
+    go : Is (ltb i j) → Is (ltb j i) → i ≡ j
+    go (is-true a) b = absurd (apart j i (lt-of i j a) m e)
+    go (is-false a) (is-true b) = absurd (apart i j (lt-of j i b) l (sym e))
+    go (is-false a) (is-false b) = omega (arith, ge-of i j a, ge-of j i b)
+
 -- ---- counts and sums
 
 -- a sum that is not 0 has a term that is not 0
 pub sum-pos : (n : ℕ) (f : ℕ → ℕ) → 0 < sum n f → (i : ℕ) × (i < n) × (0 < f i)
-unfolding sum
-sum-pos zero f h = absurd (omega arith)
-sum-pos (suc n) f h = go (sum-pos n f) (is (ltb 0 (f n)))
-  where
-    go : (0 < sum n f → (i : ℕ) × (i < n) × (0 < f i)) → Is (ltb 0 (f n)) → (i : ℕ) × (i < suc n) × (0 < f i)
-    go ih (is-true e) = (n, le-refl (suc n), lt-of 0 (f n) e)
-    go ih (is-false e) =
-        let z : f n ≤ 0 = ge-of 0 (f n) e in
-        let w = ih (omega arith) in
-        (w .0, omega arith, w .2)
+sum-pos n f h = sum-lt-some n (λ i. 0) f (omega (arith, sum-zero n (λ i. 0) (λ i l. refl)))
 
-bit-pos : (b : Bool) → 0 < bit b → b ≡ true
+pub bit-pos : (b : Bool) → 0 < bit b → b ≡ true
 bit-pos true h = refl
 bit-pos false h = absurd (omega arith)
 
@@ -189,6 +206,11 @@ count-split n p q =
     sum-ext n (λ i. bit (p i)) (λ i. bit (p i && q i) + bit (p i && not (q i))) (λ i l. bit-split (p i) (q i))
     ∙ sum-add n (λ i. bit (p i && q i)) (λ i. bit (p i && not (q i)))
 
+-- how many pass one of two tests that exclude each other
+pub count-or : (n : ℕ) (p q : ℕ → Bool) → ((i : ℕ) → i < n → p i ≡ true → q i ≡ false) → count n (λ i. p i || q i) ≡ count n p + count n q
+count-or n p q apart =
+    omega (arith, sum-or-and n (λ i b. bit b) p q, count-none n (λ i. p i && q i) (λ i l. never-both (p i) (q i) (apart i l)))
+
 -- a test that no two numbers pass is passed at most once
 pub count-once : (n : ℕ) (p : ℕ → Bool) → ((i j : ℕ) → i < j → j < n → p i ≡ true → p j ≡ true → ⊥) → count n p ≤ 1
 unfolding sum
@@ -200,6 +222,40 @@ count-once (suc n) p h = go (count-once n p (λ i j l m. h i j l (omega arith)))
         let none : count n p ≡ 0 = count-none n p (λ i l. not-true (p i) (λ q. h i n l (le-refl (suc n)) q e)) in
         omega (arith, ap bit e)
     go ih (is-false e) = omega (arith, ap bit e)
+
+-- and not at all where nothing can pass it
+pub count-le-bit : (n : ℕ) (p : ℕ → Bool) (b : Bool) → ((i j : ℕ) → i < j → j < n → p i ≡ true → p j ≡ true → ⊥)
+    → ((i : ℕ) → i < n → p i ≡ true → b ≡ true) → count n p ≤ bit b
+count-le-bit n p true once only-if = count-once n p once
+count-le-bit n p false once only-if = omega (arith, count-none n p (λ i l. not-true (p i) (λ e. clash (sym (only-if i l e)))))
+
+-- at most one number is z
+pub count-eqb-le : (n z : ℕ) → count n (λ s. eqb s z) ≤ 1
+count-eqb-le n z = count-once n (λ s. eqb s z) (λ i j l m p q. omega (arith, eq-of i z p, eq-of j z q))
+
+-- a sum with at most one selected term is that term, or 0 if none is selected
+pub one-selected : (k : ℕ) (g : ℕ → Bool) (v : ℕ → ℕ) → count k g ≤ 1
+    → (sum k (λ i. only (g i) (v i)) ≡ 0) ⊎ ((i : ℕ) × (i < k) × (g i ≡ true) × (sum k (λ i. only (g i) (v i)) ≡ v i))
+one-selected k g v h = go (either k (λ i l. split i (is (g i))))
+  where
+    split : (i : ℕ) → Is (g i) → (g i ≡ true) ⊎ (g i ≡ false)
+    split i (is-true e) = inl e
+    split i (is-false e) = inr e
+
+    off : (i j : ℕ) → i < k → j < k → g i ≡ true → (j ≡ i → ⊥) → g j ≡ false
+    off i j l m e ne = not-true (g j) (λ d. omega (arith, sum-two k (λ n. bit (g n)) i j l m ne, ap bit e, ap bit d))
+
+    go : ((i : ℕ) × (i < k) × (g i ≡ true)) ⊎ ((i : ℕ) → i < k → g i ≡ false)
+        → (sum k (λ i. only (g i) (v i)) ≡ 0) ⊎ ((i : ℕ) × (i < k) × (g i ≡ true) × (sum k (λ i. only (g i) (v i)) ≡ v i))
+    go (inl (i, l, e)) =
+        inr (
+          i,
+          l,
+          e,
+          sum-point k (λ j. only (g j) (v j)) i l (λ j m ne. ap (λ (b : Bool). only b (v j)) (off i j l m e ne))
+              ∙ ap (λ (b : Bool). only b (v i)) e,
+        )
+    go (inr f) = inl (sum-zero k (λ i. only (g i) (v i)) (λ i l. ap (λ (b : Bool). only b (v i)) (f i l)))
 
 -- the terms below m, and the rest
 pub sum-split : (m n : ℕ) (f : ℕ → ℕ) → sum (m + n) f ≡ sum m f + sum n (λ i. f (m + i))

@@ -1,54 +1,24 @@
 -- Eviction: the search takes the fewest cells after every position, and its set is the first of the smallest ones.
 --
--- In order: disjunctions, sums of pairs, over a union and at one number; sets of cells and what they add; the search over any shortage (how
--- many cells it takes, that no set does better, fewest after every position, for a priority and in all); the first smallest set; the
--- excess over a capacity is a shortage.
+-- In order: sets of cells and what they add; the search over any shortage (how many cells it takes, that no set does better, fewest after every
+-- position, for a priority and in all); the first smallest set; the excess over a capacity is a shortage.
 -- Assumes nothing.
 use Prim.Native.Nat.{ℕ, zero, suc, _+_, _-_, _≤_, _<_, min, zero-le}
 use native.Mathlib.Nat.{le-refl}
 use native.Mathlib.Omega.{arith}
 use mathlib.Core.Path.{_≡_, refl, sym, _∙_, ap}
 use mathlib.Core.Logic.{_⊎_, inl, inr, _↔_}
-use mathlib.Core.Bool.{Bool, true, false, _&&_, _||_}
+use mathlib.Core.Bool.{Bool, true, false}
 use mathlib.Core.List.{List, [], _∷_}
 use lib.ListN.{length, take, drop, replicate}
 use lib.Dec.{ltb, leb, eqb}
-use Rattle.laws.specs.Sums.{bit, sum, count, greatest}
+use Rattle.laws.specs.Sums.{bit, greatest}
 use Rattle.laws.specs.Placement.{capacity}
 use Rattle.laws.specs.Eviction.{put, added, ones, evictedIn, marked, Rising, high, low, First, here, later, FirstSmallest, searched, Shortage}
-use Rattle.laws.proofs.Sums.{Is, is, is-true, is-false, clash, lt-of, ge-of, le-of, gt-of, eq-of, eqb-self, eqb-no, bit-le, sum-ext, sum-le}
-use Rattle.laws.proofs.Sums.{sum-add, sum-but, count-none, greatest-bounds, greatest-attained}
+use Rattle.laws.proofs.Sums.{Is, is-true, is-false, is, lt-of, ge-of, le-of, gt-of, eq-of, eqb-self, eqb-no, bit-le, sum-ext, sum-le-two}
+use Rattle.laws.proofs.Sums.{sum-but, greatest-bounds, greatest-attained}
+use Rattle.laws.proofs.Every.{count-eqb-le}
 use Rattle.laws.proofs.Placement.{capacity-mono}
-
--- ---- sums and tests
-
--- two pairs of sums, compared term by term
-pub sum-le-two : (n : ℕ) (f g u v : ℕ → ℕ) → ((i : ℕ) → i < n → f i + g i ≤ u i + v i) → sum n f + sum n g ≤ sum n u + sum n v
-sum-le-two n f g u v h = omega (arith, sum-add n f g, sum-add n u v, sum-le n (λ i. f i + g i) (λ i. u i + v i) h)
-
--- whatever is summed over a union and an intersection is summed over the two selections
-pub sum-or-and : (k : ℕ) (f : ℕ → Bool → ℕ) (p q : ℕ → Bool)
-    → sum k (λ i. f i (p i || q i)) + sum k (λ i. f i (p i && q i)) ≡ sum k (λ i. f i (p i)) + sum k (λ i. f i (q i))
-sum-or-and k f p q =
-    sym (sum-add k (λ i. f i (p i || q i)) (λ i. f i (p i && q i)))
-    ∙ sum-ext k (λ i. f i (p i || q i) + f i (p i && q i)) (λ i. f i (p i) + f i (q i)) (λ i l. each (f i) (p i) (q i))
-    ∙ sum-add k (λ i. f i (p i)) (λ i. f i (q i))
-  where
-    each : (g : Bool → ℕ) (a b : Bool) → g (a || b) + g (a && b) ≡ g a + g b
-    each g true b = refl
-    each g false b = omega arith
-
--- at most one number is z
-pub count-eqb-le : (n z : ℕ) → count n (λ s. eqb s z) ≤ 1
-unfolding sum
-count-eqb-le zero z = zero-le
-count-eqb-le (suc n) z = go (count-eqb-le n z) (is (eqb n z))
-  where
-    go : count n (λ s. eqb s z) ≤ 1 → Is (eqb n z) → count n (λ s. eqb s z) + bit (eqb n z) ≤ 1
-    go ih (is-true e) =
-        let at-z : n ≡ z = eq-of n z e in
-        omega (arith, ap bit e, count-none n (λ s. eqb s z) (λ s h. eqb-no s z (λ q. omega arith)))
-    go ih (is-false e) = omega (arith, ap bit e)
 
 -- ---- sets of cells
 

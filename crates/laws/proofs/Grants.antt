@@ -16,12 +16,10 @@ use lib.Dec.{ltb, eqb}
 use Rattle.laws.specs.Sums.{bit, only, sum, count}
 use Rattle.laws.specs.Placement.{capacity, Criterion, at}
 use Rattle.laws.specs.Grants.{most, raised, turn, granted}
-use Rattle.laws.proofs.Sums.{Is, is, is-true, is-false, clash, lt-of, ge-of, eq-of, ne-of, eqb-yes, eqb-no, left-of, right-of}
-use Rattle.laws.proofs.Sums.{sum-ext, sum-le, sum-zero, sum-but, count-imp, count-none}
-use Rattle.laws.proofs.Order.{either}
+use Rattle.laws.proofs.Sums.{Is, is-true, is-false, is, clash, not-true, lt-of, ge-of, eq-of, ne-of, eqb-yes, eqb-no, left-of, right-of}
+use Rattle.laws.proofs.Sums.{only-le, sum-ext, sum-le, sum-zero, sum-le-two, sum-or-and, count-imp, count-none, sum-but}
+use Rattle.laws.proofs.Every.{or-left, or-right, either}
 use Rattle.laws.proofs.Placement.{length-tabulate, at-tabulate, at-past}
-use Rattle.laws.proofs.Every.{or-left, or-right}
-use Rattle.laws.proofs.Eviction.{sum-le-two, sum-or-and}
 
 -- ---- two numbers are equal or not
 
@@ -68,10 +66,6 @@ tight-or k n x c p q h tp tq =
 pub tight-grown : (k n : ℕ) (x c d : ℕ → ℕ) (p : ℕ → Bool) → ((i : ℕ) → i < k → c i ≤ d i) → Criterion k d n x → Tight k n x c p → Tight k n x d p
 tight-grown k n x c d p g h t =
     omega (arith, h p, sum-le k (λ i. only (p i) (c i)) (λ i. only (p i) (d i)) (λ i l. only-le (p i) (g i l)))
-  where
-    only-le : (b : Bool) {u v : ℕ} → u ≤ v → only b u ≤ only b v
-    only-le true h = h
-    only-le false h = zero-le
 
 -- a selection that one more unit of i breaks is tight, and has i
 pub broken-tight : (k n : ℕ) (x c d : ℕ → ℕ) (i : ℕ) → i < k → ((j : ℕ) → j < k → (j ≡ i → ⊥) → d j ≡ c j) → d i ≡ suc (c i) → (p : ℕ → Bool)
@@ -208,16 +202,20 @@ record Held (k n : ℕ) (x rank : ℕ → ℕ) (l o : List ℕ) (r : ℕ) (m : L
 
 -- The premises: the test says whether needs obey the criterion, a failed test names a selection that breaks it, no two jobs have one rank, and
 -- the needs at the start pass.
-module _ (k n : ℕ) (x : ℕ → ℕ) (fits : List ℕ → Bool) (fits-is : (m : List ℕ) → length m ≡ k → (fits m ≡ true) ↔ Criterion k (at m) n x)
-    (fits-no : (m : List ℕ) → length m ≡ k → fits m ≡ false → (p : ℕ → Bool) × (capacity n x (count k p) < sum k (λ i. only (p i) (at m i))))
-    (rank : ℕ → ℕ) (injective : (i j : ℕ) → i < k → j < k → rank i ≡ rank j → i ≡ j)
-    (l o : List ℕ) (long : length l ≡ k) (start : fits l ≡ true) where
+pub record Premises (k n : ℕ) (x : ℕ → ℕ) (fits : List ℕ → Bool) (rank : ℕ → ℕ) (l : List ℕ) : Type 0 where
+  pub fits-is : (m : List ℕ) → length m ≡ k → (fits m ≡ true) ↔ Criterion k (at m) n x
+  pub fits-no : (m : List ℕ) → length m ≡ k → fits m ≡ false → (p : ℕ → Bool) × (capacity n x (count k p) < sum k (λ i. only (p i) (at m i)))
+  pub injective : (i j : ℕ) → i < k → j < k → rank i ≡ rank j → i ≡ j
+  pub long : length l ≡ k
+  pub start : fits l ≡ true
+
+module _ {k n : ℕ} {x : ℕ → ℕ} {fits : List ℕ → Bool} {rank : ℕ → ℕ} {l : List ℕ} (P : Premises k n x fits rank l) (o : List ℕ) where
   abbrev stage : ℕ → List ℕ
   stage r = granted fits rank o l r
 
   pub granted-long : (r : ℕ) → length (granted fits rank o l r) ≡ k
   unfolding granted
-  granted-long zero = long
+  granted-long zero = P .long
   granted-long (suc r) = length-turn fits rank o r (stage r) ∙ granted-long r
 
   inside : (r i : ℕ) → i < k → i < length (stage r)
@@ -232,12 +230,12 @@ module _ (k n : ℕ) (x : ℕ → ℕ) (fits : List ℕ → Bool) (fits-is : (m 
 
   pub granted-fits : (r : ℕ) → fits (granted fits rank o l r) ≡ true
   unfolding granted
-  granted-fits zero = start
+  granted-fits zero = P .start
   granted-fits (suc r) = ⊎-elim (λ w. job (w .0) (w .1) (w .2) (granted-fits r)) (λ none. nobody none (granted-fits r)) (ranked r)
     where
       job : (i : ℕ) → i < k → rank i ≡ r → fits (stage r) ≡ true → fits (stage (suc r)) ≡ true
       job i h e ih =
-          ap fits (turn-one fits rank o r (stage r) i (inside r i h) e (λ j m. injective j i (omega (arith, granted-long r)) h))
+          ap fits (turn-one fits rank o r (stage r) i (inside r i h) e (λ j m. P .injective j i (omega (arith, granted-long r)) h))
           ∙ grant-fits r i ih
 
       nobody : ((i : ℕ) → i < k → rank i ≡ r → ⊥) → fits (stage r) ≡ true → fits (stage (suc r)) ≡ true
@@ -312,18 +310,18 @@ module _ (k n : ℕ) (x : ℕ → ℕ) (fits : List ℕ → Bool) (fits-is : (m 
           in-or-past i (λ h. omega (arith, own-turn r i h e, most-le (at o i) (λ g. fits (raised (stage r) i g)))) (λ z. omega (arith, z (suc r)))
 
   obeys : (r : ℕ) → Criterion k (at (stage r)) n x
-  obeys r = fits-is (stage r) (granted-long r) .0 (granted-fits r)
+  obeys r = P .fits-is (stage r) (granted-long r) .0 (granted-fits r)
 
   -- a job that one unit more does not fit is in a tight selection
   stopped : (r i : ℕ) → i < k → rank i ≡ r → (g : ℕ) → at (stage (suc r)) i ≡ at l i + g → fits (raised (stage r) i (suc g)) ≡ false
       → (p : ℕ → Bool) × (p i ≡ true) × Tight k n x (at (stage (suc r))) p
-  stopped r i h e g at-i not-fits = go (fits-no next (length-set (stage r) i (at (stage r) i + suc g) ∙ granted-long r) not-fits)
+  stopped r i h e g at-i not-fits = go (P .fits-no next (length-set (stage r) i (at (stage r) i + suc g) ∙ granted-long r) not-fits)
     where
       next : List ℕ
       next = raised (stage r) i (suc g)
 
       other : (j : ℕ) → j < k → (j ≡ i → ⊥) → at next j ≡ at (stage (suc r)) j
-      other j m ne = at-raised-other (stage r) i (suc g) j ne ∙ sym (other-turn r j (λ q. ne (injective j i m h (q ∙ sym e))))
+      other j m ne = at-raised-other (stage r) i (suc g) j ne ∙ sym (other-turn r j (λ q. ne (P .injective j i m h (q ∙ sym e))))
 
       own : at next i ≡ suc (at (stage (suc r)) i)
       own = omega (arith, at-raised (stage r) i (suc g) (inside r i h), granted-later r i (omega arith))
@@ -374,18 +372,16 @@ module _ (k n : ℕ) (x : ℕ → ℕ) (fits : List ℕ → Bool) (fits-is : (m 
           × (fits (raised (stage r) i g) ≡ true)
           × ((g ≡ at o i) ⊎ (fits (raised (stage r) i (suc g)) ≡ false)))
           → Held k n x rank l o (suc r) (stage (suc r))
-      job H i h e (g, at-i, f, inl all) = nobody H (λ j hj ej. has-all i (omega arith) j (injective j i hj h (ej ∙ sym e)))
+      job H i h e (g, at-i, f, inl all) = nobody H (λ j hj ej. has-all i (omega arith) j (P .injective j i hj h (ej ∙ sym e)))
       job H i h e (g, at-i, f, inr stop) =
           let w = stopped r i h e g at-i stop in
-          join r H (w .0) (w .2) (λ j hj ej less. ap (w .0) (injective j i hj h (ej ∙ sym e)) ∙ w .1)
+          join r H (w .0) (w .2) (λ j hj ej less. ap (w .0) (P .injective j i hj h (ej ∙ sym e)) ∙ w .1)
 
   -- a job of the first r ranks that the tight selection lacks has all of its optional slots
   full : (r : ℕ) (H : Held k n x rank l o r (stage r)) (i : ℕ) → i < k → rank i < r → H .held i ≡ false → at l i + at o i ≤ at (stage r) i
-  full r H i h m e = go (is (ltb (at (stage r) i) (at l i + at o i)))
-    where
-      go : Is (ltb (at (stage r) i) (at l i + at o i)) → at l i + at o i ≤ at (stage r) i
-      go (is-true less) = absurd (clash (sym (H .has i h m (lt-of (at (stage r) i) (at l i + at o i) less)) ∙ e))
-      go (is-false less) = ge-of (at (stage r) i) (at l i + at o i) less
+  full r H i h m e =
+      ge-of (at (stage r) i) (at l i + at o i)
+      (not-true _ (λ less. clash (sym (H .has i h m (lt-of (at (stage r) i) (at l i + at o i) less)) ∙ e)))
 
   -- what the first r ranks got is settled after r turns
   gains-since : (r R : ℕ) → r ≤ R → gains k rank l r (at (stage R)) ≡ gains k rank l r (at (stage r))

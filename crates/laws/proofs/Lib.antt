@@ -1,6 +1,8 @@
--- The laws, by subject: sums; tests of every number; positions in an order; placements (T1, T2); cells of a slot; grants (T3); eviction (T4).
+-- The laws, by subject: sums; tests of every number; lists, element by element; positions in an order; placements (T1, T2); cells of a slot;
+-- eviction (T4); grants (T3).
 pub mod Sums
 pub mod Every
+pub mod Lists
 pub mod Order
 pub mod Placement
 pub mod Cells

@@ -6,18 +6,19 @@
 use Prim.Native.Nat.{ℕ, zero, suc, _+_, _-_, _*_, _≤_, _<_, min}
 use native.Mathlib.Nat.{le-refl, mul-comm}
 use native.Mathlib.Omega.{arith}
-use mathlib.Core.Path.{_≡_, refl, sym, _∙_, ap}
+use mathlib.Core.Path.{_≡_, refl, sym, _∙_, ap, ap₂}
 use mathlib.Core.Logic.{_⊎_, inl, inr}
 use mathlib.Core.Bool.{Bool, true, false, not, _&&_}
-use mathlib.Core.List.{List}
+use mathlib.Core.List.{List, _∷_}
 use lib.ListN.{length, List·getD-eq-default}
 use lib.Dec.{ltb}
 use Rattle.laws.specs.Sums.{bit, only, sum, count, position}
 use Rattle.laws.specs.Placement.{Placed, SlotRule, capacity, Criterion, before, chosen, at, tabulate, served, left, lrtf, largest, excess}
-use Rattle.laws.proofs.Sums.{Is, is-true, is-false, is, clash, lt-of, ge-of, ltb-yes, both, left-of, right-of}
-use Rattle.laws.proofs.Sums.{sum-ext, sum-le, sum-zero, sum-add, sum-swap, sum-first, term-le, count-ext, count-imp, count-le}
-use Rattle.laws.proofs.Sums.{greatest-bounds, greatest-attained}
-use Rattle.laws.proofs.Order.{either, sum-only-const, position-order, order-of-position, position-count, at-position, before-total}
+use Rattle.laws.proofs.Sums.{Is, is-true, is-false, is, clash, lt-of, ge-of, ltb-yes, both, left-of, right-of, only-le, sum-ext, sum-le}
+use Rattle.laws.proofs.Sums.{sum-zero, term-le, sum-add, sum-first, sum-swap, count-ext, count-le, count-imp, sum-only-const, greatest-bounds}
+use Rattle.laws.proofs.Sums.{greatest-attained}
+use Rattle.laws.proofs.Every.{either}
+use Rattle.laws.proofs.Order.{position-order, order-of-position, position-count, at-position, before-total}
 
 -- ---- lists as functions
 
@@ -32,6 +33,11 @@ at-tabulate zero f i h = absurd (let l : i < 0 = h in omega arith)
 at-tabulate (suc n) f zero h = refl
 at-tabulate (suc n) f (suc i) h = at-tabulate n (λ j. f (suc j)) i (omega arith)
 
+pub tabulate-ext : (n : ℕ) (f g : ℕ → ℕ) → ((i : ℕ) → i < n → f i ≡ g i) → tabulate n f ≡ tabulate n g
+unfolding tabulate
+tabulate-ext zero f g e = refl
+tabulate-ext (suc n) f g e = ap₂ _∷_ (e 0 (omega arith)) (tabulate-ext n (λ i. f (suc i)) (λ i. g (suc i)) (λ i l. e (suc i) (omega arith)))
+
 pub at-past : (l : List ℕ) (i : ℕ) → length l ≤ i → at l i ≡ 0
 at-past l i h = List·getD-eq-default l 0 h
 
@@ -43,6 +49,11 @@ capacity-mono n x y r h = sum-le n (λ s. min r (x s)) (λ s. min r (y s)) (λ s
 -- more free cells keep the criterion
 pub criterion-mono : (k : ℕ) (c : ℕ → ℕ) (n : ℕ) (x y : ℕ → ℕ) → ((s : ℕ) → s < n → x s ≤ y s) → Criterion k c n x → Criterion k c n y
 criterion-mono k c n x y h f p = omega (arith, f p, capacity-mono n x y (count k p) h)
+
+-- and so do smaller needs
+pub criterion-less : (k : ℕ) (c d : ℕ → ℕ) (n : ℕ) (x : ℕ → ℕ) → ((i : ℕ) → i < k → c i ≤ d i) → Criterion k d n x → Criterion k c n x
+criterion-less k c d n x less f p =
+    omega (arith, f p, sum-le k (λ i. only (p i) (c i)) (λ i. only (p i) (d i)) (λ i l. only-le (p i) (less i l)))
 
 -- ---- a placement obeys the criterion
 
@@ -133,11 +144,21 @@ largest-attained k c r h = ((λ i. ltb (position k (before c) i) r), position-co
 
 -- ---- the criterion and the excess
 
-pub excess-of-criterion : (k : ℕ) (c : ℕ → ℕ) (n : ℕ) (x : ℕ → ℕ) → Criterion k c n x → excess k c n x ≡ 0
-excess-of-criterion k c n x h =
+-- some selection needs as much more than its capacity
+excess-attained : (k : ℕ) (c : ℕ → ℕ) (n : ℕ) (x : ℕ → ℕ)
+    → (p : ℕ → Bool) × (sum k (λ i. only (p i) (c i)) - capacity n x (count k p) ≡ excess k c n x)
+excess-attained k c n x =
     let w = greatest-attained k (λ r. largest k c r - capacity n x r) in
     let v = largest-attained k c (w .0) (w .1) in
-    omega (arith, w .2, v .2, h (v .0), ap (capacity n x) (v .1))
+    (v .0, omega (arith, w .2, v .2, ap (capacity n x) (v .1)))
+
+pub excess-of-criterion : (k : ℕ) (c : ℕ → ℕ) (n : ℕ) (x : ℕ → ℕ) → Criterion k c n x → excess k c n x ≡ 0
+excess-of-criterion k c n x h = let w = excess-attained k c n x in omega (arith, w .1, h (w .0))
+
+-- needs with an excess have a selection that breaks the criterion
+pub broken-of-excess : (k : ℕ) (c : ℕ → ℕ) (n : ℕ) (x : ℕ → ℕ) → (excess k c n x ≡ 0 → ⊥)
+    → (p : ℕ → Bool) × (capacity n x (count k p) < sum k (λ i. only (p i) (c i)))
+broken-of-excess k c n x ne = let w = excess-attained k c n x in (w .0, omega (arith, w .1))
 
 pub criterion-of-excess : (k : ℕ) (c : ℕ → ℕ) (n : ℕ) (x : ℕ → ℕ) → excess k c n x ≡ 0 → Criterion k c n x
 criterion-of-excess k c n x e p =
@@ -329,7 +350,12 @@ chosen-step k c d = record { needed = λ i l. chosen-needs k c d i; fits = chose
 
 -- the choice of LRTF is document 01's rule, its ties included
 pub chosen-rule : (k : ℕ) (c : ℕ → ℕ) (d : ℕ) → SlotRule k c d (chosen k c d)
-chosen-rule k c d = record { many = number (either k (λ i l. sort i (is (chosen k c d i)) (is (ltb 0 (c i))))); most = larger; needed = λ i l. chosen-needs k c d i }
+chosen-rule k c d =
+    record {
+      many = number (either k (λ i l. sort i (is (chosen k c d i)) (is (ltb 0 (c i)))));
+      most = larger;
+      needed = λ i l. chosen-needs k c d i;
+    }
   where
     sort : (i : ℕ) → Is (chosen k c d i) → Is (ltb 0 (c i)) → ((chosen k c d i ≡ false) × (0 < c i)) ⊎ (chosen k c d i ≡ ltb 0 (c i))
     sort i (is-true e) (is-true p) = inr (e ∙ sym p)

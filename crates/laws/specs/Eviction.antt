@@ -1,7 +1,7 @@
 -- Eviction: which of a list of cells to free so that a call fits. A cell is named by its slot; the list is in eviction order.
 -- A set of the cells is a list of tests beside it, true where the cell is evicted.
 -- Assumes nothing.
-use Prim.Native.Nat.{ℕ, zero, suc, _+_, _≤_, _<_}
+use Prim.Native.Nat.{ℕ, suc, _+_, _≤_, _<_}
 use mathlib.Core.Path.{_≡_}
 use mathlib.Core.Logic.{_⊎_}
 use mathlib.Core.Bool.{Bool, true, false}

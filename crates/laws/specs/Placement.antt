@@ -8,7 +8,7 @@ use mathlib.Core.Logic.{_⊎_}
 use mathlib.Core.Bool.{Bool, true, false, _&&_}
 use mathlib.Core.List.{List, [], _∷_}
 use lib.ListN.{length, getD}
-use lib.Dec.{ltb, leb}
+use lib.Dec.{ltb}
 use Rattle.laws.specs.Sums.{bit, only, sum, count, greatest, position}
 
 -- A placement: `a i s` says that job i has a cell in slot s. A job has as many slots as it needs, at most one cell in each; a slot

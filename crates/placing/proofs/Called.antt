@@ -1,40 +1,40 @@
 -- The table that an accepted call leaves is valid for the call.
 --
--- In order: what one change keeps and makes (`change-keeps`, `change-kept`, `change-call`); numbers in use before the call (`number-used`,
--- `fresh-number`). Then any table whose cells changed so: its busy and mandatory cells (`changed-keeps-fixed`, `changed-kept-fixed`), optional
--- cells (`changed-optional`, `changed-optional-count`), call cells (`changed-call`, `changed-new-call`, `changed-job-usable`,
--- `changed-other-calls`, `changed-jobCount`), and that it is well-formed (`changed-wellFormed`). Then the table of the rule, `called`: its changes
--- (`called-changes`), the free cells (`callFree-count`) and that the jobs are placed there (`called-placed`), the cells it loses (`called-lost`,
--- `called-count`, `called-upto`), the cells of a job (`called-in-slot`, `called-exact`), and that it is well-formed and valid (`called-valid`).
+-- In order: what one change keeps and makes (`change-keeps`, `change-kept`, `change-call`); how many jobs have a number. Then any table whose cells
+-- changed so: its busy and mandatory cells (`changed-keeps-fixed`, `changed-kept-fixed`), optional cells (`changed-optional`,
+-- `changed-optional-count`), call cells (`changed-call`, `changed-new-call`, `changed-job-usable`, `changed-other-calls`, `changed-jobCount`), and
+-- that it is well-formed (`changed-wellFormed`). Then the table of the rule, `called`: its changes (`called-changes`), the free cells
+-- (`callFree-count`) and that the jobs are placed there (`called-placed`), the cells it loses (`called-lost`, `called-count`, `called-upto`), the
+-- cells of a job (`called-in-slot`, `called-exact`), and that it is well-formed and valid (`called-wellFormed`, `called-valid`).
 -- That no valid table loses fewer cells is not here.
 -- Assumes nothing.
 use Prim.Native.Nat.{ℕ, _+_, _≤_, _<_}
 use native.Mathlib.Omega.{arith}
 use mathlib.Core.Path.{_≡_, sym, _∙_, ap}
 use mathlib.Core.Logic.{_⊎_, inl, inr}
-use mathlib.Core.Bool.{Bool, true, false, not, _&&_, _||_, and-true}
+use mathlib.Core.Bool.{Bool, true, false, _&&_, _||_, and-true}
 use mathlib.Core.List.{List}
-use lib.ListN.{length, length-map, List·getD-map}
+use lib.ListN.{length, length-map}
 use lib.Dec.{ltb, leb, eqb}
 use Rattle.laws.specs.Sums.{bit, sum, count}
 use Rattle.laws.specs.Placement.{Placed, at, lrtf}
 use Rattle.laws.specs.Eviction.{added, ones}
-use Rattle.laws.proofs.Sums.{Is, is-true, is-false, is, clash, lt-of, ge-of, le-of, gt-of, eq-of, ltb-yes, eqb-yes, eqb-no, eqb-self}
-use Rattle.laws.proofs.Sums.{left-of, right-of, both, bit-le, sum-ext, sum-le, sum-add, sum-swap, sum-const, count-none}
-use Rattle.laws.proofs.Every.{not-true, not-is-true, false-of-not, or-left, or-right, or-cases, test-ext, count-some, count-once}
+use Rattle.laws.proofs.Sums.{Is, is-true, is-false, is, clash, not-true, test-ext, lt-of, ge-of, eq-of, eqb-self, eqb-yes, eqb-no, bit-le, left-of}
+use Rattle.laws.proofs.Sums.{right-of, sum-ext, sum-le, sum-add, sum-const, sum-swap, sum-two}
+use Rattle.laws.proofs.Every.{neither-left, or-left, or-right, or-cases, and-implied, injective-below, count-some, count-or, count-eqb-le}
 use Rattle.laws.proofs.Placement.{criterion-mono, criterion-of-excess, lrtf-places}
-use Rattle.laws.proofs.Eviction.{sum-or-and, searched-long}
+use Rattle.laws.proofs.Eviction.{searched-long}
 use Rattle.station.specs.Head.{Head, Job, Valid}
-use Rattle.placing.specs.Table.{Cells, Each, WellFormed, cells, holding, kindOf, numberIn, mandatoryCell, optionalCell, callCell}
-use Rattle.placing.specs.Table.{isEmpty, isBusy, isMandatory, isOptional, isCall, numberAt, hasPreset, hasJob, isUsed, jobCount}
-use Rattle.placing.specs.Valid.{Change, same, filled, evicted, ValidCall, usable, noJob, jobAt, lost, lostUpTo, optionalCount, priorityOf}
+use Rattle.placing.specs.Table.{Cells, Each, WellFormed, cells, holding, kindOf, numberIn, mandatoryCell, optionalCell, callCell, isEmpty}
+use Rattle.placing.specs.Table.{isBusy, isMandatory, isOptional, isCall, numberAt, hasPreset, hasJob, isUsed, jobCount}
+use Rattle.placing.specs.Valid.{Change, same, filled, evicted, ValidCall, usable, jobAt, lost, lostUpTo, optionalCount, priorityOf}
 use Rattle.placing.specs.Plan.{placing, freeCount}
-use Rattle.placing.specs.Call.{Place, evictionOrder, slotsOf, inSet, emptyFree, emptyCount, lengths, callExcess}
-use Rattle.placing.specs.Call.{evictedSet, callFits, callFree, called}
-use Rattle.placing.proofs.Cells.{cells-pos, cells-some, cells-ext, cells-imp, cells-split}
-use Rattle.placing.proofs.Cells.{kindOf-call, numberIn-call, isOptional-call, isCall-call, call-of, numberAt-lt}
-use Rattle.placing.proofs.Good.{Good}
-use Rattle.placing.proofs.Placing.{sum-two, PlacedCell, kept, unused, written, placing-cases, placing-job}
+use Rattle.placing.specs.Call.{Place, evictionOrder, slotsOf, inSet, emptyFree, emptyCount, lengths, callExcess, evictedSet, callFits, callFree}
+use Rattle.placing.specs.Call.{called}
+use Rattle.placing.proofs.Cells.{cells-pos, cells-ext, cells-imp, cells-split, kindOf-call, numberIn-call, isOptional-call, isCall-call}
+use Rattle.placing.proofs.Cells.{lost-was, lost-now, is-lost, numberAt-lt}
+use Rattle.placing.proofs.Good.{Good, length-lengths, at-lengths, hasJob-of, fresh-number}
+use Rattle.placing.proofs.Placing.{PlacedCell, kept, unused, written, placing-cases, placing-job}
 use Rattle.placing.proofs.Order.{in-set-evictable, set-size, set-in-slot}
 
 -- ---- one change
@@ -86,66 +86,25 @@ fixed-kind v e = go (or-cases (isBusy v) (isMandatory v) e)
     go (inr p) = let q : kindOf v ≡ 2 = eq-of (kindOf v) 2 p in (omega arith, omega arith)
 
 -- of two cases the one that is left
-other : {A B : Type 0} → A ⊎ B → (A → ⊥) → B
-other (inl a) n = absurd (n a)
-other (inr b) n = b
+second-of : {A B : Type 0} → A ⊎ B → (A → ⊥) → B
+second-of (inl a) n = absurd (n a)
+second-of (inr b) n = b
 
--- ---- used numbers
-
--- a call cell's number is a job's
-pub hasJob-of : (h : Head) (t : Cells) (n : ℕ) → Each h (λ s b. t s b ≡ callCell n → hasJob h t n ≡ true)
-hasJob-of h t n s b l m e =
-    ltb-yes 0 (holding h t (callCell n)) (cells-some h (λ r a. eqb (t r a) (callCell n)) s b l m (eqb-yes (t s b) (callCell n) e))
-
--- a number that stands in a cell is used
-pub number-used : (h : Head) (t : Cells) → WellFormed h t → Each h (λ s b. 1 ≤ numberIn (t s b) → isUsed h t (numberIn (t s b)) ≡ true)
-number-used h t wf s b l m low = go (is (isMandatory v || isOptional v))
-  where
-    v : ℕ
-    v = t s b
-
-    n : ℕ
-    n = numberIn v
-
-    go : Is (isMandatory v || isOptional v) → isUsed h t n ≡ true
-    go (is-true e) = or-left (hasPreset h n) (hasJob h t n) (wf .presets s b l m e)
-    go (is-false e) = or-right (hasPreset h n) (hasJob h t n) (hasJob-of h t n s b l m (call-of v kind))
-      where
-        no-2 : kindOf v ≡ 2 → ⊥
-        no-2 q = clash (sym (or-left (isMandatory v) (isOptional v) (eqb-yes (kindOf v) 2 q)) ∙ e)
-
-        no-3 : kindOf v ≡ 3 → ⊥
-        no-3 q = clash (sym (or-right (isMandatory v) (isOptional v) (eqb-yes (kindOf v) 3 q)) ∙ e)
-
-        plain : Is (leb (kindOf v) 1) → 2 ≤ kindOf v
-        plain (is-true q) = absurd (omega (arith, wf .plain s b l m (le-of (kindOf v) 1 q)))
-        plain (is-false q) = gt-of (kindOf v) 1 q
-
-        kind : kindOf v ≡ 4
-        kind = omega (arith, wf .kinds s b l m, plain (is (leb (kindOf v) 1)), no-2, no-3)
-
--- a job's number stands in no cell before the call
-pub fresh-number : (h : Head) (t : Cells) (jobs : List Job) → WellFormed h t → Good h t jobs → (i : ℕ) → i < length jobs
-    → Each h (λ s b. numberIn (t s b) ≡ jobAt jobs i .number → ⊥)
-fresh-number h t jobs wf good i k s b l m e =
-    clash (sym (number-used h t wf s b l m (omega (arith, good .low i k))) ∙ ap (isUsed h t) e ∙ good .fresh i k)
+-- ---- the jobs' numbers
 
 -- how many jobs have the number
 abbrev jobsWith : List Job → ℕ → ℕ
-jobsWith jobs n = count (length jobs) (λ i. eqb (jobAt jobs i .number) n)
+jobsWith jobs n = count (length jobs) (λ i. eqb n (jobAt jobs i .number))
 
 -- each job has one number
 jobsWith-sum : (jobs : List Job) (k : ℕ) → sum k (λ n. jobsWith jobs n) ≤ length jobs
 jobsWith-sum jobs k =
     omega (
       arith,
-      sum-swap k (length jobs) (λ n i. bit (eqb (jobAt jobs i .number) n)),
-      sum-le (length jobs) (λ i. count k (λ n. eqb (jobAt jobs i .number) n)) (λ i. 1) (λ i l. one (jobAt jobs i .number)),
+      sum-swap k (length jobs) (λ n i. bit (eqb n (jobAt jobs i .number))),
+      sum-le (length jobs) (λ i. count k (λ n. eqb n (jobAt jobs i .number))) (λ i. 1) (λ i l. count-eqb-le k (jobAt jobs i .number)),
       sum-const (length jobs) 1,
     )
-  where
-    one : (x : ℕ) → count k (λ n. eqb x n) ≤ 1
-    one x = count-once k (λ n. eqb x n) (λ i j l m p q. omega (arith, eq-of x i p, eq-of x j q))
 
 -- ---- a table whose cells changed so
 
@@ -192,7 +151,7 @@ module _ (h : Head) (clock : ℕ) (jobs : List Job) (t u : Cells) (good : Good h
   pub changed-new-call : Each h (λ s b. isCall (u s b) ≡ true → (u s b ≡ t s b → ⊥) → JobFills clock jobs s (t s b) (u s b))
   changed-new-call s b l m e ne =
       let k : kindOf (u s b) ≡ 4 = eq-of (kindOf (u s b)) 4 e in
-      other (change-call clock jobs s (t s b) (u s b) (changes s b l m) (λ q. omega arith)) ne
+      second-of (change-call clock jobs s (t s b) (u s b) (changes s b l m) (λ q. omega arith)) ne
 
   -- so a job's cell is in a slot from the clock on
   pub changed-job-usable : WellFormed h t → (i : ℕ) → i < length jobs
@@ -230,9 +189,7 @@ module _ (h : Head) (clock : ℕ) (jobs : List Job) (t u : Cells) (good : Good h
       cells-split h (λ s b. isOptional (t s b)) (λ s b. isOptional (u s b))
       ∙ ap (λ (k : ℕ). k + cells h (λ s b. lost t u s b))
       (cells-ext h (λ s b. isOptional (t s b) && isOptional (u s b)) (λ s b. isOptional (u s b))
-      (λ s b l m. test-ext (isOptional (t s b) && isOptional (u s b)) (isOptional (u s b))
-      (right-of (isOptional (t s b)) (isOptional (u s b)))
-      (λ e. both (isOptional (t s b)) (isOptional (u s b)) (ap isOptional (sym (changed-optional s b l m e)) ∙ e) e)))
+      (λ s b l m. and-implied (isOptional (t s b)) (isOptional (u s b)) (λ e. ap isOptional (sym (changed-optional s b l m e)) ∙ e)))
 
   -- the call cells of a number that is no job's are those before
   pub changed-other-calls : (n : ℕ) → ((i : ℕ) → i < length jobs → jobAt jobs i .number ≡ n → ⊥) → holding h u (callCell n) ≡ holding h t (callCell n)
@@ -262,7 +219,7 @@ module _ (h : Head) (clock : ℕ) (jobs : List Job) (t u : Cells) (good : Good h
         where
           none : (i : ℕ) → i < length jobs → jobAt jobs i .number ≡ n → ⊥
           none i l q =
-              let one = count-some (length jobs) (λ j. eqb (jobAt jobs j .number) n) i l (eqb-yes (jobAt jobs i .number) n q) in
+              let one = count-some (length jobs) (λ j. eqb n (jobAt jobs j .number)) i l (eqb-yes n (jobAt jobs i .number) (sym q)) in
               omega (arith, ge-of 0 (jobsWith jobs n) e)
 
   module _ (valid : Valid h) (wf : WellFormed h t) where
@@ -319,8 +276,7 @@ module _ (h : Head) (clock : ℕ) (jobs : List Job) (t u : Cells) (good : Good h
             by (inl r) = wf .apart n lt (hasJob-of h t n s b l m (sym r ∙ q))
             by (inr (i, k, r, x, y)) =
                 let number : jobAt jobs i .number ≡ n = omega (arith, q) in
-                not-true (hasPreset h n)
-                (λ a. clash (sym (or-left (hasPreset h n) (hasJob h t n) a) ∙ ap (isUsed h t) (sym number) ∙ good .fresh i k))
+                neither-left (hasPreset h n) (hasJob h t n) (ap (isUsed h t) (sym number) ∙ good .fresh i k)
 
     -- no number stands twice in a slot, if no job does
     changed-once : OnceInSlot h jobs u
@@ -375,12 +331,6 @@ module _ (h : Head) (clock : ℕ) (jobs : List Job) (t u : Cells) (good : Good h
         }
 
 -- ---- the table that the call leaves
-
-length-lengths : (jobs : List Job) → length (lengths jobs) ≡ length jobs
-length-lengths jobs = length-map jobs (λ (j : Job). j .slots)
-
-at-lengths : (jobs : List Job) (i : ℕ) → at (lengths jobs) i ≡ jobAt jobs i .slots
-at-lengths jobs i = List·getD-map (λ (j : Job). j .slots) jobs i noJob
 
 module _ (h : Head) (clock : ℕ) (jobs : List Job) (t : Cells) where
   -- the cell is one that the call evicts
@@ -446,17 +396,9 @@ module _ (h : Head) (clock : ℕ) (jobs : List Job) (t : Cells) (valid : Valid h
   pub callFree-count : (s : ℕ) → s < h .slots
       → callFreeCount h clock jobs t s ≡ added (emptyCount h clock t) (slotsOf (evictionOrder h clock t)) (evictedSet h clock jobs t) s
   callFree-count s l =
-      omega (
-        arith,
-        sum-or-and (h .bridges) (λ b. bit) (emptyFree clock t s) (isEvicted h clock jobs t s),
-        count-none (h .bridges) (λ b. emptyFree clock t s b && isEvicted h clock jobs t s b) (λ b m. not-true _ (disjoint b)),
-        set-in-slot h clock t valid wf (emptyCount h clock t) (evictedSet h clock jobs t) s l,
-      )
-    where
-      disjoint : (b : ℕ) → (emptyFree clock t s b && isEvicted h clock jobs t s b) ≡ true → ⊥
-      disjoint b e =
-          free-not-optional h clock jobs t s b (left-of (emptyFree clock t s b) (isEvicted h clock jobs t s b) e)
-          (evicted-was h clock jobs t s b (right-of (emptyFree clock t s b) (isEvicted h clock jobs t s b) e) .1)
+      count-or (h .bridges) (λ b. emptyFree clock t s b) (λ b. isEvicted h clock jobs t s b)
+      (λ b m f. not-true _ (λ e. free-not-optional h clock jobs t s b f (evicted-was h clock jobs t s b e .1)))
+      ∙ sym (set-in-slot h clock t valid wf (emptyCount h clock t) (evictedSet h clock jobs t) s l)
 
   -- so the jobs of a call that fits are placed by LRTF
   pub called-placed : callFits h clock jobs t ≡ true
@@ -484,28 +426,22 @@ module _ (h : Head) (clock : ℕ) (jobs : List Job) (t : Cells) (valid : Valid h
   called-lost s b l m =
       test-ext (lost t u s b) (gone s b) (λ e. to e (called-cases h clock jobs t s b)) (λ e. from e (called-cases h clock jobs t s b))
     where
-      was : lost t u s b ≡ true → isOptional (t s b) ≡ true
-      was = left-of (isOptional (t s b)) (not (isOptional (u s b)))
-
-      is-not : lost t u s b ≡ true → isOptional (u s b) ≡ false
-      is-not e = false-of-not (isOptional (u s b)) (right-of (isOptional (t s b)) (not (isOptional (u s b))) e)
-
       of-free : lost t u s b ≡ true → callFree h clock jobs t s b ≡ true → gone s b ≡ true
-      of-free e f = other (or-cases (emptyFree clock t s b) (gone s b) f) (λ p. free-not-optional h clock jobs t s b p (was e))
+      of-free e f = second-of (or-cases (emptyFree clock t s b) (gone s b) f) (λ p. free-not-optional h clock jobs t s b p (lost-was t u s b e))
 
       to : lost t u s b ≡ true → CalledCell h clock jobs t s b → gone s b ≡ true
-      to e (kept f q) = absurd (clash (sym (was e) ∙ ap isOptional (sym q) ∙ is-not e))
+      to e (kept f q) = absurd (clash (sym (lost-was t u s b e) ∙ ap isOptional (sym q) ∙ lost-now t u s b e))
       to e (unused f q) = of-free e f
       to e (written f i k c q) = of-free e f
 
-      loses : gone s b ≡ true → isOptional (u s b) ≡ false → lost t u s b ≡ true
-      loses e q = both (isOptional (t s b)) (not (isOptional (u s b))) (evicted-was h clock jobs t s b e .1) (not-is-true (isOptional (u s b)) q)
+      now-lost : gone s b ≡ true → isOptional (u s b) ≡ false → lost t u s b ≡ true
+      now-lost e = is-lost t u s b (evicted-was h clock jobs t s b e .1)
 
       from : gone s b ≡ true → CalledCell h clock jobs t s b → lost t u s b ≡ true
       from e (kept f q) = absurd (clash (sym (or-right (emptyFree clock t s b) (gone s b) e) ∙ f))
-      from e (unused f q) = loses e (ap isOptional q)
+      from e (unused f q) = now-lost e (ap isOptional q)
       from e (written f i k c q) =
-          loses e (ap isOptional q ∙ isOptional-call (jobAt jobs i .number) (omega (arith, good .high i (rw (length-lengths jobs) at k))))
+          now-lost e (ap isOptional q ∙ isOptional-call (jobAt jobs i .number) (omega (arith, good .high i (rw (length-lengths jobs) at k))))
 
   -- so their number is the size of the set, and those of priority p or better are the set's
   pub called-count : cells h (λ s b. lost t (called h clock jobs t) s b) ≡ ones (evictedSet h clock jobs t)
@@ -531,17 +467,13 @@ module _ (h : Head) (clock : ℕ) (jobs : List Job) (t : Cells) (valid : Valid h
       placing-job (h .bridges) (callFree h clock jobs t) (lengths jobs) (λ j r. callCell (jobAt jobs j .number)) t s (λ w. eqb w (callCell n))
       (eqb-no 0 (callCell n) (λ e. omega arith)) i (rw (length-lengths jobs) k)
       (λ j m ne. eqb-no (callCell (jobAt jobs j .number)) (callCell n)
-      (λ e. differ j (rw (length-lengths jobs) at m) ne (omega arith) (is (ltb j i))))
+      (λ e. ne (injective-below (length jobs) (λ x. jobAt jobs x .number) (good .distinct) j i (rw (length-lengths jobs) at m) k (omega arith))))
       (λ b m f. eqb-no (t s b) (callCell n) (λ e. fresh-number h t jobs wf good i k s b l m (omega (arith, good .high i k))))
       ∙ ap (λ (c : Bool). bit (isPlaced h clock jobs t i s && c)) (eqb-self (callCell n))
       ∙ ap bit (and-true (isPlaced h clock jobs t i s))
     where
       n : ℕ
       n = jobAt jobs i .number
-
-      differ : (j : ℕ) → j < length jobs → (j ≡ i → ⊥) → jobAt jobs j .number ≡ n → Is (ltb j i) → ⊥
-      differ j m ne e (is-true a) = good .distinct i j (lt-of j i a) k e
-      differ j m ne e (is-false a) = good .distinct j i (omega (arith, ge-of j i a)) m (sym e)
 
   -- in all as many cells as it needs
   pub called-exact : callFits h clock jobs t ≡ true → (i : ℕ) → i < length jobs

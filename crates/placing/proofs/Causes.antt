@@ -1,60 +1,81 @@
 -- The causes tried on a running frame and on a call, read off as facts: what holds where none of them does, and back.
 --
--- In order: 8, the head record's 2 and 11 (`running-of`, `of-running`); 2, 4 and 9 of a call (`good-of`).
+-- In order: 8 and the head record's 2 (`long-and-valid`, `no-record-cause`); with 11 (`running-of`, `of-running`); 2, 4 and 9 of a call
+-- (`jobs-inside`, `good-of`).
 -- Assumes nothing.
 use Prim.Native.Nat.{ℕ, suc, _+_, _≤_, _<_}
-use native.Mathlib.Omega.{arith}
-use mathlib.Core.Path.{_≡_, refl, sym, _∙_, ap}
+use mathlib.Core.Path.{_≡_, _∙_, sym}
 use mathlib.Core.Bool.{Bool, true, false, not, _&&_}
-use mathlib.Core.Option.{Option, none, some}
-use mathlib.Core.List.{List, [], _∷_, _++_}
+use mathlib.Core.Option.{none, Option}
+use mathlib.Core.List.{List, [], _∷_}
 use lib.ListN.{length}
-use lib.Dec.{ltb, leb, eqb}
+use lib.Dec.{ltb, eqb}
 use Rattle.laws.specs.Sums.{every}
-use Rattle.laws.proofs.Sums.{le-of, ge-of, leb-yes, ltb-no, both, left-of, right-of, eqb-yes, clash}
-use Rattle.laws.proofs.Every.{every-all, false-of-not, true-of-not, not-is-false}
-use Rattle.station.specs.Head.{Head, Job, Valid, valid, within}
-use Rattle.station.specs.Refusal.{Refusal, tooShort, outOfLimits, notWellFormed, numberUsed, tooMany, try, firstOf}
+use Rattle.laws.proofs.Sums.{ge-of, ne-of, ltb-no, both, left-of, right-of}
+use Rattle.laws.proofs.Every.{false-of-not, true-of-not, not-is-false, every-all}
+use Rattle.station.specs.Head.{Head, Job, valid, within, Valid}
+use Rattle.station.specs.Refusal.{tooShort, outOfLimits, notWellFormed, numberUsed, tooMany, firstOf, Refusal, try}
+use Rattle.station.proofs.Refusal.{first-of-none, passed, first-none, append-none, left-none}
 use Rattle.station.proofs.Head.{within-low, within-high, of-within, valid-of, of-valid}
-use Rattle.station.proofs.Refusal.{first-none, passed}
-use Rattle.placing.specs.Table.{Cells, cell, isUsed, jobCount, wellFormed, WellFormed}
+use Rattle.placing.specs.Table.{Cells, cell, isUsed, jobCount, wellFormed}
 use Rattle.placing.specs.Valid.{jobAt}
 use Rattle.placing.specs.Entries.{frameCauses, frameAtFault, jobCauses, jobsOutside, jobsUsed, jobsTooMany}
 use Rattle.placing.specs.Claims.{Running}
 use Rattle.placing.proofs.WellFormed.{wellFormed-of, of-wellFormed}
 use Rattle.placing.proofs.Good.{Good}
 
--- ---- 8, the head record's 2, and 11
+-- ---- 8 and the head record's 2
+
+abbrev pub recordCauses : Head → List ℕ → List (Option Refusal)
+recordCauses h t = try tooShort (ltb (length t) 512) ∷ try outOfLimits (not (valid h)) ∷ []
+
+pub long-and-valid : (h : Head) (t : List ℕ) → firstOf (recordCauses h t) ≡ none → (512 ≤ length t) × Valid h
+long-and-valid h t e =
+    let eight = first-none tooShort (ltb (length t) 512) _ e in
+    let two = first-none outOfLimits (not (valid h)) [] (eight .1) in
+    (ge-of (length t) 512 (eight .0), valid-of h (true-of-not _ (two .0)))
+
+pub no-record-cause : (h : Head) (t : List ℕ) → 512 ≤ length t → Valid h → firstOf (recordCauses h t) ≡ none
+no-record-cause h t long ok =
+    passed tooShort (ltb (length t) 512) _ (ltb-no (length t) 512 long)
+    ∙ passed outOfLimits (not (valid h)) [] (not-is-false _ (of-valid h ok))
+    ∙ first-of-none
+
+-- ---- and 11
+
+abbrev tryEleven : Head → ℕ → List ℕ → List (Option Refusal)
+tryEleven h clock t = try notWellFormed (frameAtFault h clock t) ∷ []
 
 pub running-of : (h : Head) (clock : ℕ) (t : List ℕ) → firstOf (frameCauses h clock t) ≡ none → Running h clock t
 running-of h clock t e =
-    let eight = first-none tooShort (ltb (length t) 512) _ e in
-    let two = first-none outOfLimits (not (valid h)) _ (eight .1) in
-    let eleven = first-none notWellFormed (frameAtFault h clock t) [] (two .1) in
+    let before = left-none (recordCauses h t) (tryEleven h clock t) e in
+    let passes = long-and-valid h t before in
+    let eleven = first-none notWellFormed (frameAtFault h clock t) [] (sym (append-none (recordCauses h t) (tryEleven h clock t) before) ∙ e) in
     let ok : (wellFormed h (cell h t) && within 1 (suc (h .slots)) clock) ≡ true = true-of-not _ (eleven .0) in
     let range = right-of (wellFormed h (cell h t)) (within 1 (suc (h .slots)) clock) ok in
     record {
-      long = ge-of (length t) 512 (eight .0);
-      valid = valid-of h (true-of-not _ (two .0));
+      long = passes .0;
+      valid = passes .1;
       wellFormed = wellFormed-of h (cell h t) (left-of (wellFormed h (cell h t)) (within 1 (suc (h .slots)) clock) ok);
       clock-low = within-low 1 (suc (h .slots)) clock range;
       clock-high = within-high 1 (suc (h .slots)) clock range;
     }
 
 pub of-running : (h : Head) (clock : ℕ) (t : List ℕ) → Running h clock t → firstOf (frameCauses h clock t) ≡ none
-unfolding firstOf
 of-running h clock t r =
-    passed tooShort (ltb (length t) 512) (try outOfLimits (not (valid h)) ∷ try notWellFormed (frameAtFault h clock t) ∷ []) (ltb-no (length t) 512 (r .long))
-    ∙ passed outOfLimits (not (valid h)) (try notWellFormed (frameAtFault h clock t) ∷ []) (not-is-false _ (of-valid h (r .valid)))
+    append-none (recordCauses h t) (tryEleven h clock t) (no-record-cause h t (r .long) (r .valid))
     ∙ passed notWellFormed (frameAtFault h clock t) []
     (not-is-false _ (both (wellFormed h (cell h t)) (within 1 (suc (h .slots)) clock) (of-wellFormed h (cell h t) (r .wellFormed))
     (of-within 1 (suc (h .slots)) clock (r .clock-low) (r .clock-high))))
+    ∙ first-of-none
 
 -- ---- 2, 4 and 9 of a call
 
 -- each job within its limits
 pub jobs-inside : (jobs : List Job) → jobsOutside jobs ≡ false
-    → (1 ≤ length jobs) × (length jobs ≤ 8) × ((i : ℕ) → i < length jobs → (within 1 255 (jobAt jobs i .number) ≡ true) × (within 1 64 (jobAt jobs i .slots) ≡ true))
+    → (1 ≤ length jobs)
+    × (length jobs ≤ 8)
+    × ((i : ℕ) → i < length jobs → (within 1 255 (jobAt jobs i .number) ≡ true) × (within 1 64 (jobAt jobs i .slots) ≡ true))
 jobs-inside jobs e =
     let p : Bool = within 1 8 (length jobs) in
     let q : ℕ → Bool = λ i. within 1 255 (jobAt jobs i .number) && within 1 64 (jobAt jobs i .slots) in
@@ -82,8 +103,9 @@ good-of h jobs t e =
       low = λ i l. within-low 1 255 (jobAt jobs i .number) (inside .2 i l .0);
       high = λ i l. within-high 1 255 (jobAt jobs i .number) (inside .2 i l .0);
       fresh = λ i l. false-of-not (isUsed h t (jobAt jobs i .number)) (left-of (fresh i) (every i (other i)) (each i l));
-      distinct = λ i j m l same.
-          clash (sym (eqb-yes (jobAt jobs j .number) (jobAt jobs i .number) same)
-          ∙ false-of-not (eqb (jobAt jobs j .number) (jobAt jobs i .number)) (every-all i (other i) (right-of (fresh i) (every i (other i)) (each i l)) j m));
+      distinct = λ i j m l.
+          ne-of (jobAt jobs j .number) (jobAt jobs i .number)
+          (false-of-not (eqb (jobAt jobs j .number) (jobAt jobs i .number))
+          (every-all i (other i) (right-of (fresh i) (every i (other i)) (each i l)) j m));
       few = ge-of 64 (jobCount h t + length jobs) (nine .0);
     }

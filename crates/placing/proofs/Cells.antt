@@ -1,26 +1,42 @@
 -- Laws of counted cells, of the numbers that cells are, and of the presets' lines.
 --
--- In order: counting cells of any number of slots and bridges (`grid`), then of a head's frame (`cells`, `holding`); a cell's kind and number,
--- the kind tests, and a cell from its kind and number; a preset by its number, the line of a number, what a sum over the lines with one number is.
+-- In order: sums over cells (`area`); counting cells of any number of slots and bridges (`grid`), then of a head's frame (`cells`, `holding`); a
+-- cell's kind and number, the kind tests, and a cell from its kind and number; lost cells; a preset by its number, the line of a number, what a sum
+-- over the lines with one number is.
 -- Assumes nothing.
 use Prim.Native.Nat.{ℕ, _+_, _*_, _≤_, _<_}
 use native.Mathlib.Omega.{arith}
-use mathlib.Core.Path.{_≡_, sym, _∙_, ap}
+use mathlib.Core.Path.{_≡_, refl, _∙_, ap}
 use mathlib.Core.Logic.{_⊎_, inl, inr}
 use mathlib.Core.Bool.{Bool, true, false, not, _&&_}
-use lib.Dec.{ltb, eqb}
-use Rattle.laws.specs.Sums.{only, sum, count}
-use Rattle.laws.proofs.Sums.{Is, is-true, is-false, is, lt-of, ge-of, eq-of, ne-of, ltb-yes, eqb-no, eqb-self}
-use Rattle.laws.proofs.Sums.{sum-ext, sum-le, sum-zero, sum-add, term-le, sum-point, count-ext, count-imp, count-none}
-use Rattle.laws.proofs.Every.{sum-pos, count-pos, count-some, count-split}
+use lib.Dec.{eqb}
+use Rattle.laws.specs.Sums.{bit, only, sum, count}
+use Rattle.laws.proofs.Sums.{Is, is-true, is-false, is, lt-of, eq-of, eqb-self, ne-of, ltb-yes, eqb-no, both, left-of, right-of, sum-ext, sum-le}
+use Rattle.laws.proofs.Sums.{sum-zero, term-le, sum-add, count-imp, count-none, sum-point}
+use Rattle.laws.proofs.Every.{not-is-true, false-of-not, injective-below, sum-pos, count-pos, count-some, count-split}
 use Rattle.station.specs.Head.{Head, Valid, presetAt}
-use Rattle.placing.specs.Table.{Cells, Each, cells, holding, kindOf, numberIn, mandatoryCell, optionalCell, callCell}
-use Rattle.placing.specs.Table.{isEmpty, isBusy, isMandatory, isOptional, isCall, presetCount, numberAt, hasPreset}
-use Rattle.placing.specs.Valid.{priorityOf}
+use Rattle.placing.specs.Table.{Cells, Each, cells, holding, kindOf, numberIn, mandatoryCell, optionalCell, callCell, isEmpty, isBusy}
+use Rattle.placing.specs.Table.{isMandatory, isOptional, isCall, presetCount, numberAt, hasPreset}
+use Rattle.placing.specs.Valid.{lost, priorityOf}
 use Rattle.placing.specs.Plan.{rank}
 use Rattle.placing.specs.Call.{rankOf}
 
 -- ---- counting cells
+
+-- the sum over the cells of S slots and B bridges
+abbrev pub area : ℕ → ℕ → (ℕ → ℕ → ℕ) → ℕ
+area S B f = sum S (λ s. sum B (λ b. f s b))
+
+pub area-ext : (S B : ℕ) (f g : ℕ → ℕ → ℕ) → ((s b : ℕ) → s < S → b < B → f s b ≡ g s b) → area S B f ≡ area S B g
+area-ext S B f g h = sum-ext S (λ s. sum B (λ b. f s b)) (λ s. sum B (λ b. g s b)) (λ s l. sum-ext B (λ b. f s b) (λ b. g s b) (λ b m. h s b l m))
+
+pub area-add : (S B : ℕ) (f g : ℕ → ℕ → ℕ) → area S B (λ s b. f s b + g s b) ≡ area S B f + area S B g
+area-add S B f g =
+    sum-ext S (λ s. sum B (λ b. f s b + g s b)) (λ s. sum B (λ b. f s b) + sum B (λ b. g s b)) (λ s l. sum-add B (λ b. f s b) (λ b. g s b))
+    ∙ sum-add S (λ s. sum B (λ b. f s b)) (λ s. sum B (λ b. g s b))
+
+pub area-zero : (S B : ℕ) → area S B (λ s b. 0) ≡ 0
+area-zero S B = sum-zero S (λ s. sum B (λ b. 0)) (λ s l. sum-zero B (λ b. 0) (λ b m. refl))
 
 -- how many cells of S slots and B bridges pass a test; `cells h` is `grid (h .slots) (h .bridges)`
 abbrev pub grid : ℕ → ℕ → (ℕ → ℕ → Bool) → ℕ
@@ -41,8 +57,7 @@ module _ (S B : ℕ) (p : ℕ → ℕ → Bool) where
 
 module _ (S B : ℕ) (p q : ℕ → ℕ → Bool) where
   pub grid-ext : ((s b : ℕ) → s < S → b < B → p s b ≡ q s b) → grid S B p ≡ grid S B q
-  grid-ext h =
-      sum-ext S (λ s. count B (λ b. p s b)) (λ s. count B (λ b. q s b)) (λ s l. count-ext B (λ b. p s b) (λ b. q s b) (λ b m. h s b l m))
+  grid-ext h = area-ext S B (λ s b. bit (p s b)) (λ s b. bit (q s b)) (λ s b l m. ap bit (h s b l m))
 
   pub grid-imp : ((s b : ℕ) → s < S → b < B → p s b ≡ true → q s b ≡ true) → grid S B p ≤ grid S B q
   grid-imp h =
@@ -166,6 +181,19 @@ optional-of = cell-of-kind 3
 pub call-of : (v : ℕ) → kindOf v ≡ 4 → v ≡ callCell (numberIn v)
 call-of = cell-of-kind 4
 
+-- ---- lost cells
+
+-- a lost cell was optional and is not any more
+module _ (t u : Cells) (s b : ℕ) where
+  pub lost-was : lost t u s b ≡ true → isOptional (t s b) ≡ true
+  lost-was = left-of (isOptional (t s b)) (not (isOptional (u s b)))
+
+  pub lost-now : lost t u s b ≡ true → isOptional (u s b) ≡ false
+  lost-now e = false-of-not (isOptional (u s b)) (right-of (isOptional (t s b)) (not (isOptional (u s b))) e)
+
+  pub is-lost : isOptional (t s b) ≡ true → isOptional (u s b) ≡ false → lost t u s b ≡ true
+  is-lost p q = both (isOptional (t s b)) (not (isOptional (u s b))) p (not-is-true (isOptional (u s b)) q)
+
 -- ---- the presets' lines
 
 pub hasPreset-of : (h : Head) (i : ℕ) → i < presetCount h → hasPreset h (numberAt h i) ≡ true
@@ -188,15 +216,7 @@ module _ (h : Head) (valid : Valid h) where
 
   -- two lines with one number are one line
   pub index-unique : (i j : ℕ) → i < presetCount h → j < presetCount h → numberAt h i ≡ numberAt h j → i ≡ j
-  index-unique i j l m e = go (is (ltb i j)) (is (ltb j i))
-    where
-      go : Is (ltb i j) → Is (ltb j i) → i ≡ j
-      go (is-true a) b = absurd (valid .distinct j i (lt-of i j a) m e)
-      go (is-false a) (is-true b) = absurd (valid .distinct i j (lt-of j i b) l (sym e))
-      go (is-false a) (is-false b) =
-          let x : j ≤ i = ge-of i j a in
-          let y : i ≤ j = ge-of j i b in
-          omega arith
+  index-unique = injective-below (presetCount h) (numberAt h) (valid .distinct)
 
   -- a sum over the lines with one number has one term
   pub sum-with-number : (f : ℕ → ℕ) (i : ℕ) → i < presetCount h → sum (presetCount h) (λ j. only (eqb (numberAt h j) (numberAt h i)) (f j)) ≡ f i

@@ -1,10 +1,11 @@
 -- The eviction order as a set of cells.
 --
--- In order: what every place of a list has (`All`), and every two (`Pairwise`); weights of places (`weight-downward`); sets of places and their
--- weights; the set of a test (`those`, `length-those`); rank and priority of a preset's number (`rankOf-lt`, `rankOf-injective`, `priorityOf-le`).
--- Then the eviction order: a set's cells are evictable (`in-set-evictable`); it is document 01's order (`order-descending`); each evictable cell
--- stands in it once (`weight-order`, `order-once`); a set as its cells (`set-weight`, `set-size`, `set-in-slot`); the set of a test (`in-those`);
--- the marks of a priority (`marked-cells`, `order-rising`).
+-- In order: what every place of a walk has, and every two of them (`all-downward`, `pairwise-downward`); weights of places (`weight-downward`); sets
+-- of places and their weights; the set of a test (`those`, `length-those`); rank and priority of a preset's number (`rankOf-lt`,
+-- `rankOf-injective`, `priorityOf-le`).
+-- Then the eviction order: a set's cells are evictable (`in-set-evictable`); each evictable cell stands in it once (`weight-order`, `order-once`); it
+-- is document 01's order (`order-is`); a set as its cells (`set-weight`, `set-size`, `set-in-slot`); the set of a test (`in-those`); the marks of a
+-- priority (`marked-cells`, `order-rising`).
 -- Assumes nothing.
 use Prim.Native.Nat.{ℕ, zero, suc, _+_, _≤_, _<_}
 use native.Mathlib.Nat.{le-refl}
@@ -13,55 +14,30 @@ use mathlib.Core.Path.{_≡_, refl, sym, _∙_, ap, subst}
 use mathlib.Core.Logic.{_⊎_, inl, inr}
 use mathlib.Core.Bool.{Bool, true, false, cond, _&&_, _||_}
 use mathlib.Core.List.{List, [], _∷_, _++_, map}
-use lib.ListN.{length, getD, replicate}
+use lib.ListN.{length, replicate}
 use lib.Dec.{ltb, leb, eqb}
 use Rattle.laws.specs.Sums.{bit, only, sum, count, ascending}
 use Rattle.laws.specs.Eviction.{added, ones, evictedIn, marked, Rising, high, low}
-use Rattle.laws.proofs.Sums.{Is, is-true, is-false, is, clash, lt-of, ge-of, le-of, eq-of, leb-yes, eqb-self, eqb-yes, eqb-no}
-use Rattle.laws.proofs.Sums.{both, left-of, right-of, bit-le, sum-ext, sum-zero, sum-add, sum-swap, sum-point}
-use Rattle.laws.proofs.Order.{Total, ascending-total, position-below, position-injective, order-of-position}
-use Rattle.laws.proofs.Every.{or-left, or-right, or-cases, test-ext}
+use Rattle.laws.proofs.Sums.{Is, is-true, is-false, is, clash, test-ext, lt-of, ge-of, le-of, eq-of, eqb-self, leb-yes, eqb-no, eqb-comm, bit-le}
+use Rattle.laws.proofs.Sums.{both, left-of, right-of, only-bit, only-bit-comm, only-or, sum-ext, sum-zero, sum-swap, sum-point, sum-only-eqb}
+use Rattle.laws.proofs.Every.{or-left, or-right, or-cases}
+use Rattle.laws.proofs.Lists.{All, none, more, Pairwise, empty, first, all-imp, all-append, pairwise-imp, pairwise-append, pairwise-at}
+use Rattle.laws.proofs.Order.{Total, order-of-position, position-below, position-injective, ascending-total}
 use Rattle.laws.proofs.Eviction.{added-at}
 use Rattle.station.specs.Head.{Head, Valid, presetAt}
 use Rattle.placing.specs.Table.{Cells, WellFormed, cells, presetCount, numberAt, numberIn, hasPreset, isMandatory, isOptional}
 use Rattle.placing.specs.Valid.{usable, priorityOf}
 use Rattle.placing.specs.Plan.{rank}
-use Rattle.placing.specs.Call.{Place, noPlace, downward, rankOf, rankAt, evictable, evictionOrder, EvictedBefore, occurs, InEvictionOrder, slotsOf, inSet}
-use Rattle.placing.proofs.Cells.{preset-with, priorityOf-is, rankOf-is, numberAt-low}
+use Rattle.placing.specs.Call.{Place, noPlace, downward, rankOf, rankAt, evictable, evictionOrder, EvictedBefore, occurs, InEvictionOrder}
+use Rattle.placing.specs.Call.{slotsOf, inSet}
+use Rattle.placing.proofs.Cells.{area, area-ext, area-add, area-zero, preset-with, numberAt-low, priorityOf-is, rankOf-is}
 
--- ---- every place of a list, and every two
-
-data All (P : Place → Type 0) : List Place → Type 0 where
-  none : All P []
-  more : {z : Place} {zs : List Place} → P z → All P zs → All P (z ∷ zs)
-
--- of two places the relation holds with the earlier one first
-data Pairwise (R : Place → Place → Type 0) : List Place → Type 0 where
-  empty : Pairwise R []
-  first : {z : Place} {zs : List Place} → All (R z) zs → Pairwise R zs → Pairwise R (z ∷ zs)
-
-all-imp : {P Q : Place → Type 0} {zs : List Place} → ((z : Place) → P z → Q z) → All P zs → All Q zs
-all-imp f none = none
-all-imp f (more {z} p a) = more (f z p) (all-imp f a)
-
-all-append : {P : Place → Type 0} {xs ys : List Place} → All P xs → All P ys → All P (xs ++ ys)
-all-append none b = b
-all-append (more p a) b = more p (all-append a b)
+-- ---- walks down
 
 all-downward : {P : Place → Type 0} (n : ℕ) (f : ℕ → List Place) → ((i : ℕ) → i < n → All P (f i)) → All P (downward n f)
 unfolding downward
 all-downward zero f h = none
 all-downward (suc n) f h = all-append (h n (le-refl (suc n))) (all-downward n f (λ i l. h i (omega arith)))
-
-all-at : {P : Place → Type 0} {zs : List Place} → All P zs → (i : ℕ) → i < length zs → P (getD zs i noPlace)
-all-at none i l = absurd (omega arith)
-all-at (more p a) zero l = p
-all-at (more p a) (suc i) l = all-at a i (omega arith)
-
-pairwise-append : {R : Place → Place → Type 0} {xs ys : List Place} → Pairwise R xs → Pairwise R ys → All (λ x. All (R x) ys) xs
-    → Pairwise R (xs ++ ys)
-pairwise-append empty q c = q
-pairwise-append (first a p) q (more b c) = first (all-append a b) (pairwise-append p q c)
 
 -- a walk down: each part is in order, and what the parts have tells their places apart
 pairwise-downward : {R : Place → Place → Type 0} (Q : ℕ → Place → Type 0) (n : ℕ) (f : ℕ → List Place)
@@ -76,23 +52,6 @@ pairwise-downward Q (suc n) f p a c =
     (p n (le-refl (suc n)))
     (pairwise-downward Q n f (λ i l. p i (omega arith)) (λ i l. a i (omega arith)) (λ i j m l. c i j m (omega arith)))
     (all-imp (λ y q. all-downward n f (λ j l. all-imp (λ z. c n j l (le-refl (suc n)) y z q) (a j (omega arith)))) (a n (le-refl (suc n))))
-
--- another relation that follows for places with a property
-pairwise-imp : {P : Place → Type 0} {R S : Place → Place → Type 0} {zs : List Place}
-    → ((y z : Place) → P y → P z → R y z → S y z) → All P zs → Pairwise R zs → Pairwise S zs
-pairwise-imp f none empty = empty
-pairwise-imp {P} {R} {S} f (more {z} {zs} p a) (first r q) = first (each a r) (pairwise-imp f a q)
-  where
-    each : {ys : List Place} → All P ys → All (R z) ys → All (S z) ys
-    each none none = none
-    each (more {z = y} u b) (more s c) = more (f z y p u s) (each b c)
-
-pairwise-at : {R : Place → Place → Type 0} {zs : List Place} → Pairwise R zs
-    → (i j : ℕ) → i < j → j < length zs → R (getD zs i noPlace) (getD zs j noPlace)
-pairwise-at empty i j h l = absurd (omega arith)
-pairwise-at (first a p) i zero h l = absurd (omega arith)
-pairwise-at (first a p) zero (suc j) h l = all-at a j (omega arith)
-pairwise-at (first a p) (suc i) (suc j) h l = pairwise-at p i j (omega arith) (omega arith)
 
 -- ---- weights
 
@@ -115,36 +74,8 @@ unfolding weight occurs
 occurs-weight [] s b = refl
 occurs-weight (z ∷ zs) s b = ap (λ (n : ℕ). bit (atCell (z .slot) (z .bridge) s b) + n) (occurs-weight zs s b)
 
--- the sum over the cells of S slots and B bridges
-abbrev area : ℕ → ℕ → (ℕ → ℕ → ℕ) → ℕ
-area S B f = sum S (λ s. sum B (λ b. f s b))
-
-area-ext : (S B : ℕ) (f g : ℕ → ℕ → ℕ) → ((s b : ℕ) → s < S → b < B → f s b ≡ g s b) → area S B f ≡ area S B g
-area-ext S B f g h = sum-ext S (λ s. sum B (λ b. f s b)) (λ s. sum B (λ b. g s b)) (λ s l. sum-ext B (λ b. f s b) (λ b. g s b) (λ b m. h s b l m))
-
-area-add : (S B : ℕ) (f g : ℕ → ℕ → ℕ) → area S B (λ s b. f s b + g s b) ≡ area S B f + area S B g
-area-add S B f g =
-    sum-ext S (λ s. sum B (λ b. f s b + g s b)) (λ s. sum B (λ b. f s b) + sum B (λ b. g s b)) (λ s l. sum-add B (λ b. f s b) (λ b. g s b))
-    ∙ sum-add S (λ s. sum B (λ b. f s b)) (λ s. sum B (λ b. g s b))
-
-area-zero : (S B : ℕ) → area S B (λ s b. 0) ≡ 0
-area-zero S B = sum-zero S (λ s. sum B (λ b. 0)) (λ s l. sum-zero B (λ b. 0) (λ b m. refl))
-
-only-bit : (v c : Bool) → only v (bit c) ≡ bit (v && c)
-only-bit true c = refl
-only-bit false c = refl
-
-only-bit-comm : (v c : Bool) → only v (bit c) ≡ only c (bit v)
-only-bit-comm true true = refl
-only-bit-comm true false = refl
-only-bit-comm false true = refl
-only-bit-comm false false = refl
-
 atCell-comm : (s b r a : ℕ) → atCell s b r a ≡ atCell r a s b
 atCell-comm s b r a = rw (eqb-comm s r, eqb-comm b a)
-  where
-    eqb-comm : (m n : ℕ) → eqb m n ≡ eqb n m
-    eqb-comm m n = test-ext (eqb m n) (eqb n m) (λ e. eqb-yes n m (sym (eq-of m n e))) (λ e. eqb-yes m n (sym (eq-of n m e)))
 
 -- what is 0 but in one cell
 area-point : (S B : ℕ) (c : Bool) (f : ℕ → ℕ → ℕ) (s b : ℕ) → s < S → b < B → area S B (λ r a. only (c && atCell s b r a) (f r a)) ≡ only c (f s b)
@@ -209,17 +140,11 @@ inSet-all : (P : ℕ → ℕ → Type 0) {zs : List Place} → All (λ z. P (z .
 unfolding inSet
 inSet-all P none d s b e = absurd (clash (sym e))
 inSet-all P (more p a) [] s b e = absurd (clash (sym e))
-inSet-all P (more {z} {zs} p a) (c ∷ d) s b e = go (inSet-all P a d s b) (inSet-cases z zs c d s b e)
+inSet-all P (more {a = z} {l = zs} p a) (c ∷ d) s b e = go (inSet-all P a d s b) (inSet-cases z zs c d s b e)
   where
     go : (inSet zs d s b ≡ true → P s b) → ((c ≡ true) × (isAt z s b ≡ true)) ⊎ (inSet zs d s b ≡ true) → P s b
     go ih (inl u) = same-cell P z s b (u .1) p
     go ih (inr u) = ih u
-
--- two tests that do not both hold, and what one that holds adds
-only-or : (p q : Bool) (n : ℕ) → (p ≡ true → q ≡ true → ⊥) → only (p || q) n ≡ only p n + only q n
-only-or true true n h = absurd (h refl refl)
-only-or true false n h = omega arith
-only-or false q n h = omega arith
 
 -- two places are not one cell; a place is in the frame
 abbrev Apart : Place → Place → Type 0
@@ -234,7 +159,7 @@ set-weight-area : (S B : ℕ) (w : ℕ → ℕ → ℕ) {zs : List Place} → Al
 unfolding setWeight inSet
 set-weight-area S B w none empty d = sym (area-zero S B)
 set-weight-area S B w (more f a) (first p q) [] = sym (area-zero S B)
-set-weight-area S B w (more {z} {zs} f a) (first p q) (c ∷ d) =
+set-weight-area S B w (more {a = z} {l = zs} f a) (first p q) (c ∷ d) =
     omega (
       arith,
       set-weight-area S B w a q d,
@@ -320,13 +245,13 @@ marked-weight q (z ∷ zs) (c ∷ d) = omega (arith, marked-weight q zs d, only-
 those-all : (q : ℕ → ℕ → Bool) {zs : List Place} → All (λ z. q (z .slot) (z .bridge) ≡ true) zs → those q zs ≡ replicate (length zs) true
 unfolding those
 those-all q none = refl
-those-all q (more {z} {zs} p a) = rw (p, those-all q a)
+those-all q (more {a = z} {l = zs} p a) = rw (p, those-all q a)
 
 those-rising : (q : ℕ → ℕ → Bool) {zs : List Place}
     → Pairwise (λ y z. q (y .slot) (y .bridge) ≡ true → q (z .slot) (z .bridge) ≡ true) zs → Rising (those q zs)
 unfolding those
 those-rising q empty = high 0
-those-rising q (first {z} {zs} a p) = go (those-rising q p) (is (q (z .slot) (z .bridge)))
+those-rising q (first {a = z} {l = zs} a p) = go (those-rising q p) (is (q (z .slot) (z .bridge)))
   where
     go : Rising (those q zs) → Is (q (z .slot) (z .bridge)) → Rising (q (z .slot) (z .bridge) ∷ those q zs)
     go ih (is-true e) = rw (e, those-all q (all-imp (λ y f. f e) a)) (high (suc (length zs)))
@@ -398,12 +323,6 @@ all-one false z f = none
 pairwise-one : {R : Place → Place → Type 0} (c : Bool) (z : Place) → Pairwise R (cond c (z ∷ []) [])
 pairwise-one true z = first none empty
 pairwise-one false z = empty
-
--- of numbers below n just one is k
-sum-one-rank : (n k v : ℕ) (c : Bool) → (c ≡ true → k < n) → sum n (λ r. only (c && eqb k r) v) ≡ only c v
-sum-one-rank n k v true h =
-    sum-point n (λ r. only (eqb k r) v) k (h refl) (λ r l ne. rw (eqb-no k r (λ e. ne (sym e)))) ∙ rw (eqb-self k)
-sum-one-rank n k v false h = sum-zero n (λ r. 0) (λ r l. refl)
 
 module _ (h : Head) (clock : ℕ) (t : Cells) where
   abbrev order : List Place
@@ -517,7 +436,7 @@ module _ (h : Head) (clock : ℕ) (t : Cells) where
         in-slot s l =
             sum-swap (presetCount h) (h .bridges) (λ r b. part r s b)
             ∙ sum-ext (h .bridges) (λ b. sum (presetCount h) (λ r. part r s b)) (whole s) (λ b m.
-            sum-one-rank (presetCount h) (rankIn s b) (w s b) (evictable clock t s b) (below s b l m))
+            sum-only-eqb (presetCount h) (rankIn s b) (w s b) (evictable clock t s b) (below s b l m))
 
     pub order-once : (s b : ℕ) → s < h .slots → b < h .bridges → weight (λ r a. bit (atCell r a s b)) order ≡ bit (evictable clock t s b)
     order-once s b l m =
@@ -530,10 +449,12 @@ module _ (h : Head) (clock : ℕ) (t : Cells) where
     -- the order is document 01's: worst rank first, for one preset the latest slot first, each evictable cell once
     pub order-is : InEvictionOrder h clock t order
     order-is = record {
-      descends = pairwise-at order-pairwise;
+      descends = pairwise-at noPlace order-pairwise;
       once = λ s b l m. occurs-weight order s b ∙ order-once s b l m;
-      many = length-weight order ∙ weight-order (λ s b. 1)
-          ∙ area-ext (h .slots) (h .bridges) (λ s b. only (evictable clock t s b) 1) (λ s b. bit (evictable clock t s b)) (λ s b u v. only-bit-comm (evictable clock t s b) true);
+      many = length-weight order
+          ∙ weight-order (λ s b. 1)
+          ∙ area-ext (h .slots) (h .bridges) (λ s b. only (evictable clock t s b) 1) (λ s b. bit (evictable clock t s b))
+          (λ s b u v. only-bit-comm (evictable clock t s b) true);
     }
 
     -- a set's weight is the sum over its cells; so are its size and what it adds to the free cells of a slot

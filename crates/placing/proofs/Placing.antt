@@ -1,79 +1,24 @@
 -- Laws of `placing`, the way jobs get their cells, for plans and calls alike.
 --
--- In order: two terms of a sum, and a sum with at most one selected term; the first m numbers that pass a test (`first-of`); how many cells of
--- a slot pass a test (`placing-count`), what a cell holds (`placing-cases`), and the cells of one job (`placing-job`).
+-- In order: what a cell can hold (`PlacedCell`); how many cells of a slot pass a test (`placing-count`), what a cell holds (`placing-cases`), and the
+-- cells of one job (`placing-job`).
 -- Assumes nothing.
-use Prim.Native.Nat.{ℕ, zero, suc, _+_, _≤_, _<_, min}
+use Prim.Native.Nat.{ℕ, _+_, _≤_, _<_}
 use native.Mathlib.Omega.{arith}
-use mathlib.Core.Path.{_≡_, refl, _∙_, ap}
+use mathlib.Core.Path.{_≡_, _∙_, ap}
 use mathlib.Core.Logic.{_⊎_, inl, inr}
 use mathlib.Core.Bool.{Bool, true, false, not, _&&_, cond}
 use mathlib.Core.List.{List}
 use lib.ListN.{length}
-use lib.Dec.{ltb, eqb}
 use Rattle.laws.specs.Sums.{bit, only, sum, count}
 use Rattle.laws.specs.Placement.{left, lrtf, at}
 use Rattle.laws.specs.Cells.{takes}
-use Rattle.laws.proofs.Sums.{Is, is-true, is-false, is, left-of, right-of, bit-le, eqb-self, eqb-no, only-not, term-le, sum-ext, sum-add}
-use Rattle.laws.proofs.Sums.{sum-zero, sum-point, count-none}
-use Rattle.laws.proofs.Order.{either, bit-ltb}
+use Rattle.laws.proofs.Sums.{Is, is-true, is-false, is, bit-le, left-of, right-of, count-none, sum-point}
+use Rattle.laws.proofs.Every.{never-both, one-selected}
 use Rattle.laws.proofs.Placement.{chosen-count}
-use Rattle.laws.proofs.Cells.{slot-holding, takes-one-job}
+use Rattle.laws.proofs.Cells.{takes-one-job, slot-holding}
 use Rattle.placing.specs.Table.{Cells}
 use Rattle.placing.specs.Plan.{placing, freeCount}
-
--- ---- sums and counts
-
--- two terms are no more than the sum
-pub sum-two : (n : ℕ) (f : ℕ → ℕ) (i j : ℕ) → i < n → j < n → (j ≡ i → ⊥) → f i + f j ≤ sum n f
-sum-two n f i j l m ne =
-    let g : ℕ → ℕ = λ s. only (eqb s i) (f s) in
-    let h : ℕ → ℕ = λ s. only (not (eqb s i)) (f s) in
-    omega (
-      arith,
-      sum-add n g h,
-      sum-ext n (λ s. g s + h s) f (λ s r. only-not (eqb s i) (f s)),
-      term-le n g i l,
-      term-le n h j m,
-      ap (λ (b : Bool). only b (f i)) (eqb-self i),
-      ap (λ (b : Bool). only (not b) (f j)) (eqb-no j i ne),
-    )
-
--- a sum with at most one selected term is that term, or 0 if none is selected
-pub one-selected : (k : ℕ) (g : ℕ → Bool) (v : ℕ → ℕ) → count k g ≤ 1
-    → (sum k (λ i. only (g i) (v i)) ≡ 0) ⊎ ((i : ℕ) × (i < k) × (g i ≡ true) × (sum k (λ i. only (g i) (v i)) ≡ v i))
-one-selected k g v h = go (either k (λ i l. split i (is (g i))))
-  where
-    split : (i : ℕ) → Is (g i) → (g i ≡ true) ⊎ (g i ≡ false)
-    split i (is-true e) = inl e
-    split i (is-false e) = inr e
-
-    off : (i j : ℕ) → i < k → j < k → g i ≡ true → (j ≡ i → ⊥) → Is (g j) → g j ≡ false
-    off i j l m e ne (is-true d) = absurd (omega (arith, sum-two k (λ n. bit (g n)) i j l m ne, ap bit e, ap bit d))
-    off i j l m e ne (is-false d) = d
-
-    go : ((i : ℕ) × (i < k) × (g i ≡ true)) ⊎ ((i : ℕ) → i < k → g i ≡ false)
-        → (sum k (λ i. only (g i) (v i)) ≡ 0) ⊎ ((i : ℕ) × (i < k) × (g i ≡ true) × (sum k (λ i. only (g i) (v i)) ≡ v i))
-    go (inl (i, l, e)) =
-        inr (
-          i,
-          l,
-          e,
-          sum-point k (λ j. only (g j) (v j)) i l (λ j m ne. ap (λ (b : Bool). only b (v j)) (off i j l m e ne (is (g j))))
-              ∙ ap (λ (b : Bool). only b (v i)) e,
-        )
-    go (inr none) = inl (sum-zero k (λ i. only (g i) (v i)) (λ i l. ap (λ (b : Bool). only b (v i)) (none i l)))
-
--- how many of the first m numbers that pass a test are below n
-pub first-of : (n : ℕ) (a : ℕ → Bool) (m : ℕ) → sum n (λ s. bit (a s && ltb (count s a) m)) ≡ min m (count n a)
-unfolding sum
-first-of zero a m = omega arith
-first-of (suc n) a m = go (first-of n a m) (is (a n))
-  where
-    go : sum n (λ s. bit (a s && ltb (count s a) m)) ≡ min m (count n a) → Is (a n)
-        → sum n (λ s. bit (a s && ltb (count s a) m)) + bit (a n && ltb (count n a) m) ≡ min m (count n a + bit (a n))
-    go ih (is-true e) = rw e (omega (arith, bit-ltb (count n a) m))
-    go ih (is-false e) = rw e (omega arith)
 
 -- ---- placing
 
@@ -128,16 +73,12 @@ module _ (bridges : ℕ) (f : ℕ → ℕ → Bool) (c : List ℕ) (v : ℕ → 
       omega (
         arith,
         placing-count q z,
-        sum-point (length c) (λ j. bit (job j && q (v j s))) i l (λ j m ne. ap bit (and-none (job j) (others j m ne))),
+        sum-point (length c) (λ j. bit (job j && q (v j s))) i l (λ j m ne. ap bit (never-both (job j) (q (v j s)) (λ e. others j m ne))),
         count-none bridges (λ b. not (f s b) && q (t s b)) (λ b m. rest b m (is (f s b))),
       )
     where
       job : ℕ → Bool
       job j = lrtf c (freeCount bridges f) j s
-
-      and-none : (a : Bool) {b : Bool} → b ≡ false → (a && b) ≡ false
-      and-none true e = e
-      and-none false e = refl
 
       rest : (b : ℕ) → b < bridges → Is (f s b) → (not (f s b) && q (t s b)) ≡ false
       rest b m (is-true e) = rw e

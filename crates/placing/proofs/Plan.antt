@@ -6,53 +6,38 @@
 -- grants (`grants-rule`), which leaves no choice (`grants-only`).
 -- Assumes nothing.
 use Prim.Native.Nat.{ℕ, zero, suc, _+_, _-_, _≤_, _<_}
-use native.Mathlib.Nat.{le-refl}
+use native.Mathlib.Nat.{le-refl, lt-of-not-le}
 use native.Mathlib.Omega.{arith}
-use mathlib.Core.Path.{_≡_, refl, sym, _∙_, ap, ap₂, subst}
+use mathlib.Core.Path.{_≡_, refl, sym, _∙_, ap, subst}
 use mathlib.Core.Logic.{_⊎_, inl, inr, _↔_}
 use mathlib.Core.Bool.{Bool, true, false, not, _&&_, _||_, cond}
-use mathlib.Core.List.{List, _∷_}
+use mathlib.Core.List.{List}
 use lib.ListN.{length, length-map, length-set, List·getD-map}
 use lib.Seq.{ext-getD}
 use lib.Dec.{ltb, eqb}
 use Rattle.laws.specs.Sums.{bit, only, sum, count}
-use Rattle.laws.specs.Placement.{Criterion, capacity, largest, excess, at, lrtf, tabulate}
+use Rattle.laws.specs.Placement.{Criterion, capacity, at, lrtf}
 use Rattle.laws.specs.Grants.{granted, raised}
-use Rattle.laws.proofs.Sums.{Is, is-true, is-false, is, clash, lt-of, ge-of, eq-of, ne-of, ltb-no, eqb-yes, eqb-no, eqb-self, left-of}
-use Rattle.laws.proofs.Sums.{right-of, bit-le, sum-ext, sum-le, sum-add, count-none, greatest-attained}
-use Rattle.laws.proofs.Every.{not-true, false-of-not, or-cases, count-once, count-some, count-split}
+use Rattle.laws.proofs.Sums.{Is, is-true, is-false, is, clash, not-true, lt-of, ge-of, eq-of, eqb-self, ne-of, ltb-no, eqb-yes, eqb-no, bit-le}
+use Rattle.laws.proofs.Sums.{left-of, right-of, sum-ext, sum-add, count-none, sum-two}
+use Rattle.laws.proofs.Every.{false-of-not, true-of-not, or-cases, bit-pos, count-some, count-split, count-or, count-once, count-le-bit}
 use Rattle.laws.proofs.Order.{position-below, position-injective, ascending-total}
-use Rattle.laws.proofs.Placement.{criterion-of-excess, excess-of-criterion, criterion-of-placed, largest-attained, fits-placed, placed-fits, left-got}
-use Rattle.laws.proofs.Placement.{length-tabulate, at-tabulate}
-use Rattle.laws.proofs.Cells.{placed-of-cells, count-below}
-use Rattle.laws.proofs.Grants.{at-raised, at-raised-other, granted-long, granted-fits, granted-low, granted-high, granted-later}
-use Rattle.laws.proofs.Grants.{granted-since, granted-most, granted-best}
+use Rattle.laws.proofs.Placement.{length-tabulate, at-tabulate, tabulate-ext, criterion-less, criterion-of-placed, excess-of-criterion}
+use Rattle.laws.proofs.Placement.{broken-of-excess, criterion-of-excess, left-got, fits-placed, placed-fits}
+use Rattle.laws.proofs.Cells.{count-below, count-first, placed-of-cells}
+use Rattle.laws.proofs.Grants.{at-raised, at-raised-other, Premises, granted-long, granted-fits, granted-later, granted-since, granted-most}
+use Rattle.laws.proofs.Grants.{granted-low, granted-high, granted-best}
 use Rattle.station.specs.Head.{Head, Preset, Valid, busyAt, presetAt, noPreset}
 use Rattle.placing.specs.Table.{Cells, WellFormed, holding, kindOf, numberIn, busyCell, mandatoryCell, optionalCell, callCell, isBusy}
 use Rattle.placing.specs.Table.{isMandatory, isOptional, isCall, presetCount, numberAt, hasPreset, hasJob}
 use Rattle.placing.specs.Valid.{ValidPlan, optionalOf}
-use Rattle.placing.specs.Plan.{rank, mandatories, optionals, planFree, planFreeCount, planFits, PlanFeasible, needWith, needsWith, GrantRule, needs, grants, planCell, planned}
-use Rattle.placing.proofs.Cells.{cells-none, isBusy-no}
-use Rattle.placing.proofs.Cells.{hasPreset-of, numberAt-low, numberAt-lt, index-unique, numberIn-mandatory, numberIn-optional}
-use Rattle.placing.proofs.Placing.{PlacedCell, kept, unused, written, placing-cases, placing-job, first-of, sum-two}
+use Rattle.placing.specs.Plan.{rank, mandatories, optionals, planFree, planFreeCount, planFits, PlanFeasible, needWith, needsWith, GrantRule}
+use Rattle.placing.specs.Plan.{needs, grants, planCell, planned}
+use Rattle.placing.proofs.Cells.{cells-none, isBusy-no, numberIn-mandatory, numberIn-optional, hasPreset-of, numberAt-low, numberAt-lt}
+use Rattle.placing.proofs.Cells.{index-unique}
+use Rattle.placing.proofs.Placing.{PlacedCell, kept, unused, written, placing-cases, placing-job}
 
 -- ---- when needs fit
-
--- needs with an excess have a selection that breaks the criterion
-broken-of-excess : (k : ℕ) (c : ℕ → ℕ) (n : ℕ) (x : ℕ → ℕ) → (excess k c n x ≡ 0 → ⊥)
-    → (p : ℕ → Bool) × (capacity n x (count k p) < sum k (λ i. only (p i) (c i)))
-broken-of-excess k c n x ne =
-    let w = greatest-attained k (λ r. largest k c r - capacity n x r) in
-    let v = largest-attained k c (w .0) (w .1) in
-    (v .0, omega (arith, w .2, v .2, ap (capacity n x) (v .1)))
-
--- smaller needs obey the criterion too
-criterion-less : (k : ℕ) (c d : ℕ → ℕ) (n : ℕ) (x : ℕ → ℕ) → ((i : ℕ) → i < k → c i ≤ d i) → Criterion k d n x → Criterion k c n x
-criterion-less k c d n x less f p = omega (arith, f p, sum-le k (λ i. only (p i) (c i)) (λ i. only (p i) (d i)) (λ i l. only-le (p i) (less i l)))
-  where
-    only-le : (b : Bool) {m n : ℕ} → m ≤ n → only b m ≤ only b n
-    only-le true l = l
-    only-le false l = le-refl 0
 
 module _ (h : Head) where
   -- `planFits` is the criterion
@@ -135,18 +120,10 @@ module _ (h : Head) (valid : Valid h) (u : Cells) (w : WellFormed h u) where
       ))
 
   own-single : (s b : ℕ) → s < h .slots → b < h .bridges → count (presetCount h) (λ i. own i s b) ≤ bit (planFree h s b)
-  own-single s b l m = go (is (planFree h s b))
-    where
-      go : Is (planFree h s b) → count (presetCount h) (λ i. own i s b) ≤ bit (planFree h s b)
-      go (is-true e) =
-          rw e (count-once (presetCount h) (λ i. own i s b)
-          (λ i j r z d c. omega (arith, index-unique h valid i j (omega arith) z (sym (own-number i s b (omega arith) d) ∙ own-number j s b z c))))
-      go (is-false e) =
-          rw e (omega (
-            arith,
-            count-none (presetCount h) (λ i. own i s b)
-                (λ i r. not-true (own i s b) (λ d. clash (sym (own-free i s b l m d) ∙ e))),
-          ))
+  own-single s b l m =
+      count-le-bit (presetCount h) (λ i. own i s b) (planFree h s b)
+      (λ i j r z d c. omega (arith, index-unique h valid i j (omega arith) z (sym (own-number i s b (omega arith) d) ∙ own-number j s b z c)))
+      (λ i r. own-free i s b l m)
 
   own-count : (i : ℕ) → i < presetCount h → sum (h .slots) (λ s. count (h .bridges) (λ b. own i s b)) ≡ presetAt h i .mandatory + optionalOf h u i
   unfolding own
@@ -167,16 +144,11 @@ module _ (h : Head) (valid : Valid h) (u : Cells) (w : WellFormed h u) where
       rests : ℕ → ℕ
       rests s = count (h .bridges) (λ b. rest s b)
 
-      one : (s b : ℕ) → Is (first s b) → bit (first s b || rest s b) ≡ bit (first s b) + bit (rest s b)
-      one s b (is-true e) =
-          let c : u s b ≡ mandatoryCell (numberAt h i) = eq-of _ _ e in
-          rw (e, eqb-no (u s b) (optionalCell (numberAt h i)) (λ d. omega arith))
-      one s b (is-false e) = rw e (omega arith)
+      apart : (s b : ℕ) → first s b ≡ true → rest s b ≡ false
+      apart s b e = let c : u s b ≡ mandatoryCell (numberAt h i) = eq-of _ _ e in eqb-no (u s b) (optionalCell (numberAt h i)) (λ d. omega arith)
 
       slot : (s : ℕ) → s < h .slots → count (h .bridges) (λ b. own i s b) ≡ firsts s + rests s
-      slot s m =
-          sum-ext (h .bridges) (λ b. bit (own i s b)) (λ b. bit (first s b) + bit (rest s b)) (λ b z. one s b (is (first s b)))
-          ∙ sum-add (h .bridges) (λ b. bit (first s b)) (λ b. bit (rest s b))
+      slot s m = count-or (h .bridges) (λ b. first s b) (λ b. rest s b) (λ b z. apart s b)
 
   -- what a table gives its presets obeys the criterion
   pub wellFormed-criterion : Criterion (presetCount h) (λ i. presetAt h i .mandatory + optionalOf h u i) (h .slots) (planFreeCount h)
@@ -197,45 +169,11 @@ plan-fits-of-valid {h} {u} valid p =
 abbrev stage : Head → ℕ → List ℕ
 stage h r = granted (planFits h) (rank h) (optionals h) (mandatories h) r
 
-module _ (h : Head) (start : planFits h (mandatories h) ≡ true) where
-  stage-long : (r : ℕ) → length (stage h r) ≡ presetCount h
-  stage-long =
-      granted-long (presetCount h) (h .slots) (planFreeCount h) (planFits h) (plan-fits-is h) (plan-fits-no h) (rank h) (rank-injective h)
-      (mandatories h) (optionals h) (mandatories-long h) start
-
-  stage-fits : (r : ℕ) → planFits h (stage h r) ≡ true
-  stage-fits =
-      granted-fits (presetCount h) (h .slots) (planFreeCount h) (planFits h) (plan-fits-is h) (plan-fits-no h) (rank h) (rank-injective h)
-      (mandatories h) (optionals h) (mandatories-long h) start
-
-  stage-low : (r i : ℕ) → at (mandatories h) i ≤ at (stage h r) i
-  stage-low =
-      granted-low (presetCount h) (h .slots) (planFreeCount h) (planFits h) (plan-fits-is h) (plan-fits-no h) (rank h) (rank-injective h)
-      (mandatories h) (optionals h) (mandatories-long h) start
-
-  stage-high : (r i : ℕ) → at (stage h r) i ≤ at (mandatories h) i + at (optionals h) i
-  stage-high =
-      granted-high (presetCount h) (h .slots) (planFreeCount h) (planFits h) (plan-fits-is h) (plan-fits-no h) (rank h) (rank-injective h)
-      (mandatories h) (optionals h) (mandatories-long h) start
-
-  stage-later : (r i : ℕ) → r ≤ rank h i → at (stage h r) i ≡ at (mandatories h) i
-  stage-later =
-      granted-later (presetCount h) (h .slots) (planFreeCount h) (planFits h) (plan-fits-is h) (plan-fits-no h) (rank h) (rank-injective h)
-      (mandatories h) (optionals h) (mandatories-long h) start
-
-  stage-since : (r R i : ℕ) → rank h i < r → r ≤ R → at (stage h R) i ≡ at (stage h r) i
-  stage-since =
-      granted-since (presetCount h) (h .slots) (planFreeCount h) (planFits h) (plan-fits-is h) (plan-fits-no h) (rank h) (rank-injective h)
-      (mandatories h) (optionals h) (mandatories-long h) start
-
-  stage-most : (r i : ℕ) → i < presetCount h → rank h i ≡ r
-      → (g : ℕ)
-      × (at (stage h (suc r)) i ≡ at (mandatories h) i + g)
-      × (planFits h (raised (stage h r) i g) ≡ true)
-      × ((g ≡ at (optionals h) i) ⊎ (planFits h (raised (stage h r) i (suc g)) ≡ false))
-  stage-most =
-      granted-most (presetCount h) (h .slots) (planFreeCount h) (planFits h) (plan-fits-is h) (plan-fits-no h) (rank h) (rank-injective h)
-      (mandatories h) (optionals h) (mandatories-long h) start
+-- what the laws of the grants ask for
+premises : (h : Head) → planFits h (mandatories h) ≡ true
+    → Premises (presetCount h) (h .slots) (planFreeCount h) (planFits h) (rank h) (mandatories h)
+premises h start =
+    record { fits-is = plan-fits-is h; fits-no = plan-fits-no h; injective = rank-injective h; long = mandatories-long h; start = start }
 
 -- ---- the planned cells
 
@@ -248,14 +186,6 @@ early h i s = ltb (count s (λ r. had h i r)) (presetAt h i .mandatory)
 
 abbrev presetCell : Head → ℕ → Bool → ℕ
 presetCell h i e = cond e (mandatoryCell (numberAt h i)) (optionalCell (numberAt h i))
-
-true-of-not : (b : Bool) → not b ≡ false → b ≡ true
-true-of-not true e = refl
-true-of-not false e = sym e
-
-of-positive : (b : Bool) → 0 < bit b → b ≡ true
-of-positive true l = refl
-of-positive false l = absurd (omega arith)
 
 -- what a cell of the plan holds
 data PlannedCell (h : Head) (s b w : ℕ) : Type 0 where
@@ -290,7 +220,7 @@ module _ (h : Head) (valid : Valid h) (start : planFits h (mandatories h) ≡ tr
   -- every preset has its need
   pub needs-long : length (needs h) ≡ presetCount h
   unfolding needs
-  needs-long = stage-long h start (presetCount h)
+  needs-long = granted-long (premises h start) (optionals h) (presetCount h)
 
   planned-cases : (s b : ℕ) → PlannedCell h s b (planned h s b)
   unfolding planned
@@ -392,7 +322,8 @@ module _ (h : Head) (valid : Valid h) (start : planFits h (mandatories h) ≡ tr
     planned-slots : count (h .slots) (λ s. had h i s) ≡ at (needs h) i
     unfolding needs
     planned-slots =
-        fits-placed (needs h) (h .slots) (planFreeCount h) (eq-of _ 0 (stage-fits h start (presetCount h))) .exact i (omega (arith, needs-long))
+        let fits = eq-of _ 0 (granted-fits (premises h start) (optionals h) (presetCount h)) in
+        fits-placed (needs h) (h .slots) (planFreeCount h) fits .exact i (omega (arith, needs-long))
 
     -- a cell value v with its number, t telling whether it is the mandatory one or the optional one
     module _ (v : ℕ) (t : Bool → Bool) (number : numberIn v ≡ numberAt h i) (test : (e : Bool) → eqb (presetCell h i e) v ≡ t e) where
@@ -407,7 +338,7 @@ module _ (h : Head) (valid : Valid h) (start : planFits h (mandatories h) ≡ tr
 
       cell-with : (s b : ℕ) → b < h .bridges → planned h s b ≡ v → (had h i s && t (early h i s)) ≡ true
       cell-with s b m e =
-          of-positive _ (omega (arith, slot-with s, count-some (h .bridges) (λ a. eqb (planned h s a) v) b m (eqb-yes (planned h s b) v e)))
+          bit-pos _ (omega (arith, slot-with s, count-some (h .bridges) (λ a. eqb (planned h s a) v) b m (eqb-yes (planned h s b) v e)))
 
     planned-mandatory : holding h (planned h) (mandatoryCell (numberAt h i)) ≡ presetAt h i .mandatory
     unfolding needs
@@ -415,9 +346,9 @@ module _ (h : Head) (valid : Valid h) (start : planFits h (mandatories h) ≡ tr
         omega (
           arith,
           holding-with (mandatoryCell (numberAt h i)) (λ e. e) (presetCell-number h valid i l true) (presetCell-mandatory h i),
-          first-of (h .slots) (λ s. had h i s) (presetAt h i .mandatory),
+          count-first (h .slots) (λ s. had h i s) (presetAt h i .mandatory),
           planned-slots,
-          stage-low h start (presetCount h) i,
+          granted-low (premises h start) (optionals h) (presetCount h) i,
           at-mandatories h i,
         )
 
@@ -437,26 +368,22 @@ module _ (h : Head) (valid : Valid h) (start : planFits h (mandatories h) ≡ tr
     planned-first : (r s a b : ℕ) → a < h .bridges → b < h .bridges
         → planned h r a ≡ mandatoryCell (numberAt h i) → planned h s b ≡ optionalCell (numberAt h i) → r < s
     unfolding sum
-    planned-first r s a b la lb p q = go (is (ltb r s))
+    planned-first r s a b la lb p q =
+        lt-of-not-le (λ z.
+        omega (
+          arith,
+          count-below (suc r) (λ t. had h i t) s (omega arith),
+          ap bit (left-of (had h i r) _ in-r),
+          ap bit (left-of (had h i s) _ in-s),
+          lt-of _ (presetAt h i .mandatory) (right-of (had h i r) _ in-r),
+          ge-of _ (presetAt h i .mandatory) (false-of-not (early h i s) (right-of (had h i s) _ in-s)),
+        ))
       where
         in-r : (had h i r && early h i r) ≡ true
         in-r = cell-with (mandatoryCell (numberAt h i)) (λ e. e) (presetCell-number h valid i l true) (presetCell-mandatory h i) r a la p
 
         in-s : (had h i s && not (early h i s)) ≡ true
         in-s = cell-with (optionalCell (numberAt h i)) not (presetCell-number h valid i l false) (presetCell-optional h i) s b lb q
-
-        go : Is (ltb r s) → r < s
-        go (is-true e) = lt-of r s e
-        go (is-false e) =
-            let z : s ≤ r = ge-of r s e in
-            absurd (omega (
-              arith,
-              count-below (suc r) (λ t. had h i t) s (omega arith),
-              ap bit (left-of (had h i r) _ in-r),
-              ap bit (left-of (had h i s) _ in-s),
-              lt-of _ (presetAt h i .mandatory) (right-of (had h i r) _ in-r),
-              ge-of _ (presetAt h i .mandatory) (false-of-not (early h i s) (right-of (had h i s) _ in-s)),
-            ))
 
 -- the table of the plan is a valid plan
 pub planned-valid : {h : Head} → Valid h → planFits h (mandatories h) ≡ true → ValidPlan h (planned h)
@@ -473,7 +400,13 @@ planned-valid {h} valid start =
         exact = planned-mandatory h valid start;
         first = λ i l r s a b lr ls. planned-first h valid start i l r s a b;
         most = λ i l.
-            omega (arith, planned-need h valid start i l, stage-high h start (presetCount h) i, at-mandatories h i, at-optionals h i);
+            omega (
+              arith,
+              planned-need h valid start i l,
+              granted-high (premises h start) (optionals h) (presetCount h) i,
+              at-mandatories h i,
+              at-optionals h i,
+            );
         jobs = omega (arith, count-none 256 (λ n. hasJob h (planned h) n) (λ n l. planned-no-job h valid start n));
         apart = λ n l e. absurd (clash (sym e ∙ planned-no-job h valid start n));
       };
@@ -498,8 +431,7 @@ unfolding needs
 planned-best {h} {u} valid start p r =
     omega (
       arith,
-      granted-best (presetCount h) (h .slots) (planFreeCount h) (planFits h) (plan-fits-is h) (plan-fits-no h) (rank h) (rank-injective h)
-          (mandatories h) (optionals h) (mandatories-long h) start r (r + presetCount h) (omega arith) given
+      granted-best (premises h start) (optionals h) r (r + presetCount h) (omega arith) given
           (wellFormed-criterion h valid u (p .wellFormed))
           (λ i l. omega (arith, at-mandatories h i))
           (λ i l. omega (arith, p .wellFormed .most i l, at-mandatories h i, at-optionals h i)),
@@ -510,7 +442,7 @@ planned-best {h} {u} valid start p r =
             arith,
             at-mandatories h i,
             planned-need h valid start i l,
-            stage-since h start (presetCount h) (r + presetCount h) i (rank-below h i l) (omega arith),
+            granted-since (premises h start) (optionals h) (presetCount h) (r + presetCount h) i (rank-below h i l) (omega arith),
           ))),
     )
   where
@@ -521,11 +453,6 @@ planned-best {h} {u} valid start p r =
     first i n = only (ltb (rank h i) r) n
 
 -- ---- the rule of the grants
-
-tabulate-ext : (n : ℕ) (f g : ℕ → ℕ) → ((i : ℕ) → i < n → f i ≡ g i) → tabulate n f ≡ tabulate n g
-unfolding tabulate
-tabulate-ext zero f g e = refl
-tabulate-ext (suc n) f g e = ap₂ _∷_ (e 0 (omega arith)) (tabulate-ext n (λ i. f (suc i)) (λ i. g (suc i)) (λ i l. e (suc i) (omega arith)))
 
 -- the rule with the test in the place of its meaning
 record TestedRule (h : Head) (gs : List ℕ) : Type 0 where
@@ -563,7 +490,7 @@ module _ (h : Head) (start : planFits h (mandatories h) ≡ true) (i : ℕ) (l :
   turnNeeds g = raised (stage h (rank h i)) i g
 
   turn-long : (g : ℕ) → length (turnNeeds g) ≡ presetCount h
-  turn-long g = length-set (stage h (rank h i)) i (at (stage h (rank h i)) i + g) ∙ stage-long h start (rank h i)
+  turn-long g = length-set (stage h (rank h i)) i (at (stage h (rank h i)) i + g) ∙ granted-long (premises h start) (optionals h) (rank h i)
 
   needsWith-is : (g : ℕ) → needsWith h (grants h) i g ≡ turnNeeds g
   unfolding needs
@@ -578,8 +505,8 @@ module _ (h : Head) (start : planFits h (mandatories h) ≡ true) (i : ℕ) (l :
             arith,
             ap (λ (b : Bool). only b (at (grants h) i)) (ltb-no (rank h i) (rank h i) (le-refl (rank h i))),
             ap (λ (b : Bool). only b g) (eqb-self i),
-            at-raised (stage h (rank h i)) i g (omega (arith, stage-long h start (rank h i))),
-            stage-later h start (rank h i) i (le-refl (rank h i)),
+            at-raised (stage h (rank h i)) i g (omega (arith, granted-long (premises h start) (optionals h) (rank h i))),
+            granted-later (premises h start) (optionals h) (rank h i) i (le-refl (rank h i)),
           )
 
       other : (j : ℕ) → j < presetCount h → eqb j i ≡ false → Is (ltb (rank h j) (rank h i)) → need j ≡ at (turnNeeds g) j
@@ -587,14 +514,15 @@ module _ (h : Head) (start : planFits h (mandatories h) ≡ true) (i : ℕ) (l :
           rw (e, d) (omega (
             arith,
             at-grants h j m,
-            stage-low h start (rank h i) j,
-            stage-since h start (rank h i) (presetCount h) j (lt-of (rank h j) (rank h i) d) (omega (arith, rank-below h i l)),
+            granted-low (premises h start) (optionals h) (rank h i) j,
+            granted-since (premises h start) (optionals h) (rank h i) (presetCount h) j (lt-of (rank h j) (rank h i) d)
+                (omega (arith, rank-below h i l)),
             at-raised-other (stage h (rank h i)) i g j (ne-of j i e),
           ))
       other j m e (is-false d) =
           rw (e, d) (omega (
             arith,
-            stage-later h start (rank h i) j (ge-of (rank h j) (rank h i) d),
+            granted-later (premises h start) (optionals h) (rank h i) j (ge-of (rank h j) (rank h i) d),
             at-raised-other (stage h (rank h i)) i g j (ne-of j i e),
           ))
 
@@ -613,7 +541,7 @@ module _ (h : Head) (start : planFits h (mandatories h) ≡ true) (i : ℕ) (l :
     where
       own : at (turnNeeds a) i ≤ at (turnNeeds b) i
       own =
-          let r : i < length (stage h (rank h i)) = omega (arith, stage-long h start (rank h i)) in
+          let r : i < length (stage h (rank h i)) = omega (arith, granted-long (premises h start) (optionals h) (rank h i)) in
           omega (arith, at-raised (stage h (rank h i)) i a r, at-raised (stage h (rank h i)) i b r)
 
       go : (j : ℕ) → j < presetCount h → Is (eqb j i) → at (turnNeeds a) j ≤ at (turnNeeds b) j
@@ -626,8 +554,8 @@ module _ (h : Head) (start : planFits h (mandatories h) ≡ true) (i : ℕ) (l :
       × ((at (grants h) i ≡ presetAt h i .optional) ⊎ (planFits h (turnNeeds (suc (at (grants h) i))) ≡ false))
   unfolding needs
   turn-grant =
-      let w = stage-most h start (rank h i) i l refl in
-      let settled = stage-since h start (suc (rank h i)) (presetCount h) i (le-refl (suc (rank h i))) (rank-below h i l) in
+      let w = granted-most (premises h start) (optionals h) (rank h i) i l refl in
+      let settled = granted-since (premises h start) (optionals h) (suc (rank h i)) (presetCount h) i (le-refl (suc (rank h i))) (rank-below h i l) in
       let e : w .0 ≡ at (grants h) i = omega (arith, w .1, at-grants h i l, settled) in
       (rw e at (w .2), (rw (e, at-optionals h i) at (w .3)))
 
@@ -645,7 +573,7 @@ unfolding needs grants
 tested-grants {h} start =
     record {
       long = length-tabulate (presetCount h) (λ i. at (needs h) i - at (mandatories h) i);
-      up-to = λ i l. omega (arith, at-grants h i l, stage-high h start (presetCount h) i, at-optionals h i);
+      up-to = λ i l. omega (arith, at-grants h i l, granted-high (premises h start) (optionals h) (presetCount h) i, at-optionals h i);
       fits = λ i l. ap (planFits h) (needsWith-is h start i l (at (grants h) i)) ∙ turn-grant h start i l .0;
       most = λ i l g z e. turn-most h start i l g z (ap (planFits h) (sym (needsWith-is h start i l g)) ∙ e);
     }

@@ -6,13 +6,14 @@ use Prim.Native.Nat.{ℕ, _+_, _≤_, _<_}
 use native.Mathlib.Omega.{arith}
 use mathlib.Core.Path.{_≡_, refl, sym, _∙_, ap}
 use mathlib.Core.Logic.{_↔_}
-use mathlib.Core.Bool.{Bool, true, false, _&&_, _||_}
+use mathlib.Core.Bool.{Bool, true, false, _&&_, _||_, and-true, and-false}
 use mathlib.Core.List.{List}
 use lib.ListN.{length, length-map}
 use Rattle.laws.specs.Sums.{bit, sum, count}
 use Rattle.laws.specs.Placement.{at, largest}
 use Rattle.laws.specs.Eviction.{added, ones, Shortage}
 use Rattle.laws.proofs.Sums.{eq-of, eqb-yes, right-of, count-ext, count-imp}
+use Rattle.laws.proofs.Every.{count-or}
 use Rattle.laws.proofs.Eviction.{searched-best, searched-ones, searched-long, excess-shortage}
 use Rattle.station.specs.Head.{Head, Job, Valid}
 use Rattle.placing.specs.Table.{Cells, cell, WellFormed, isEmpty, isOptional}
@@ -20,7 +21,6 @@ use Rattle.placing.specs.Valid.{usable}
 use Rattle.placing.specs.Call.{Place, evictable, evictionOrder, slotsOf, inSet, emptyFree, emptyCount, lengths, callExcess, evictedSet, callFits}
 use Rattle.placing.specs.Entries.{CallAnswer, callOf}
 use Rattle.placing.proofs.Order.{those, length-those, in-those, set-in-slot, in-set-evictable}
-use Rattle.placing.proofs.Least.{count-or}
 
 -- the cells that a call may use: empty and refinement cells in slots from the clock on
 abbrev pub usableCount : Head → ℕ → Cells → ℕ → ℕ
@@ -44,10 +44,6 @@ module _ (h : Head) (clock : ℕ) (jobs : List Job) (t : Cells) (valid : Valid h
   apart : (s b : ℕ) → emptyFree clock t s b ≡ true → evictable clock t s b ≡ false
   apart s b e =
       ap (λ (v : ℕ). usable clock s && isOptional v) (eq-of (t s b) 0 (right-of (usable clock s) (isEmpty (t s b)) e)) ∙ and-false (usable clock s)
-    where
-      and-false : (b : Bool) → (b && false) ≡ false
-      and-false true = refl
-      and-false false = refl
 
   -- what the order adds to the empty cells of a slot, taken whole, makes all that the call may use there
   all-added : (s : ℕ) → s < h .slots → added (emptyCount h clock t) zs all s ≡ usableCount h clock t s
@@ -58,10 +54,6 @@ module _ (h : Head) (clock : ℕ) (jobs : List Job) (t : Cells) (valid : Valid h
       (count-ext (h .bridges) (λ b. inSet (evictionOrder h clock t) all s b) (λ b. evictable clock t s b)
       (λ b m. in-those h clock t valid formed (λ r a. true) s b l m ∙ and-true (evictable clock t s b)))
       ∙ sym (count-or (h .bridges) (λ b. emptyFree clock t s b) (λ b. evictable clock t s b) (λ b m. apart s b))
-    where
-      and-true : (b : Bool) → (b && true) ≡ b
-      and-true true = refl
-      and-true false = refl
 
   -- The call fits exactly if, for every r, its r longest jobs together do not exceed the capacity for r in the cells that it may use.
   pub fits-by-room : (callFits h clock jobs t ≡ true) ↔ (callExcess h jobs (usableCount h clock t) ≡ 0)

@@ -5,6 +5,7 @@
 -- most once in a slot.
 -- Assumes nothing.
 use Prim.Native.Nat.{ℕ, _≤_, _<_}
+use native.Mathlib.Nat.{lt-of-not-le}
 use native.Mathlib.Omega.{arith}
 use mathlib.Core.Path.{_≡_, refl, sym, _∙_, ap, subst, subst₂}
 use mathlib.Core.Bool.{Bool, true, false, not, _||_, Bool·beq}
@@ -12,13 +13,13 @@ use mathlib.Core.List.{List, [], _∷_}
 use lib.ListN.{getD}
 use lib.Dec.{ltb, leb, eqb}
 use Rattle.laws.specs.Sums.{count, every}
-use Rattle.laws.proofs.Sums.{Is, is-true, is-false, is, lt-of, ge-of, le-of, eq-of, leb-yes, eqb-yes, eqb-no, count-none, count-imp, count-ext}
-use Rattle.laws.proofs.Every.{AllTrue, end, _and_, conjunction, conjunction-at, all-conjunction, not-is-true, false-of-not, implied, implies}
-use Rattle.laws.proofs.Every.{beq-eq, eq-beq, every-all, all-every, count-some, count-once, sum-below, sum-beyond}
+use Rattle.laws.proofs.Sums.{le-of, eq-of, leb-yes, eqb-yes, eqb-no, count-ext, count-imp, count-none}
+use Rattle.laws.proofs.Every.{not-is-true, false-of-not, implied, implies, beq-eq, eq-beq, conjunction, AllTrue, end, _and_, conjunction-at}
+use Rattle.laws.proofs.Every.{all-conjunction, every-all, all-every, count-some, count-once, sum-below, sum-beyond}
 use Rattle.station.specs.Head.{Head, Job, busyAt, presetAt}
-use Rattle.placing.specs.Table.{Cells, Each, WellFormed, holding, kindOf, numberIn, mandatoryCell, optionalCell, callCell, isBusy}
-use Rattle.placing.specs.Table.{isMandatory, isOptional, isCall, presetCount, numberAt, hasPreset, hasJob, jobCount}
-use Rattle.placing.specs.Table.{eachCell, onceIn, mandatoryBelow, wellFormed}
+use Rattle.placing.specs.Table.{Cells, Each, WellFormed, holding, kindOf, numberIn, mandatoryCell, optionalCell, callCell, isBusy, isMandatory}
+use Rattle.placing.specs.Table.{isOptional, isCall, presetCount, numberAt, hasPreset, hasJob, jobCount, eachCell, onceIn, mandatoryBelow}
+use Rattle.placing.specs.Table.{wellFormed}
 use Rattle.placing.specs.Valid.{ValidPlan, ValidCall, Change, jobAt}
 use Rattle.placing.proofs.Cells.{holding-ext}
 
@@ -48,16 +49,13 @@ below-all h t n s l f =
 
 below-lt : (h : Head) (t : Cells) (n s r a : ℕ) → r < h .slots → a < h .bridges → t r a ≡ mandatoryCell n
     → mandatoryBelow h t n s ≡ holding h t (mandatoryCell n) → r < s
-below-lt h t n s r a l m e q = go (is (ltb r s))
-  where
-    go : Is (ltb r s) → r < s
-    go (is-true k) = lt-of r s k
-    go (is-false k) =
-        omega (
-          arith,
-          sum-beyond s (h .slots) (λ x. count (h .bridges) (λ b. eqb (t x b) (mandatoryCell n))) r (ge-of r s k) l,
-          count-some (h .bridges) (λ b. eqb (t r b) (mandatoryCell n)) a m (eqb-yes (t r a) (mandatoryCell n) e),
-        )
+below-lt h t n s r a l m e q =
+    lt-of-not-le (λ k.
+    omega (
+      arith,
+      sum-beyond s (h .slots) (λ x. count (h .bridges) (λ b. eqb (t x b) (mandatoryCell n))) r k l,
+      count-some (h .bridges) (λ b. eqb (t r b) (mandatoryCell n)) a m (eqb-yes (t r a) (mandatoryCell n) e),
+    ))
 
 -- ---- the test and the record
 

@@ -1,14 +1,15 @@
--- The lent table after the cells of the frame were written: its cells, its length, what stands past the frame.
+-- The table after the cells of the frame were written: its cells, its length, what stands past the frame.
+--
+-- In order: a cell's place (`place-below`, `frame-cells`); the cells (`cell-written`); the rest (`written-past`).
 -- Assumes nothing.
-use Prim.Native.Nat.{ℕ, zero, suc, _+_, _*_, _/_, _%_, _≤_, _<_}
-use native.Mathlib.Nat.{mul-le-mul-right, mul-le-mul, suc-mul, le-trans}
+use Prim.Native.Nat.{ℕ, suc, _+_, _*_, _/_, _%_, _≤_, _<_}
+use native.Mathlib.Nat.{mul-le-mul-right, mul-le-mul, suc-mul}
 use native.Mathlib.Omega.{arith}
-use mathlib.Core.Path.{_≡_, refl, sym, _∙_, ap, ap₂}
-use mathlib.Core.List.{List, _++_}
-use lib.ListN.{length, getD, drop, length-append, length-drop, List·getD-append}
+use mathlib.Core.Path.{_≡_, _∙_, ap₂}
+use mathlib.Core.List.{List}
+use lib.ListN.{length, drop, length-append, length-drop, List·getD-append}
 use lib.Seq.{drop-at}
 use lib.Arith.{digits-div, digits-mod}
-use lib.Dec.{lit≤}
 use Rattle.laws.specs.Placement.{tabulate}
 use Rattle.laws.proofs.Placement.{length-tabulate, at-tabulate}
 use Rattle.station.specs.Head.{Head, Valid}
@@ -20,7 +21,7 @@ use Rattle.placing.specs.Claims.{SamePast}
 pub place-below : (n m s b : ℕ) → s < n → b < m → s * m + b < n * m
 place-below n m s b l k = omega (arith, suc-mul s m, mul-le-mul-right {m = suc s} {n = n} m l)
 
--- a frame within the limits has no more cells than the lent table
+-- a frame within the limits has no more cells than the table
 pub frame-cells : (h : Head) → Valid h → h .slots * h .bridges ≤ 512
 frame-cells h v = mul-le-mul (v .slots-high) (v .bridges-high)
 

@@ -1,15 +1,15 @@
 -- A call: which refinement cells it evicts and where its jobs go. Document 01, "What is granted, and where it goes".
 -- Assumes nothing.
-use Prim.Native.Nat.{ℕ, zero, suc, _+_, _-_, _<_}
+use Prim.Native.Nat.{ℕ, zero, suc, _+_, _<_}
 use mathlib.Core.Path.{_≡_}
 use mathlib.Core.Logic.{_⊎_}
-use mathlib.Core.Bool.{Bool, true, false, not, cond, _&&_, _||_}
+use mathlib.Core.Bool.{Bool, false, cond, _&&_, _||_}
 use mathlib.Core.List.{List, [], _∷_, _++_, map}
 use lib.ListN.{length, getD}
-use lib.Dec.{ltb, eqb}
+use lib.Dec.{eqb}
 use Rattle.laws.specs.Sums.{bit, sum, only}
 use Rattle.laws.specs.Placement.{at, excess}
-use Rattle.laws.specs.Eviction.{added, searched, ones}
+use Rattle.laws.specs.Eviction.{added, searched}
 use Rattle.station.specs.Head.{Head, Job}
 use Rattle.placing.specs.Table.{Cells, Each, cells, presetCount, numberAt, numberIn, isEmpty, isOptional, callCell}
 use Rattle.placing.specs.Valid.{usable, jobAt}

@@ -1,14 +1,14 @@
 -- The table: its cells, and when it is well-formed (document 01: a sound table). Document 01, "The table".
 -- Slots and bridges are counted from 0: `cell h t s b` is the paper's slot s + 1, bridge b + 1.
 -- Assumes nothing.
-use Prim.Native.Nat.{ℕ, zero, suc, _+_, _*_, _/_, _%_, _≤_, _<_}
+use Prim.Native.Nat.{ℕ, _+_, _*_, _/_, _%_, _≤_, _<_}
 use mathlib.Core.Path.{_≡_}
 use mathlib.Core.Bool.{Bool, true, false, not, _&&_, _||_, Bool·beq}
 use mathlib.Core.List.{List}
 use lib.ListN.{length, getD}
 use lib.Dec.{ltb, leb, eqb}
 use Rattle.laws.specs.Sums.{sum, count, every}
-use Rattle.station.specs.Head.{Head, Preset, busyAt, presetAt}
+use Rattle.station.specs.Head.{Head, busyAt, presetAt}
 
 -- A table as a function of slot and bridge, and the cells of a lent list: "slot by slot and in each slot bridge by bridge".
 abbrev pub Cells : Type 0

@@ -1,6 +1,6 @@
 -- Valid placements: the meaning of "fits". Document 01, "What is granted, and where it goes" and "What demand 3 speaks of".
 -- Assumes nothing.
-use Prim.Native.Nat.{ℕ, suc, _≤_, _<_}
+use Prim.Native.Nat.{ℕ, suc, _<_}
 use mathlib.Core.Path.{_≡_}
 use mathlib.Core.Bool.{Bool, true, false, not, _&&_, _||_}
 use mathlib.Core.List.{List}

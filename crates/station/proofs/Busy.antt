@@ -7,18 +7,18 @@ use native.Mathlib.Nat.{pow-suc, le-refl, div-one, add-zero}
 use native.Mathlib.Numerals.{one-add}
 use native.Mathlib.Omega.{arith}
 use mathlib.Core.Path.{_≡_, refl, sym, _∙_, ap}
-use mathlib.Core.Bool.{Bool, true, false, cond, _&&_, _||_}
+use mathlib.Core.Bool.{Bool, true, false, cond, _&&_, _||_, and-false, or-false, or-assoc}
 use mathlib.Core.Option.{Option, none, some}
 use mathlib.Core.List.{List, [], _∷_, _++_, map}
 use lib.ListN.{getD}
 use lib.Dec.{eqb, leb}
 use lib.Pow.{pow-mono, shr-shr}
-use Rattle.laws.proofs.Sums.{Is, is, is-true, is-false, le-of, gt-of, eq-of, ne-of, leb-yes, leb-no, eqb-yes, eqb-no}
+use Rattle.laws.proofs.Sums.{Is, is-true, is-false, is, le-of, gt-of, eq-of, ne-of, leb-yes, leb-no, eqb-yes, eqb-no}
 use Rattle.station.specs.Head.{Head, Preset, Valid, taken, busyAt, within}
 use Rattle.station.specs.Form.{Pairs, last, next, Form}
 use Rattle.station.specs.Writing.{maskOf, ordered, firstSlot, startedAt, withSlot, stretches, busyLineOf, busyLines, presetLineOf, formsOf}
 use Rattle.station.specs.Writing.{covers, lineTakes, linesTake}
-use Rattle.station.proofs.Mask.{last-stretch, first-stretch, rest-ordered, Runs, runs, stretches-runs, stretches-zero, stretches-mask, mask-lt}
+use Rattle.station.proofs.Mask.{first-stretch, rest-ordered, last-stretch, stretches-zero, Runs, runs, stretches-runs, stretches-mask, mask-lt}
 
 -- ---- slots in a stretch
 
@@ -45,14 +45,6 @@ within-one s x = within-more s s x (le-refl s) ∙ ap (λ (b : Bool). eqb x s ||
     none-left : Is (leb (suc s) x) → within (suc s) s x ≡ false
     none-left (is-true u) = let l = le-of (suc s) x u in rw (u, leb-no x s (omega arith)) refl
     none-left (is-false u) = rw u refl
-
-or-assoc : (a b c : Bool) → ((a || b) || c) ≡ (a || (b || c))
-or-assoc true b c = refl
-or-assoc false b c = refl
-
-or-false : (a : Bool) → (a || false) ≡ a
-or-false true = refl
-or-false false = refl
 
 covers-below : (lo hi : ℕ) (p : Pairs) (x : ℕ) → ordered lo hi p ≡ true → x < lo → covers p x ≡ false
 unfolding covers
@@ -153,10 +145,6 @@ presets-take (p ∷ ps) b x = presets-take ps b x
 one-takes : (c : ℕ) (o : Option Pairs) (b x : ℕ) → linesTake (busyLineOf c o) b x ≡ (eqb c b && someCovers o x)
 unfolding linesTake
 one-takes c none b x = sym (and-false (eqb c b))
-  where
-    and-false : (a : Bool) → (a && false) ≡ false
-    and-false true = refl
-    and-false false = refl
 one-takes c (some p) b x = or-false (eqb c b && covers p x)
 
 -- the busy lines of later bridges

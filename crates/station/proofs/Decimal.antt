@@ -1,7 +1,7 @@
 -- Laws of decimal numbers: printing and reading are inverse to one another.
 --
--- In order: bytes that are digits (`digit-low`, `digit-high`, `is-digit`); the steps of `digits` (`digits-small`, `digits-step`); the two
--- inverses, `value-digits` and `digits-value`, and `digits-injective`; the digits at the front of a text (`digits-count`, `count-at`,
+-- In order: bytes that are digits (`digit-low`, `digit-high`, `is-digit`, `all-digits`); the steps of `digits` (`digits-small`, `digits-step`); the
+-- two inverses, `value-digits` and `digits-value`, and `digits-injective`; the digits at the front of a text (`digits-count`, `count-at`,
 -- `digits-bytes`, `plain-digits`, `digits-nonempty`); a number read (`number-digits`, `number-had`); how many digits (`digits-length`).
 -- Assumes nothing.
 use Prim.Native.Nat.{ℕ, zero, suc, _+_, _-_, _*_, _/_, _%_, _^_, _≤_, _<_}
@@ -14,8 +14,8 @@ use mathlib.Core.List.{List, [], _∷_, _++_, append-assoc, append-nil}
 use lib.ListN.{length, take, drop, getD, length-append, take-append-drop}
 use lib.Seq.{take-at, drop-at, length-take-le}
 use lib.Dec.{eqb, ltb, leb}
-use Rattle.laws.proofs.Sums.{Is, is, is-true, is-false, clash, both, left-of, right-of}
-use Rattle.laws.proofs.Sums.{lt-of, ge-of, le-of, eq-of, ne-of, ltb-yes, ltb-no, leb-yes, eqb-no, eqb-yes}
+use Rattle.laws.proofs.Sums.{Is, is-true, is-false, is, clash, lt-of, ge-of, le-of, eq-of, ne-of, ltb-yes, leb-yes, ltb-no, eqb-yes, eqb-no, both}
+use Rattle.laws.proofs.Sums.{left-of, right-of}
 use Rattle.laws.proofs.Every.{none-some}
 use Rattle.station.specs.Decimal.{digits, digitsIn, isDigit, digitCount, plain, value, valueFrom}
 use Rattle.station.specs.Form.{number}
@@ -30,6 +30,15 @@ digit-high b e = le-of b 57 (right-of (leb 48 b) (leb b 57) e)
 
 pub is-digit : (b : ℕ) → 48 ≤ b → b ≤ 57 → isDigit b ≡ true
 is-digit b l h = both (leb 48 b) (leb b 57) (leb-yes 48 b l) (leb-yes b 57 h)
+
+-- a list that is digits throughout begins with a digit, and so is the rest
+pub all-digits : (b : ℕ) (l : List ℕ) → digitCount (b ∷ l) ≡ suc (length l) → (isDigit b ≡ true) × (digitCount l ≡ length l)
+unfolding digitCount
+all-digits b l e = go (is (isDigit b))
+  where
+    go : Is (isDigit b) → (isDigit b ≡ true) × (digitCount l ≡ length l)
+    go (is-true d) = let c : suc (digitCount l) ≡ suc (length l) = rw d at e in (d, omega arith)
+    go (is-false d) = absurd (let c : 0 ≡ suc (length l) = rw d at e in omega arith)
 
 -- ---- the steps of `digits`
 
@@ -66,20 +75,14 @@ digits-snoc v d h l =
 digits-valueFrom : (v : ℕ) (ds : List ℕ) → 0 < v → digitCount ds ≡ length ds → digits (valueFrom v ds) ≡ digits v ++ ds
 unfolding digitCount valueFrom
 digits-valueFrom v [] h e = sym (append-nil (digits v))
-digits-valueFrom v (d ∷ ds) h e = go (digits-valueFrom (v * 10 + (d - 48)) ds) (is (isDigit d)) e
-  where
-    go :
-        (0 < v * 10 + (d - 48) → digitCount ds ≡ length ds → digits (valueFrom (v * 10 + (d - 48)) ds) ≡ digits (v * 10 + (d - 48)) ++ ds)
-        → Is (isDigit d) → digitCount (d ∷ ds) ≡ suc (length ds) → digits (valueFrom (v * 10 + (d - 48)) ds) ≡ digits v ++ (d ∷ ds)
-    go ih (is-true t) e =
-        let low = digit-low d t in
-        let high = digit-high d t in
-        let c : suc (digitCount ds) ≡ suc (length ds) = rw t at e in
-        let b : 48 + (d - 48) ≡ d = omega arith in
-        ih (omega arith) (omega arith)
-        ∙ ap (λ (l : List ℕ). l ++ ds) (digits-snoc v (d - 48) h (omega arith))
-        ∙ (rw b (append-assoc (digits v) (d ∷ []) ds))
-    go ih (is-false f) e = absurd (let c : 0 ≡ suc (length ds) = rw f at e in omega arith)
+digits-valueFrom v (d ∷ ds) h e =
+    let t = all-digits d ds e in
+    let low = digit-low d (t .0) in
+    let high = digit-high d (t .0) in
+    let b : 48 + (d - 48) ≡ d = omega arith in
+    digits-valueFrom (v * 10 + (d - 48)) ds (omega arith) (t .1)
+    ∙ ap (λ (l : List ℕ). l ++ ds) (digits-snoc v (d - 48) h (omega arith))
+    ∙ (rw b (append-assoc (digits v) (d ∷ []) ds))
 
 valueFrom-append : (v : ℕ) (a b : List ℕ) → valueFrom v (a ++ b) ≡ valueFrom (valueFrom v a) b
 unfolding valueFrom
@@ -111,8 +114,8 @@ digits-value (b ∷ l) p e = go (left-of (isDigit b) single p) (right-of (isDigi
     single : Bool
     single = not (eqb b 48) || eqb (digitCount l) 0
 
-    counted : isDigit b ≡ true → digitCount l ≡ length l
-    counted d = let c : suc (digitCount l) ≡ suc (length l) = rw d at e in omega arith
+    counted : digitCount l ≡ length l
+    counted = all-digits b l e .1
 
     alone : (m : List ℕ) → length m ≡ 0 → b ≡ 48 → digits (valueFrom (0 * 10 + (b - 48)) m) ≡ b ∷ m
     alone [] z q = rw q (digits-small 0 (omega arith))
@@ -121,14 +124,14 @@ digits-value (b ∷ l) p e = go (left-of (isDigit b) single p) (right-of (isDigi
     go : isDigit b ≡ true → (not (eqb b 48) || eqb (digitCount l) 0) ≡ true → Is (eqb b 48) → digits (valueFrom (0 * 10 + (b - 48)) l) ≡ b ∷ l
     go d q (is-true z) =
         let c : eqb (digitCount l) 0 ≡ true = rw z at q in
-        alone l (omega (arith, counted d, eq-of (digitCount l) 0 c)) (eq-of b 48 z)
+        alone l (omega (arith, counted, eq-of (digitCount l) 0 c)) (eq-of b 48 z)
     go d q (is-false z) =
         let low = digit-low b d in
         let high = digit-high b d in
         let other : b ≡ 48 → ⊥ = ne-of b 48 z in
         let v : 0 * 10 + (b - 48) ≡ b - 48 = omega arith in
         let w : 48 + (b - 48) ≡ b = omega arith in
-        digits-valueFrom (0 * 10 + (b - 48)) l (omega arith) (counted d)
+        digits-valueFrom (0 * 10 + (b - 48)) l (omega arith) (counted)
         ∙ ap (λ (x : List ℕ). x ++ l) (ap digits v ∙ digits-small (b - 48) (omega arith) ∙ ap (λ (x : ℕ). x ∷ []) w)
 
 -- one number for the same digits
@@ -140,12 +143,7 @@ digits-injective m n e = sym (value-digits m) ∙ ap value e ∙ value-digits n
 digitCount-append : (a r : List ℕ) → digitCount a ≡ length a → digitCount (a ++ r) ≡ length a + digitCount r
 unfolding digitCount
 digitCount-append [] r e = omega arith
-digitCount-append (b ∷ a) r e = go (digitCount-append a r) (is (isDigit b)) e
-  where
-    go : (digitCount a ≡ length a → digitCount (a ++ r) ≡ length a + digitCount r) → Is (isDigit b) → digitCount (b ∷ a) ≡ suc (length a)
-        → digitCount (b ∷ (a ++ r)) ≡ suc (length a) + digitCount r
-    go ih (is-true d) e = let c : suc (digitCount a) ≡ suc (length a) = rw d at e in rw d (omega (arith, ih (omega arith)))
-    go ih (is-false d) e = absurd (let c : 0 ≡ suc (length a) = rw d at e in omega arith)
+digitCount-append (b ∷ a) r e = let t = all-digits b a e in rw (t .0) (omega (arith, digitCount-append a r (t .1)))
 
 digit-count : (n : ℕ) → n < 10 → digitCount ((48 + n) ∷ []) ≡ 1
 unfolding digitCount
@@ -174,13 +172,8 @@ digits-count n = digitsIn-count (suc n) n
 pub count-at : (l : List ℕ) → digitCount l ≡ length l → (i : ℕ) → i < length l → isDigit (getD l i 0) ≡ true
 unfolding digitCount
 count-at [] e i h = absurd (omega arith)
-count-at (b ∷ l) e i h = go (λ c j. count-at l c j) (is (isDigit b)) e i h
-  where
-    go : (digitCount l ≡ length l → (i : ℕ) → i < length l → isDigit (getD l i 0) ≡ true) → Is (isDigit b) → digitCount (b ∷ l) ≡ suc (length l)
-        → (i : ℕ) → i < suc (length l) → isDigit (getD (b ∷ l) i 0) ≡ true
-    go ih (is-true d) e zero h = d
-    go ih (is-true d) e (suc i) h = let c : suc (digitCount l) ≡ suc (length l) = rw d at e in ih (omega arith) i (omega arith)
-    go ih (is-false d) e i h = absurd (let c : 0 ≡ suc (length l) = rw d at e in omega arith)
+count-at (b ∷ l) e zero h = all-digits b l e .0
+count-at (b ∷ l) e (suc i) h = count-at l (all-digits b l e .1) i (omega arith)
 
 -- each byte of a number is one of 48 to 57
 pub digits-bytes : (n i : ℕ) → i < length (digits n) → isDigit (getD (digits n) i 0) ≡ true

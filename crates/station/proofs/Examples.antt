@@ -15,8 +15,8 @@ use Rattle.station.specs.Head.{Head, Preset, valid, hasNumber, allInLimi
 use Rattle.station.specs.Refusal.{firstOf, noForm, outOfLimits, outOfPlace, numberUsed, tooMany, textTooLong}
 use Rattle.station.specs.Text.{bytes, lines}
 use Rattle.station.specs.Decimal.{digits, digitsIn, digitCount, plain, valueFrom}
-use Rattle.station.specs.Form.{Form, form, print, brackets, starts, word, number, bracketsIn, readBrackets}
-use Rattle.station.specs.Form.{frameIn, busyIn, presetIn, clockIn, callIn}
+use Rattle.station.specs.Form.{Form, form, print, brackets, starts, word, number, bracketsIn, readBrackets, frameIn, busyIn, presetIn, clockIn}
+use Rattle.station.specs.Form.{callIn}
 use Rattle.station.specs.Writing.{maskOf, ordered, stretches, busyLines, formsOf, textOf}
 use Rattle.station.specs.Reading.{Reading, accepted, refused, headOf, presetOf, readFrom, more, misplaced, outside, used, full}
 

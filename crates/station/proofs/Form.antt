@@ -13,14 +13,13 @@ use mathlib.Core.List.{List, [], _∷_, _++_, map}
 use lib.ListN.{length, take, drop, length-append, length-drop}
 use lib.Seq.{drop-append-seam}
 use lib.Dec.{eqb}
-use Rattle.laws.proofs.Sums.{Is, is, is-true, is-false, clash, eqb-self, eqb-no, eq-of, left-of, right-of}
+use Rattle.laws.proofs.Sums.{Is, is-true, is-false, is, clash, eq-of, eqb-self, eqb-no, left-of, right-of}
 use Rattle.laws.proofs.Every.{none-some}
 use Rattle.station.specs.Text.{bytes, _then_, isLine, isRest, join, lines, Lines, no-lines, line-then}
 use Rattle.station.specs.Decimal.{digits, digitCount, isDigit, plain, value}
-use Rattle.station.specs.Form.{Pairs, last, next, Form, frameLine, busyLine, presetLine, clockLine, callLine, brackets, print}
-use Rattle.station.specs.Form.{starts, word, number, whole, _orElse_, also, made}
-use Rattle.station.specs.Form.{bracketsIn, readBrackets, frameIn, busyIn, presetIn, clockIn, callIn, form}
-use Rattle.station.proofs.Decimal.{number-digits, number-had, digits-count, digit-low}
+use Rattle.station.specs.Form.{Pairs, last, next, Form, frameLine, busyLine, presetLine, clockLine, callLine, brackets, print, starts, word}
+use Rattle.station.specs.Form.{number, whole, _orElse_, also, made, bracketsIn, readBrackets, frameIn, busyIn, presetIn, clockIn, callIn, form}
+use Rattle.station.proofs.Decimal.{digit-low, all-digits, digits-count, number-digits, number-had}
 use Rattle.station.proofs.Text.{isLine-cons, rest-line, lines-of-join}
 
 -- ---- a word read
@@ -219,13 +218,7 @@ digit-rest b d = let low = digit-low b d in eqb-no b 10 (λ q. omega arith)
 count-line : (l r : List ℕ) → digitCount l ≡ length l → isLine r ≡ true → isLine (l ++ r) ≡ true
 unfolding digitCount
 count-line [] r e h = h
-count-line (b ∷ l) r e h = go (is (isDigit b)) (λ c. count-line l r c h) e
-  where
-    go : Is (isDigit b) → (digitCount l ≡ length l → isLine (l ++ r) ≡ true) → digitCount (b ∷ l) ≡ suc (length l) → isLine (b ∷ (l ++ r)) ≡ true
-    go (is-true d) ih e =
-        let c : suc (digitCount l) ≡ suc (length l) = rw d at e in
-        isLine-cons b (l ++ r) (digit-rest b d) (ih (omega arith))
-    go (is-false d) ih e = absurd (let c : 0 ≡ suc (length l) = rw d at e in omega arith)
+count-line (b ∷ l) r e h = let t = all-digits b l e in isLine-cons b (l ++ r) (digit-rest b (t .0)) (count-line l r (t .1) h)
 
 digits-line : (n : ℕ) (r : List ℕ) → isLine r ≡ true → isLine (digits n ++ r) ≡ true
 digits-line n r h = count-line (digits n) r (digits-count n) h

@@ -6,13 +6,13 @@
 use Prim.Native.Nat.{ℕ, zero, suc, _^_, _≤_, _<_}
 use native.Mathlib.Omega.{arith}
 use mathlib.Core.Path.{_≡_, refl}
-use mathlib.Core.Bool.{true, false, not, _&&_}
+use mathlib.Core.Bool.{Bool, true, false, not}
 use mathlib.Core.List.{List, [], _∷_}
 use lib.ListN.{length, getD}
 use lib.Dec.{eqb, ltb, leb}
 use lib.Pow.{pow-pos}
 use Rattle.laws.proofs.Sums.{lt-of, le-of, eq-of, ne-of, ltb-yes, leb-yes, eqb-yes, eqb-no, both, left-of, right-of}
-use Rattle.laws.proofs.Every.{false-of-not, neither-left, neither-right}
+use Rattle.laws.proofs.Every.{false-of-not, neither-left, neither-right, conjunction-at}
 use Rattle.station.specs.Head.{Preset, Head, noPreset, InLimits, Valid, within, inLimits, hasNumber, allInLimits, allDistinct, masksIn, valid}
 
 -- ---- the limits of a preset
@@ -28,18 +28,14 @@ of-within lo hi n l h = both (leb lo n) (leb n hi) (leb-yes lo n l) (leb-yes n h
 
 pub limits-of : (p : Preset) → inLimits p ≡ true → InLimits p
 limits-of p e =
-    let a = within 1 255 (p .number) in
-    let b = leb (p .priority) 9 in
-    let c = leb (p .mandatory) 64 in
-    let d = leb (p .optional) 64 in
-    let abc = left-of (a && b && c) d e in
-    let ab = left-of (a && b) c abc in
+    let part =
+    conjunction-at (within 1 255 (p .number) ∷ leb (p .priority) 9 ∷ leb (p .mandatory) 64 ∷ leb (p .optional) 64 ∷ []) e in
     record {
-      number-low = within-low 1 255 (p .number) (left-of a b ab);
-      number-high = within-high 1 255 (p .number) (left-of a b ab);
-      priority = le-of (p .priority) 9 (right-of a b ab);
-      mandatory = le-of (p .mandatory) 64 (right-of (a && b) c abc);
-      optional = le-of (p .optional) 64 (right-of (a && b && c) d e);
+      number-low = within-low 1 255 (p .number) (part 0);
+      number-high = within-high 1 255 (p .number) (part 0);
+      priority = le-of (p .priority) 9 (part 1);
+      mandatory = le-of (p .mandatory) 64 (part 2);
+      optional = le-of (p .optional) 64 (part 3);
     }
 
 pub of-limits : (p : Preset) → InLimits p → inLimits p ≡ true
@@ -134,29 +130,30 @@ pub record Parts (h : Head) : Type 0 where
   pub limits : allInLimits (h .presets) ≡ true
   pub distinct : allDistinct (h .presets) ≡ true
 
+-- the parts of `valid`, in its order
+abbrev tests : Head → List Bool
+tests h =
+    within 1 64 (h .slots)
+    ∷ within 1 8 (h .bridges)
+    ∷ eqb (length (h .busy)) 8
+    ∷ masksIn (h .bridges) (2 ^ h .slots) (h .busy)
+    ∷ leb (length (h .presets)) 32
+    ∷ allInLimits (h .presets)
+    ∷ allDistinct (h .presets)
+    ∷ []
+
 pub parts : (h : Head) → valid h ≡ true → Parts h
 unfolding valid
 parts h v =
-    let a = within 1 64 (h .slots) in
-    let b = within 1 8 (h .bridges) in
-    let c = eqb (length (h .busy)) 8 in
-    let d = masksIn (h .bridges) (2 ^ h .slots) (h .busy) in
-    let e = leb (length (h .presets)) 32 in
-    let f = allInLimits (h .presets) in
-    let g = allDistinct (h .presets) in
-    let v₆ = left-of (a && b && c && d && e && f) g v in
-    let v₅ = left-of (a && b && c && d && e) f v₆ in
-    let v₄ = left-of (a && b && c && d) e v₅ in
-    let v₃ = left-of (a && b && c) d v₄ in
-    let v₂ = left-of (a && b) c v₃ in
+    let part = conjunction-at (tests h) v in
     record {
-      slots = left-of a b v₂;
-      bridges = right-of a b v₂;
-      masks = eq-of (length (h .busy)) 8 (right-of (a && b) c v₃);
-      busy = right-of (a && b && c) d v₄;
-      number = le-of (length (h .presets)) 32 (right-of (a && b && c && d) e v₅);
-      limits = right-of (a && b && c && d && e) f v₆;
-      distinct = right-of (a && b && c && d && e && f) g v;
+      slots = part 0;
+      bridges = part 1;
+      masks = eq-of (length (h .busy)) 8 (part 2);
+      busy = part 3;
+      number = le-of (length (h .presets)) 32 (part 4);
+      limits = part 5;
+      distinct = part 6;
     }
 
 pub of-parts : (h : Head) → Parts h → valid h ≡ true

@@ -1,4 +1,5 @@
--- The laws of layer 1, by subject: the first cause that holds; decimals, lines, forms; masks and busy cells; the head; reading, writing and both ways; texts computed.
+-- The laws of layer 1, by subject: the first cause that holds; decimals, lines, forms; masks and busy cells; the head; reading, writing and both
+-- ways; texts computed.
 pub mod Refusal
 pub mod Decimal
 pub mod Text

@@ -9,10 +9,11 @@ use native.Mathlib.Omega.{arith}
 use mathlib.Core.Path.{_≡_, refl, sym, _∙_, ap}
 use mathlib.Core.Bool.{true, _&&_}
 use mathlib.Core.Option.{Option, none, some}
+use mathlib.Core.List.{[], _∷_}
 use lib.Dec.{eqb, leb}
 use lib.Pow.{pow-pos, pow-mono}
-use Rattle.laws.proofs.Sums.{Is, is, is-true, is-false, le-of, leb-yes, eq-of, ne-of, eqb-yes, eqb-no, both, left-of, right-of}
-use Rattle.laws.proofs.Every.{none-some}
+use Rattle.laws.proofs.Sums.{Is, is-true, is-false, is, le-of, eq-of, ne-of, leb-yes, eqb-yes, eqb-no, both, left-of, right-of}
+use Rattle.laws.proofs.Every.{none-some, conjunction-at}
 use Rattle.station.specs.Form.{Pairs, last, next}
 use Rattle.station.specs.Writing.{maskOf, ordered, firstSlot, startedAt, withSlot, stretches}
 
@@ -25,11 +26,9 @@ pub record Stretch (lo hi f t : ℕ) : Type 0 where
   pub high : t ≤ hi
 
 stretch-of : (lo hi f t : ℕ) → (leb lo f && leb f t && leb t hi) ≡ true → Stretch lo hi f t
-stretch-of lo hi f t e = record {
-  low = le-of lo f (left-of (leb lo f) (leb f t) (left-of (leb lo f && leb f t) (leb t hi) e));
-  up = le-of f t (right-of (leb lo f) (leb f t) (left-of (leb lo f && leb f t) (leb t hi) e));
-  high = le-of t hi (right-of (leb lo f && leb f t) (leb t hi) e);
-}
+stretch-of lo hi f t e =
+    let part = conjunction-at (leb lo f ∷ leb f t ∷ leb t hi ∷ []) e in
+    record { low = le-of lo f (part 0); up = le-of f t (part 1); high = le-of t hi (part 2) }
 
 of-stretch : (lo hi f t : ℕ) → lo ≤ f → f ≤ t → t ≤ hi → (leb lo f && leb f t && leb t hi) ≡ true
 of-stretch lo hi f t l u h = rw (leb-yes lo f l, leb-yes f t u, leb-yes t hi h) refl

@@ -11,14 +11,15 @@ use mathlib.Core.Option.{Option, none, some}
 use mathlib.Core.List.{List, [], _∷_, _++_, map}
 use lib.ListN.{length}
 use lib.Dec.{ltb}
-use Rattle.laws.proofs.Sums.{Is, is, is-true, is-false, clash, lt-of, ge-of, ltb-yes, ltb-no}
+use Rattle.laws.proofs.Sums.{Is, is-true, is-false, is, clash, lt-of, ge-of, ltb-yes, ltb-no}
 use Rattle.laws.proofs.Every.{none-some}
 use Rattle.station.specs.Refusal.{Refusal, outOfLimits, outOfPlace, numberUsed, tooMany, try, firstOf}
 use Rattle.station.specs.Text.{lines, join}
 use Rattle.station.specs.Form.{Form, frameLine, busyLine, presetLine, clockLine, callLine, print, form}
-use Rattle.station.specs.Reading.{Reading, accepted, refused, SoFar, begin, misplaced, outside, used, full, causes, ends, more}
-use Rattle.station.specs.Reading.{readFrom, headOf}
-use Rattle.station.specs.Reading.{Passes, no-more, one-more, Stops, at-end, at-event, at-no-form, at-fault, Means, too-long, no-text, by-lines}
+use Rattle.station.specs.Reading.{Reading, accepted, refused, SoFar, begin, misplaced, outside, used, full, causes, ends, more, readFrom}
+use Rattle.station.specs.Reading.{headOf, Passes, no-more, one-more, Stops, at-end, at-event, at-no-form, at-fault, Means, too-long, no-text}
+use Rattle.station.specs.Reading.{by-lines}
+use Rattle.station.proofs.Refusal.{first-none}
 use Rattle.station.proofs.Text.{lines-join}
 use Rattle.station.proofs.Form.{form-self, form-had}
 
@@ -31,16 +32,12 @@ pub record NoCause (r : SoFar) (f : Form) : Type 0 where
   pub fits : full r f ≡ false
 
 pub no-cause : (r : SoFar) (f : Form) → firstOf (causes r f) ≡ none → NoCause r f
-unfolding firstOf
-no-cause r f e = go (misplaced r f) (outside r f) (used r f) (full r f) refl refl refl refl e
-  where
-    go : (a b c d : Bool) → misplaced r f ≡ a → outside r f ≡ b → used r f ≡ c → full r f ≡ d
-        → firstOf (try outOfPlace a ∷ try outOfLimits b ∷ try numberUsed c ∷ try tooMany d ∷ []) ≡ none → NoCause r f
-    go true b c d p q u v h = absurd (none-some (sym h))
-    go false true c d p q u v h = absurd (none-some (sym h))
-    go false false true d p q u v h = absurd (none-some (sym h))
-    go false false false true p q u v h = absurd (none-some (sym h))
-    go false false false false p q u v h = record { in-place = p; in-limits = q; unused = u; fits = v }
+no-cause r f e =
+    let three = first-none outOfPlace (misplaced r f) _ e in
+    let two = first-none outOfLimits (outside r f) _ (three .1) in
+    let four = first-none numberUsed (used r f) _ (two .1) in
+    let nine = first-none tooMany (full r f) [] (four .1) in
+    record { in-place = three .0; in-limits = two .0; unused = four .0; fits = nine .0 }
 
 pub of-no-cause : (r : SoFar) (f : Form) → NoCause r f → firstOf (causes r f) ≡ none
 unfolding firstOf
@@ -100,15 +97,15 @@ frame-begins (callLine p) e = absurd (clash (no-cause begin (callLine p) e .in-p
 record Walk (n : ℕ) (r : SoFar) (ls : List (List ℕ)) (x : Reading) : Type 0 where
   passed : List Form
   so-far : SoFar
-  left : List (List ℕ)
-  split : ls ≡ map print passed ++ left
+  rest : List (List ℕ)
+  split : ls ≡ map print passed ++ rest
   passes : Passes r passed so-far
-  stops : Stops (length passed + n) so-far left x
+  stops : Stops (length passed + n) so-far rest x
 
 stopped : (n : ℕ) (r : SoFar) (ls : List (List ℕ)) (x : Reading) → Stops n r ls x → Walk n r ls x
 stopped n r ls x s =
     let z : n ≡ 0 + n = omega arith in
-    record { passed = []; so-far = r; left = ls; split = refl; passes = no-more; stops = rw z at s }
+    record { passed = []; so-far = r; rest = ls; split = refl; passes = no-more; stops = rw z at s }
 
 one-line : (n : ℕ) (r : SoFar) (l : List ℕ) (ls : List (List ℕ)) (f : Form) (x : Reading) → form l ≡ some f → ends r f ≡ false
     → firstOf (causes r f) ≡ none → Walk (suc n) (more r f) ls x → Walk n r (l ∷ ls) x
@@ -117,7 +114,7 @@ one-line n r l ls f x e a c w =
     record {
       passed = f ∷ w .passed;
       so-far = w .so-far;
-      left = w .left;
+      rest = w .rest;
       split = rw (form-had l f e) (ap (λ (k : List (List ℕ)). print f ∷ k) (w .split));
       passes = one-more a c (w .passes);
       stops = rw z at (w .stops);

@@ -61,7 +61,8 @@ pub data Never (r : Refusal) : List (Option Refusal) → Type 0 where
   skip : (c : Refusal) (b : Bool) {cs : List (Option Refusal)} → (numberOf c ≡ numberOf r → ⊥) → Never r cs → Never r (try c b ∷ cs)
 
 -- r comes exactly if none of the causes before holds and its own does
-pub last-cause : {cs : List (Option Refusal)} (r : Refusal) (b : Bool) → Never r cs → firstOf (cs ++ (try r b ∷ [])) ≡ some r → (firstOf cs ≡ none) × (b ≡ true)
+pub last-cause : {cs : List (Option Refusal)} (r : Refusal) (b : Bool) → Never r cs → firstOf (cs ++ (try r b ∷ [])) ≡ some r
+    → (firstOf cs ≡ none) × (b ≡ true)
 unfolding firstOf
 last-cause r b end e = go (first-some r b [] e)
   where

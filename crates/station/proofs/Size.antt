@@ -18,8 +18,8 @@ use Rattle.station.specs.Decimal.{digits}
 use Rattle.station.specs.Form.{Pairs, last, next, Form, frameLine, busyLine, brackets, print}
 use Rattle.station.specs.Writing.{ordered, stretches, busyLineOf, busyLines, presetLineOf, formsOf, textOf}
 use Rattle.station.proofs.Decimal.{digits-length}
-use Rattle.station.proofs.Mask.{last-stretch, first-stretch, rest-ordered, stretches-ordered}
-use Rattle.station.proofs.Head.{parts-valid, limits-of}
+use Rattle.station.proofs.Mask.{first-stretch, rest-ordered, last-stretch, stretches-ordered}
+use Rattle.station.proofs.Head.{limits-of, parts-valid}
 
 -- ---- one line
 
@@ -58,9 +58,6 @@ brackets-size : (lo hi : ℕ) (p : Pairs) → hi < 100 → ordered lo hi p ≡ t
 unfolding brackets bytes
 brackets-size lo hi (last f t) h e =
     let a = last-stretch lo hi f t e in
-    let low : lo ≤ f = a .low in
-    let up : f ≤ t = a .up in
-    let high : t ≤ hi = a .high in
     omega (
       arith,
       length-append (digits f) (bytes " " then digits t then bytes "))\n"),
@@ -70,9 +67,6 @@ brackets-size lo hi (last f t) h e =
     )
 brackets-size lo hi (next f t p) h e =
     let a = first-stretch lo hi f t p e in
-    let low : lo ≤ f = a .low in
-    let up : f ≤ t = a .up in
-    let high : t ≤ hi = a .high in
     omega (
       arith,
       length-append (digits f) (bytes " " then digits t then bytes ") " then brackets p),

@@ -21,11 +21,11 @@ use Rattle.station.specs.Refusal.{firstOf}
 use Rattle.station.specs.Text.{lines, join}
 use Rattle.station.specs.Form.{Pairs, Form, frameLine, busyLine, presetLine, clockLine, callLine, isEvent, print}
 use Rattle.station.specs.Writing.{maskOf, ordered, stretches, busyLineOf, busyLines, presetLineOf, formsOf, textOf}
-use Rattle.station.specs.Reading.{Reading, accepted, refused, headOf, SoFar, begin, presetOf, ends, more}
-use Rattle.station.specs.Reading.{misplaced, outside, used, full, causes}
-use Rattle.station.specs.Reading.{Passes, no-more, one-more, Stops, at-end, at-event, at-no-form, at-fault, Means, too-long, no-text, by-lines}
+use Rattle.station.specs.Reading.{Reading, accepted, refused, headOf, SoFar, begin, presetOf, ends, more, misplaced, outside, used, full}
+use Rattle.station.specs.Reading.{causes, Passes, no-more, one-more, Stops, at-end, at-event, at-no-form, at-fault, Means, too-long, no-text}
+use Rattle.station.specs.Reading.{by-lines}
 use Rattle.station.proofs.Mask.{stretches-zero, stretches-mask, mask-lt}
-use Rattle.station.proofs.Head.{Parts, valid-parts, within-low, within-high, of-masks}
+use Rattle.station.proofs.Head.{within-low, within-high, of-masks, Parts, valid-parts}
 use Rattle.station.proofs.Reading.{NoCause, no-cause, headOf-means}
 
 -- ---- one more preset
@@ -127,10 +127,10 @@ forms-busy : (h : Head) (b : ℕ) (p : Pairs) → 1 ≤ b → b - 1 < length (h 
     → formsOf (record { slots = h .slots; bridges = h .bridges; busy = set (h .busy) (b - 1) (maskOf p); presets = h .presets })
     ≡ formsOf h ++ (busyLine b p ∷ [])
 unfolding formsOf
-forms-busy h b p low room bare z e =
+forms-busy h b p low inside-busy bare z e =
     let at : 1 + (b - 1) ≡ b = omega arith in
     let lines : busyLines 1 (set (h .busy) (b - 1) (maskOf p)) ≡ busyLines 1 (h .busy) ++ (busyLine b p ∷ []) =
-    busyLines-set 1 (h .busy) (b - 1) (maskOf p) p room z e ∙ ap (λ (k : ℕ). busyLines 1 (h .busy) ++ (busyLine k p ∷ [])) at in
+    busyLines-set 1 (h .busy) (b - 1) (maskOf p) p inside-busy z e ∙ ap (λ (k : ℕ). busyLines 1 (h .busy) ++ (busyLine k p ∷ [])) at in
     ap (λ (k : List Form). frameLine (h .slots) (h .bridges) ∷ k)
     (ap (λ (k : List Preset). busyLines 1 (set (h .busy) (b - 1) (maskOf p)) ++ map presetLineOf k) bare
     ∙ append-nil (busyLines 1 (set (h .busy) (b - 1) (maskOf p))) ∙ lines
@@ -156,7 +156,7 @@ good-busy r fs b p g a z w c =
     neither-left (not (r .begun) || ltb 0 (length (h .presets))) (ltb b (r .from)) (c .in-place) in
     let up : r .from ≤ b = ge-of b (r .from) (neither-right (not (r .begun) || ltb 0 (length (h .presets))) (ltb b (r .from)) (c .in-place)) in
     let none-yet : length (h .presets) ≤ 0 = ge-of 0 (length (h .presets)) (neither-right (not (r .begun)) (ltb 0 (length (h .presets))) early) in
-    let room : b - 1 < length (h .busy) = omega (arith, a .masks) in
+    let inside-busy : b - 1 < length (h .busy) = omega (arith, a .masks) in
     under-way {r = more r (busyLine b p)} g
     (record {
       slots = a .slots;
@@ -168,7 +168,7 @@ good-busy r fs b p g a z w c =
       distinct = a .distinct;
     })
     (λ i l. getD-set-other (h .busy) (b - 1) i (maskOf p) 0 (λ q. omega arith) ∙ z i (omega arith))
-    (forms-busy h b p b-low room (no-presets (h .presets) none-yet) (λ j l. z j (omega arith)) (stretches-mask (h .slots) p all stretch)
+    (forms-busy h b p b-low inside-busy (no-presets (h .presets) none-yet) (λ j l. z j (omega arith)) (stretches-mask (h .slots) p all stretch)
     ∙ ap (λ (k : List Form). k ++ (busyLine b p ∷ [])) w)
 
 -- the facts of a preset line that passes

@@ -15,19 +15,19 @@ use lib.ListN.{length, getD, set, replicate, length-append}
 use lib.Seq.{append-snoc, set-at}
 use lib.Dec.{eqb, ltb}
 use lib.Pow.{pow-mono}
-use Rattle.laws.proofs.Sums.{Is, is, is-true, is-false, lt-of, ge-of, ne-of, ltb-no, leb-no, eqb-no, left-of, right-of}
+use Rattle.laws.proofs.Sums.{Is, is-true, is-false, is, lt-of, ge-of, ne-of, ltb-no, leb-no, eqb-no, left-of, right-of}
 use Rattle.laws.proofs.Every.{false-of-not, neither-left, neither-right, none-some}
 use Rattle.station.specs.Head.{Preset, Head, Valid, inLimits, hasNumber, allInLimits, allDistinct}
 use Rattle.station.specs.Form.{Pairs, Form, frameLine, busyLine, print}
 use Rattle.station.specs.Writing.{maskOf, stretches, busyLineOf, busyLines, presetLineOf, formsOf, textOf}
-use Rattle.station.specs.Reading.{accepted, headOf, SoFar, begin, ends, misplaced, outside, used, full, more}
-use Rattle.station.specs.Reading.{Passes, no-more, one-more, at-end, by-lines}
+use Rattle.station.specs.Reading.{accepted, headOf, SoFar, begin, ends, misplaced, outside, used, full, more, Passes, no-more, one-more, at-end}
+use Rattle.station.specs.Reading.{by-lines}
 use Rattle.station.proofs.Form.{lines-prints}
 use Rattle.station.proofs.Mask.{stretches-zero, stretches-ordered, mask-stretches, no-stretches}
-use Rattle.station.proofs.Head.{parts-valid, of-within}
+use Rattle.station.proofs.Head.{of-within, parts-valid}
 use Rattle.station.proofs.Reading.{NoCause, of-no-cause, means-headOf}
-use Rattle.station.proofs.Size.{text-fits}
 use Rattle.station.proofs.Writing.{read-valid}
+use Rattle.station.proofs.Size.{text-fits}
 
 -- the lines fs pass after r and lead to the head h
 record Reaches (r : SoFar) (fs : List Form) (h : Head) : Type 0 where
