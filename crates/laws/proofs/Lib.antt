@@ -8,3 +8,4 @@ pub mod Placement
 pub mod Cells
 pub mod Eviction
 pub mod Grants
+pub mod Stores

@@ -25,12 +25,12 @@ pub record Stretch (lo hi f t : ℕ) : Type 0 where
   pub up : f ≤ t
   pub high : t ≤ hi
 
-stretch-of : (lo hi f t : ℕ) → (leb lo f && leb f t && leb t hi) ≡ true → Stretch lo hi f t
+pub stretch-of : (lo hi f t : ℕ) → (leb lo f && leb f t && leb t hi) ≡ true → Stretch lo hi f t
 stretch-of lo hi f t e =
     let part = conjunction-at (leb lo f ∷ leb f t ∷ leb t hi ∷ []) e in
     record { low = le-of lo f (part 0); up = le-of f t (part 1); high = le-of t hi (part 2) }
 
-of-stretch : (lo hi f t : ℕ) → lo ≤ f → f ≤ t → t ≤ hi → (leb lo f && leb f t && leb t hi) ≡ true
+pub of-stretch : (lo hi f t : ℕ) → lo ≤ f → f ≤ t → t ≤ hi → (leb lo f && leb f t && leb t hi) ≡ true
 of-stretch lo hi f t l u h = rw (leb-yes lo f l, leb-yes f t u, leb-yes t hi h) refl
 
 pub first-stretch : (lo hi f t : ℕ) (p : Pairs) → ordered lo hi (next f t p) ≡ true → Stretch lo hi f t

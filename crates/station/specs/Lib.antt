@@ -1,4 +1,5 @@
--- Layer 1, reading: what a head is, the refusals, the text and its forms.
+-- Layer 1, reading: what a head is, the refusals, the text and its forms, reading and writing a head; then what the code's records stand for, and what its
+-- contracts cite: lines, numbers, forms, brackets and events as they are read, the test of a head record, and what a writer of bytes leaves.
 pub mod Head
 pub mod Refusal
 pub mod Text
@@ -6,3 +7,13 @@ pub mod Decimal
 pub mod Form
 pub mod Writing
 pub mod Reading
+pub mod Types
+pub mod Line
+pub mod Numeral
+pub mod Read
+pub mod Bracket
+pub mod Event
+pub mod Check
+pub mod Wrote
+pub mod Scan
+pub mod WriteHead

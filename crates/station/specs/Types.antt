@@ -1,0 +1,47 @@
+-- What the records and answers of src/types.rt stand for.
+-- Assumes nothing.
+use Prim.Native.Nat.{ℕ}
+use mathlib.Core.Bool.{Bool, _&&_}
+use mathlib.Core.List.{List, map}
+use lib.ListN.{take}
+use lib.Dec.{leb}
+use Rattle.station.specs.Head as head
+use Rattle.station.specs.Refusal as refusal
+use Rattle.station.specs.declared.types.Preset.{Preset}
+use Rattle.station.specs.declared.types.Head.{Head}
+use Rattle.station.specs.declared.types.Refusal.{Refusal}
+use Rattle.station.specs.declared.types.Refusal.the-variants.{NoForm, OutOfLimits, OutOfPlace, NumberUsed, MandatoryNotFeasible, ClockBack, CallNotFeasible, TooShort, TooMany, TextTooLong, NotWellFormed}
+
+-- the cause that an answer names
+abbrev pub refusalIn : Refusal → refusal.Refusal
+refusalIn NoForm = refusal.noForm
+refusalIn OutOfLimits = refusal.outOfLimits
+refusalIn OutOfPlace = refusal.outOfPlace
+refusalIn NumberUsed = refusal.numberUsed
+refusalIn MandatoryNotFeasible = refusal.mandatoryNotFeasible
+refusalIn ClockBack = refusal.clockBack
+refusalIn CallNotFeasible = refusal.callNotFeasible
+refusalIn TooShort = refusal.tooShort
+refusalIn TooMany = refusal.tooMany
+refusalIn TextTooLong = refusal.textTooLong
+refusalIn NotWellFormed = refusal.notWellFormed
+
+-- the preset of a record
+abbrev pub presetIn : Preset → head.Preset
+presetIn p = record { number = p .number; priority = p .priority; mandatory = p .mandatory; optional = p .optional }
+
+-- what stands past the last record: zeros
+abbrev pub noRecord : Preset
+noRecord = record { number = 0; priority = 0; mandatory = 0; optional = 0 }
+
+-- the presets of the first n records, in file order
+abbrev pub presetsIn : ℕ → List Preset → List head.Preset
+presetsIn n ps = map presetIn (take n ps)
+
+-- the head of a record and its list of preset records
+abbrev pub headIn : Head → List Preset → head.Head
+headIn h ps = record { slots = h .slots; bridges = h .bridges; busy = h .busy; presets = presetsIn (h .count) ps }
+
+-- "a head record that no text yields" is one for which this is false
+abbrev pub validRecord : Head → List Preset → Bool
+validRecord h ps = leb (h .count) 32 && head.valid (headIn h ps)

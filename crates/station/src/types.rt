@@ -1,0 +1,39 @@
+// The records and answers that the layers share. What each stands for is in specs/Types.antt.
+
+// A preset line as a record.
+pub struct Preset {
+    pub number: u8,
+    pub priority: u8,
+    pub mandatory: u8,
+    pub optional: u8,
+}
+
+// A job of a call, as read: a number above 65,535 is kept as 65,535.
+pub struct Job {
+    pub number: u16,
+    pub slots: u16,
+}
+
+// The head of a station text without its presets, which stand in a list of 32 records: `count` of them are in use. The busy cells
+// are one mask for each bridge, slot 1 being the lowest bit.
+pub struct Head {
+    pub slots: usize,
+    pub bridges: usize,
+    pub busy: [u64; 8],
+    pub count: usize,
+}
+
+// The causes, in the order of their numbers, 1 to 11.
+pub enum Refusal {
+    NoForm,
+    OutOfLimits,
+    OutOfPlace,
+    NumberUsed,
+    MandatoryNotFeasible,
+    ClockBack,
+    CallNotFeasible,
+    TooShort,
+    TooMany,
+    TextTooLong,
+    NotWellFormed,
+}
