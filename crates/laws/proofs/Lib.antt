@@ -1,5 +1,5 @@
 -- The laws, by subject: sums; tests of every number; lists, element by element; positions in an order; placements (T1, T2); cells of a slot;
--- eviction (T4); grants (T3).
+-- eviction (T4); grants (T3). Then for loops: stores of bytes; the highest need of a job; one number more; arrays filled step by step; capacities step by step.
 pub mod Sums
 pub mod Every
 pub mod Lists
@@ -9,3 +9,8 @@ pub mod Cells
 pub mod Eviction
 pub mod Grants
 pub mod Stores
+pub mod Least
+pub mod More
+pub mod Loops
+pub mod Filled
+pub mod Stepwise

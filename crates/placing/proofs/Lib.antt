@@ -1,5 +1,6 @@
 -- The laws of layer 2, by subject: cells and the well-formed table; what is written; the jobs of a call and the causes; the placing rule and the
--- plan; the eviction order, the least eviction and the table that a call leaves; the theorems; small frames computed.
+-- plan; the eviction order, the least eviction, the table that a call leaves and its count by capacities; the theorems; small frames computed. Then for the code:
+-- the grants; masks, choices, rows and the placed frame; the check of the table; the walk of the eviction search.
 pub mod Cells
 pub mod WellFormed
 pub mod Written
@@ -13,3 +14,17 @@ pub mod Called
 pub mod Room
 pub mod Theorems
 pub mod Examples
+pub mod Granting
+pub mod Granted
+pub mod Mask
+pub mod Filled
+pub mod Chosen
+pub mod Rows
+pub mod Placed
+pub mod PlacedFrame
+pub mod Checking
+pub mod Checked
+pub mod Bridges
+pub mod Evicting
+pub mod Walk
+pub mod Found

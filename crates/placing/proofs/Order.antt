@@ -150,7 +150,7 @@ inSet-all P (more {a = z} {l = zs} p a) (c ∷ d) s b e = go (inSet-all P a d s 
 abbrev Apart : Place → Place → Type 0
 Apart y z = (y .slot ≡ z .slot) → (y .bridge ≡ z .bridge) → ⊥
 
-abbrev Within : ℕ → ℕ → Place → Type 0
+abbrev pub Within : ℕ → ℕ → Place → Type 0
 Within S B z = (z .slot < S) × (z .bridge < B)
 
 -- where no place stands twice and all stand in the frame, a set's weight is the sum over its cells
@@ -311,10 +311,10 @@ module _ (h : Head) (valid : Valid h) where
 -- ---- the eviction order
 
 -- a cell of the frame that the call may evict
-record Listed (h : Head) (clock : ℕ) (t : Cells) (s b : ℕ) : Type 0 where
-  slot-in : s < h .slots
-  bridge-in : b < h .bridges
-  evicts : evictable clock t s b ≡ true
+pub record Listed (h : Head) (clock : ℕ) (t : Cells) (s b : ℕ) : Type 0 where
+  pub slot-in : s < h .slots
+  pub bridge-in : b < h .bridges
+  pub evicts : evictable clock t s b ≡ true
 
 all-one : {P : Place → Type 0} (c : Bool) (z : Place) → (c ≡ true → P z) → All P (cond c (z ∷ []) [])
 all-one true z f = more (f refl) none
@@ -355,7 +355,7 @@ module _ (h : Head) (clock : ℕ) (t : Cells) where
       → ((b : ℕ) → b < h .bridges → hasRank r s b ≡ true → P (record { slot = s; bridge = b })) → All P (inSlot r s)
   all-in-slot r s f = all-downward (h .bridges) (one r s) (λ b m. all-one (hasRank r s b) (record { slot = s; bridge = b }) (f b m))
 
-  order-listed : All (λ z. Listed h clock t (z .slot) (z .bridge)) order
+  pub order-listed : All (λ z. Listed h clock t (z .slot) (z .bridge)) order
   unfolding evictionOrder
   order-listed =
       all-downward (presetCount h) ofRank (λ r k. all-downward (h .slots) (inSlot r) (λ s l. all-in-slot r s (λ b m. listed r s b l m)))

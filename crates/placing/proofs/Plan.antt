@@ -166,7 +166,7 @@ plan-fits-of-valid {h} {u} valid p =
 -- ---- the stages of the grants
 
 -- the needs after the first r ranks
-abbrev stage : Head → ℕ → List ℕ
+abbrev pub stage : Head → ℕ → List ℕ
 stage h r = granted (planFits h) (rank h) (optionals h) (mandatories h) r
 
 -- what the laws of the grants ask for
@@ -174,6 +174,20 @@ premises : (h : Head) → planFits h (mandatories h) ≡ true
     → Premises (presetCount h) (h .slots) (planFreeCount h) (planFits h) (rank h) (mandatories h)
 premises h start =
     record { fits-is = plan-fits-is h; fits-no = plan-fits-no h; injective = rank-injective h; long = mandatories-long h; start = start }
+
+-- what is known of each stage
+module _ (h : Head) (start : planFits h (mandatories h) ≡ true) where
+  pub stage-long : (r : ℕ) → length (stage h r) ≡ presetCount h
+  stage-long = granted-long (premises h start) (optionals h)
+
+  pub stage-fits : (r : ℕ) → planFits h (stage h r) ≡ true
+  stage-fits = granted-fits (premises h start) (optionals h)
+
+  pub stage-high : (r i : ℕ) → at (stage h r) i ≤ at (mandatories h) i + at (optionals h) i
+  stage-high = granted-high (premises h start) (optionals h)
+
+  pub stage-later : (r i : ℕ) → r ≤ rank h i → at (stage h r) i ≡ at (mandatories h) i
+  stage-later = granted-later (premises h start) (optionals h)
 
 -- ---- the planned cells
 
