@@ -78,6 +78,14 @@ ltb-no m n h = not-true (ltb m n) (λ e. let l : m < n = lt-of m n e in omega ar
 pub leb-no : (m n : ℕ) → n < m → leb m n ≡ false
 leb-no m n h = not-true (leb m n) (λ e. let l : m ≤ n = le-of m n e in omega arith)
 
+-- one order is the other turned round and denied
+pub ltb-not : (m n : ℕ) → ltb m n ≡ not (leb n m)
+ltb-not m n = go (is (ltb m n))
+  where
+    go : Is (ltb m n) → ltb m n ≡ not (leb n m)
+    go (is-true e) = e ∙ sym (ap not (leb-no n m (lt-of m n e)))
+    go (is-false e) = e ∙ sym (ap not (leb-yes n m (ge-of m n e)))
+
 pub eqb-yes : (m n : ℕ) → m ≡ n → eqb m n ≡ true
 eqb-yes m n h = rw h (eqb-self n)
 

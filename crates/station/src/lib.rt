@@ -5,5 +5,6 @@ mod numbers; // numbers.rt: decimals of any length, and words
 mod brackets; // brackets.rt: the stretches of a busy line, the jobs of a call
 pub mod forms; // forms.rt: the five forms
 pub mod events; // events.rt: an event line, as far as it alone decides
+pub mod heads; // heads.rt: reading a head
 pub mod check; // check.rt: whether a head record is one that some text yields
 pub mod write; // write.rt: the one text of a head

@@ -1,0 +1,155 @@
+// The frames to try, run: texts of heads, good and damaged, and what the reader says of each.
+//
+// A line `(accepted n b)` gives the number of the head's lines and bytes, followed by the head written again; a line `(refused n c)` the line and the cause's number.
+// What this program writes is compared with the stored output.
+use station::heads::ReadAnswer;
+use station::heads::read_head;
+use station::types::Head;
+use station::types::Preset;
+use station::types::Refusal;
+use station::write::Writing;
+use station::write::write_head;
+
+// The number that document 01 gives a cause.
+fn number_of(cause: Refusal) -> u64 {
+    match cause {
+        Refusal::NoForm => 1,
+        Refusal::OutOfLimits => 2,
+        Refusal::OutOfPlace => 3,
+        Refusal::NumberUsed => 4,
+        Refusal::MandatoryNotFeasible => 5,
+        Refusal::ClockBack => 6,
+        Refusal::CallNotFeasible => 7,
+        Refusal::TooShort => 8,
+        Refusal::TooMany => 9,
+        Refusal::TextTooLong => 10,
+        Refusal::NotWellFormed => 11,
+    }
+}
+
+// Writes `(word a b)` and the end of the line.
+fn line(word: &[u8], a: u64, b: u64) {
+    io::write_all(1, b"(");
+    io::write_all(1, word);
+    io::write_all(1, b" ");
+    io::print_decimal(1, a);
+    io::write_all(1, b" ");
+    io::print_decimal(1, b);
+    io::write_all(1, b")\n");
+}
+
+// Writes the first n bytes of a text to standard output.
+fn write_first(text: &[u8], n: usize) {
+    if n <= text.len() {
+        let part = &text[0..n];
+        io::write_all(1, part);
+    }
+}
+
+// Writes a head again, which must give the bytes that were read.
+fn show_head(head: Head, presets: [Preset; 32]) {
+    let mut out = [0u8; 8192];
+    let written = write_head(head, presets, &mut out);
+    match written {
+        Writing::Written(n) => write_first(&out, n),
+        Writing::Refused(cause) => line(b"not written", 0, number_of(cause)),
+    }
+}
+
+// Reads the head of a text and writes what the reader says.
+fn show(text: &[u8]) {
+    let head = Head {
+        slots: 0,
+        bridges: 0,
+        busy: [0; 8],
+        count: 0,
+    };
+    let presets = [Preset {
+        number: 0,
+        priority: 0,
+        mandatory: 0,
+        optional: 0,
+    }; 32];
+    let read = read_head(text, head, presets);
+    let answer = read.answer;
+    match answer {
+        ReadAnswer::Accepted(lines, bytes) => {
+            line(b"accepted", lines as u64, bytes as u64);
+            let h = read.head;
+            let ps = read.presets;
+            show_head(h, ps);
+        }
+        ReadAnswer::Refused(n, cause) => line(b"refused", n as u64, number_of(cause)),
+    }
+}
+
+// Heads that are read.
+fn good() {
+    show(
+        b"(frame 4 2)\n(busy 2 (2 3))\n(preset 1 0 2 1)\n(preset 2 1 1 2)\n(clock 2)\n(call (9 2))\n",
+    );
+    show(b"(frame 64 8)\n(busy 1 (1 64))\n(busy 8 (1 1) (3 3) (64 64))\n(preset 255 9 64 64)\n");
+    show(b"(frame 1 1)\n");
+    show(b"(frame 1 1)\n(clock 0)\n");
+}
+
+// Line 1.
+fn first_lines() {
+    show(b"");
+    show(b"\n");
+    show(b"(frame 4 2)");
+    show(b"(clock 1)\n");
+    show(b"(preset 1 0 2 1)\n");
+    show(b"(busy 1 (1 1))\n");
+    show(b"(frame 18446744073709551618 2)\n");
+    show(b"(frame 65 2)\n");
+    show(b"(frame 0 2)\n");
+    show(b"(frame 4 9)\n");
+    show(b"(frame 04 2)\n");
+    show(b"(frame  4 2)\n");
+    show(b"(frame 4 2)\r\n");
+    show(b"(Frame 4 2)\n");
+}
+
+// Later lines.
+fn later_lines() {
+    show(b"(frame 4 2)\n\n");
+    show(b"(frame 4 2)\n(frame 4 2)\n");
+    show(b"(frame 4 2)\n(busy 1)\n");
+    show(b"(frame 4 2)\n(busy 0 (1 1))\n");
+    show(b"(frame 4 2)\n(busy 3 (1 1))\n");
+    show(b"(frame 4 2)\n(busy 1 (3 2))\n");
+    show(b"(frame 4 2)\n(busy 1 (1 2) (3 4))\n");
+    show(b"(frame 4 2)\n(busy 1 (1 5))\n");
+    show(b"(frame 4 2)\n(busy 2 (1 1))\n(busy 2 (3 3))\n");
+    show(b"(frame 4 2)\n(preset 1 0 1 1)\n(busy 1 (1 1))\n");
+    show(b"(frame 4 2)\n(preset 1 0 1 1)\n(preset 1 0 1 1)\n");
+    show(b"(frame 4 2)\n(preset 1 10 1 1)\n(preset 1 0 1 1)\n");
+    show(b"(frame 4 2)\n(preset 256 0 1 1)\n");
+    show(b"(frame 4 2)\n(preset 1 0 65 1)\n");
+    show(b"(frame 4 2)\n(preset 1 0 1 1)\n(clock 1");
+}
+
+// A 33rd preset.
+fn many_presets() {
+    show(
+        b"(frame 1 1)\n(preset 1 0 0 0)\n(preset 2 0 0 0)\n(preset 3 0 0 0)\n(preset 4 0 0 0)\n(preset 5 0 0 0)\n(preset 6 0 0 0)\n(preset 7 0 0 0)\n(preset 8 0 0 0)\n(preset 9 0 0 0)\n(preset 10 0 0 0)\n(preset 11 0 0 0)\n(preset 12 0 0 0)\n(preset 13 0 0 0)\n(preset 14 0 0 0)\n(preset 15 0 0 0)\n(preset 16 0 0 0)\n(preset 17 0 0 0)\n(preset 18 0 0 0)\n(preset 19 0 0 0)\n(preset 20 0 0 0)\n(preset 21 0 0 0)\n(preset 22 0 0 0)\n(preset 23 0 0 0)\n(preset 24 0 0 0)\n(preset 25 0 0 0)\n(preset 26 0 0 0)\n(preset 27 0 0 0)\n(preset 28 0 0 0)\n(preset 29 0 0 0)\n(preset 30 0 0 0)\n(preset 31 0 0 0)\n(preset 32 0 0 0)\n(preset 33 0 0 0)\n",
+    );
+}
+
+// The longest text that is read, and one byte more; a text of zeros.
+fn long_texts() {
+    let ends = [10u8; 32769];
+    show(&ends[..32768]);
+    show(&ends);
+    let zeros = [0u8; 64];
+    show(&zeros);
+}
+
+fn main() {
+    good();
+    first_lines();
+    later_lines();
+    many_presets();
+    long_texts();
+}
