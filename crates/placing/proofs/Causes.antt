@@ -1,12 +1,12 @@
 -- The causes tried on a running frame and on a call, read off as facts: what holds where none of them does, and back.
 --
--- In order: 8 and the head record's 2 (`long-and-valid`, `no-record-cause`); with 11 (`running-of`, `of-running`); 2, 4 and 9 of a call
+-- In order: a cause that holds (`met`); 8 and the head record's 2 (`long-and-valid`, `no-record-cause`); with 11 (`running-of`, `of-running`); 2, 4 and 9 of a call
 -- (`jobs-inside`, `good-of`).
 -- Assumes nothing.
 use Prim.Native.Nat.{ℕ, suc, _+_, _≤_, _<_}
 use mathlib.Core.Path.{_≡_, _∙_, sym}
 use mathlib.Core.Bool.{Bool, true, false, not, _&&_}
-use mathlib.Core.Option.{none, Option}
+use mathlib.Core.Option.{none, some, Option}
 use mathlib.Core.List.{List, [], _∷_}
 use lib.ListN.{length}
 use lib.Dec.{ltb, eqb}
@@ -23,6 +23,11 @@ use Rattle.placing.specs.Entries.{frameCauses, frameAtFault, jobCauses, 
 use Rattle.placing.specs.Claims.{Running}
 use Rattle.placing.proofs.WellFormed.{wellFormed-of, of-wellFormed}
 use Rattle.placing.proofs.Good.{Good}
+
+-- a cause that holds is the first
+pub met : (r : Refusal) (b : Bool) (cs : List (Option Refusal)) → b ≡ true → firstOf (try r b ∷ cs) ≡ some r
+unfolding firstOf
+met r b cs e = rw e
 
 -- ---- 8 and the head record's 2
 

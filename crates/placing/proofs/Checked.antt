@@ -482,7 +482,7 @@ module _ (js : List record-job.Job) (long : length js ≡ 8) (n : ℕ) (few : n 
   pub jobs-length : length (jobsIn n js) ≡ n
   jobs-length = length-map (take n js) jobIn ∙ length-take-le n js (omega (arith, long))
 
-  job-at : (i : ℕ) → i < n → jobAt (jobsIn n js) i ≡ jobIn (jobRecord js i)
+  pub job-at : (i : ℕ) → i < n → jobAt (jobsIn n js) i ≡ jobIn (jobRecord js i)
   job-at i l =
       List·getD-map jobIn (take n js) i (record { number = 0; slots = 0 }) ∙ ap jobIn (getD-take n js i (record { number = 0; slots = 0 }) l)
 

@@ -1,6 +1,6 @@
 -- The laws of layer 2, by subject: cells and the well-formed table; what is written; the jobs of a call and the causes; the placing rule and the
--- plan; the eviction order, the least eviction, the table that a call leaves and its count by capacities; the theorems; small frames computed. Then for the code:
--- the grants; masks, choices, rows and the placed frame; the check of the table; the walk of the eviction search.
+-- plan; the eviction order, the least eviction and the table that a call leaves; the theorems; small frames computed;
+-- then the laws that the code's proofs cite, function by function, and those of its entries plan and call.
 pub mod Cells
 pub mod WellFormed
 pub mod Written
@@ -28,3 +28,5 @@ pub mod Bridges
 pub mod Evicting
 pub mod Walk
 pub mod Found
+pub mod Planning
+pub mod Calling

@@ -1,5 +1,5 @@
--- Layer 2, placing: the table, what a valid plan and a valid call are, the rule, plan and call, the two entries, and what is claimed of them; then
--- what the contracts of the code cite: masks, grants, the placing rule as the code calls it, the jobs of a call, the check of the table, the eviction search.
+-- Layer 2, placing: the table, what a valid plan and a valid call are, the rule, plan and call, the two entries, and what is claimed of them;
+-- then what the code's functions are held to.
 pub mod Table
 pub mod Valid
 pub mod Plan
@@ -12,3 +12,5 @@ pub mod Code
 pub mod CallJobs
 pub mod Checking
 pub mod Evict
+pub mod Planning
+pub mod Calling

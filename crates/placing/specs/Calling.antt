@@ -1,0 +1,68 @@
+-- What the entry `call` of the code is held to: the outcome of a call for a head record, a clock, job records and a lent table. Document 01, "Causes".
+-- Assumes nothing.
+use Prim.Native.Nat.{ℕ, _-_}
+use mathlib.Core.Path.{_≡_}
+use mathlib.Core.Bool.{cond}
+use mathlib.Core.Option.{Option, none, some}
+use mathlib.Core.List.{List, [], _∷_, _++_}
+use lib.ListN.{replicate}
+use Rattle.laws.specs.Eviction.{ones}
+use Rattle.station.specs.Head.{Head, Job}
+use Rattle.station.specs.Refusal.{Refusal, notWellFormed, callNotFeasible, try, firstOf}
+use Rattle.station.specs.declared.types.Job as record-of-job
+use Rattle.station.specs.declared.types.Preset as record-of-preset
+use Rattle.station.specs.declared.types.Head as record-of-head
+use Rattle.station.specs.Types.{headIn, refusalIn}
+use Rattle.placing.specs.declared.call_entry.Cause as cause
+use Rattle.placing.specs.declared.call_entry.Cause.the-variants.{Met, Passed}
+use Rattle.placing.specs.declared.call_entry.CallAnswer as reply
+use Rattle.placing.specs.declared.call_entry.CallAnswer.the-variants.{Taken, Refused}
+use Rattle.placing.specs.Table.{cell}
+use Rattle.placing.specs.Valid.{noJob}
+use Rattle.placing.specs.Call.{evictedSet, callFits, called}
+use Rattle.placing.specs.CallJobs.{jobsIn}
+use Rattle.placing.specs.Entries.{written, frameAtFault, CallAnswer, taken, refused, CallOutcome, callOf}
+use Rattle.placing.specs.Planning.{causesOf}
+
+-- what trying some causes gave
+abbrev pub causeIn : cause.Cause → Option Refusal
+causeIn (Met r) = some (refusalIn r)
+causeIn Passed = none
+
+-- what an answer of the code stands for
+abbrev pub takenIn : reply.CallAnswer → CallAnswer
+takenIn (Taken n) = taken n
+takenIn (Refused r) = refused (refusalIn r)
+
+-- The causes tried of a running frame: those of the table and the head record alone, then "a table that is not sound, or a clock outside 1 to S + 1".
+abbrev pub frameCausesOf : record-of-head.Head → List record-of-preset.Preset → ℕ → List ℕ → List (Option Refusal)
+frameCausesOf head ps clock t = causesOf head ps t ++ (try notWellFormed (frameAtFault (headIn head ps) clock t) ∷ [])
+
+-- The jobs of a call that says it has n of them: the first n of eight records; past the eighth no job, so that "a ninth job in a call" is met.
+unfoldable pub callJobs : ℕ → List record-of-job.Job → List Job
+callJobs n js = jobsIn n js ++ replicate (n - 8) noJob
+
+-- The outcome of a call for a head record and its preset records: where no cause of the record alone holds, that of the head they stand for.
+unfoldable pub callMeant : record-of-head.Head → List record-of-preset.Preset → ℕ → List Job → List ℕ → CallOutcome
+callMeant head ps clock jobs t =
+    elim (firstOf (causesOf head ps t)) [
+      | none ↦ callOf (headIn head ps) clock jobs t
+      | some r ↦ record { answer = refused r; table = t }
+    ]
+
+-- The outcome of a call that meets none of the causes before 7: "a call that does not fit", or the evicted cells and the table that `callOf` gives.
+unfoldable pub carriedOut : Head → ℕ → List Job → List ℕ → CallOutcome
+carriedOut h clock jobs t =
+    cond (callFits h clock jobs (cell h t))
+    (record { answer = taken (ones (evictedSet h clock jobs (cell h t))); table = written h (called h clock jobs (cell h t)) t })
+    (record { answer = refused callNotFeasible; table = t })
+
+-- what the carrying out answers and leaves
+pub record CarriedOut (h : Head) (clock : ℕ) (jobs : List Job) (t u : List ℕ) (r : reply.CallAnswer) : Type 0 where
+  pub answer : takenIn r ≡ carriedOut h clock jobs t .answer
+  pub table : u ≡ carriedOut h clock jobs t .table
+
+-- What `call` answers and leaves: the answer and the table are those of the outcome.
+pub record CallDone (head : record-of-head.Head) (ps : List record-of-preset.Preset) (clock : ℕ) (jobs : List Job) (t u : List ℕ) (r : reply.CallAnswer) : Type 0 where
+  pub answer : takenIn r ≡ callMeant head ps clock jobs t .answer
+  pub table : u ≡ callMeant head ps clock jobs t .table
