@@ -64,8 +64,18 @@ text-ends text t = go (is (ltb 32768 (length text))) (is (ltb (length t) 512))
     go (is-false e) (is-true f) = rw (e, f, wholeOf) (too-short (ge-of 32768 (length text) e) (lt-of (length t) 512 f))
     go (is-false e) (is-false f) = rw (e, f, wholeOf) (with-head (ge-of 32768 (length text) e) (ge-of (length t) 512 f) (headOf text) refl)
 
--- a text that ran has run its lines from the plan
-ran-is : (text t : List ℕ) (h : Head) (n : ℕ) (g : List ℕ) (r : Run) → wholeOf text t ≡ ran h n g r
+-- a text that ran has its plan, and has run its lines from it
+pub ran-granted : (text t : List ℕ) (h : Head) (n : ℕ) (g : List ℕ) (r : Run) → wholeOf text t ≡ ran h n g r → planOf h t .answer ≡ PlanAnswer.granted g
+ran-granted text t h n g r e = go (wholeOf text t) (text-ends text t) e
+  where
+    go : (w : Whole) → Ends text t w → w ≡ ran h n g r → planOf h t .answer ≡ PlanAnswer.granted g
+    go _ (too-long p) q = cc
+    go _ (too-short p s) q = cc
+    go _ (head-refused p s m) q = cc
+    go _ (is-not-planned p m s) q = cc
+    go _ (is-planned p m a v) q = cc
+
+pub ran-is : (text t : List ℕ) (h : Head) (n : ℕ) (g : List ℕ) (r : Run) → wholeOf text t ≡ ran h n g r
     → r ≡ runOf h (startOf (planOf h t .table)) (eventsOf text n)
 ran-is text t h n g r e = go (wholeOf text t) (text-ends text t) e
   where

@@ -27,8 +27,9 @@ use Rattle.placing.specs.Entries.{written, frameCauses, jobsOutside, jobsUsed, 
 use Rattle.placing.specs.Claims.{Running}
 use Rattle.placing.proofs.Causes.{of-running}
 use Rattle.placing.proofs.Theorems.{call-claim}
-use Rattle.frame.specs.Event.{Event, line, clock, call, Asked, setClock, place, fault, asked, askedByForm, Answer, now, taken, refused, State}
+use Rattle.frame.specs.Event.{Event, line, clock, call, Asked, setClock, place, fault, asked, askedByForm, now, taken, refused, State}
 use Rattle.frame.specs.Event.{Outcome, ownCauses, askedCauses, eventCauses, carriedOut, comesTo, eventOf}
+use Rattle.frame.specs.Event.{answerOf}
 use Rattle.frame.specs.Demands.{EventIs, stopped, clockSet, placed}
 
 -- ---- the cases of an event
@@ -60,10 +61,7 @@ clock-range h st t e = true-of-not _ (first-none outOfLimits (not (within 1 (suc
 
 -- ---- a call as an event
 
-abbrev pub answerOf : CallAnswer → Answer
-answerOf (CallAnswer.taken n) = taken n
-answerOf (CallAnswer.refused r) = refused r
-
+-- what a call of the layer below comes to as an event: it leaves the clock
 abbrev pub outcomeOf : CallOutcome → ℕ → Outcome
 outcomeOf o c = record { answer = answerOf (o .answer); after = record { table = o .table; clock = c } }
 

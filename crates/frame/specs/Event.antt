@@ -11,7 +11,7 @@ use Rattle.station.specs.Refusal.{Refusal, noForm, outOfLimits, outOfPlace, clo
 use Rattle.station.specs.Form.{Form, frameLine, busyLine, presetLine, clockLine, callLine, jobsOf, form}
 use Rattle.placing.specs.Table.{cell}
 use Rattle.placing.specs.Call.{evictedSet, called}
-use Rattle.placing.specs.Entries.{written, frameCauses, callCauses}
+use Rattle.placing.specs.Entries.{written, frameCauses, callCauses, CallAnswer}
 
 -- "events of every kind (here clocks and calls) .. and faulty lines": a line of whatever bytes, its end included, or a clock or a call handed over.
 pub data Event : Type 0 where
@@ -24,6 +24,11 @@ pub data Answer : Type 0 where
   now : ℕ → Answer
   taken : ℕ → Answer
   refused : Refusal → Answer
+
+-- the answer to a call of the layer below, as that to an event
+abbrev pub answerOf : CallAnswer → Answer
+answerOf (CallAnswer.taken n) = taken n
+answerOf (CallAnswer.refused r) = refused r
 
 -- the lent table and the clock: what the running frame keeps beside its head
 pub record State : Type 0 where

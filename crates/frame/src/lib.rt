@@ -1,1 +1,2 @@
-// Layer 3, the running frame. Its functions come with the code; the definitions that they are held to are in specs/.
+// Layer 3, the running frame: the answers. What they stand for, and every definition of the layer, is in specs/, and the demands are proved in proofs/; the code is in the crates frame_*.
+pub mod types; // types.rt: the answers

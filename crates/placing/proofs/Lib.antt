@@ -1,6 +1,5 @@
--- The laws of layer 2, by subject: cells and the well-formed table; what is written; the jobs of a call and the causes; the placing rule and the
--- plan; the eviction order, the least eviction and the table that a call leaves; the theorems; small frames computed;
--- then the laws that the code's proofs cite, function by function, and those of its entries plan and call.
+-- The laws of layer 2, by subject: cells and the well-formed table; what is written; the jobs of a call and the causes; the placing rule and the plan; the
+-- eviction order, the least eviction and the table that a call leaves; the theorems; small frames computed.
 pub mod Cells
 pub mod WellFormed
 pub mod Written
@@ -14,19 +13,4 @@ pub mod Called
 pub mod Room
 pub mod Theorems
 pub mod Examples
-pub mod Granting
-pub mod Granted
-pub mod Mask
-pub mod Filled
-pub mod Chosen
-pub mod Rows
-pub mod Placed
-pub mod PlacedFrame
-pub mod Checking
-pub mod Checked
-pub mod Bridges
-pub mod Evicting
-pub mod Walk
-pub mod Found
-pub mod Planning
-pub mod Calling
+pub mod Bounds

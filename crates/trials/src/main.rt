@@ -1,14 +1,15 @@
-// The frames to try, run: texts of heads, good and damaged, and what the reader says of each.
+// The frames to try, run: texts of heads, good and damaged, and what the reader says of each; then whole texts and their listings.
 //
 // A line `(accepted n b)` gives the number of the head's lines and bytes, followed by the head written again; a line `(refused n c)` the line and the cause's number.
-// What this program writes is compared with the stored output.
-use station::heads::ReadAnswer;
-use station::heads::read_head;
+// A listing follows a line `(listing)`. What this program writes is compared with the stored output.
+use frame_text::whole::write_listing;
 use station::types::Head;
 use station::types::Preset;
 use station::types::Refusal;
-use station::write::Writing;
-use station::write::write_head;
+use station_heads::heads::ReadAnswer;
+use station_heads::heads::read_head;
+use station_write::write::Writing;
+use station_write::write::write_head;
 
 // The number that document 01 gives a cause.
 fn number_of(cause: Refusal) -> u64 {
@@ -146,10 +147,55 @@ fn long_texts() {
     show(&zeros);
 }
 
+// Runs a whole text and writes its listing.
+fn run(text: &[u8]) {
+    let mut table = [0u16; 512];
+    let mut out = [0u8; 8192];
+    let n = write_listing(text, &mut table, &mut out);
+    io::write_all(1, b"(listing)\n");
+    write_first(&out, n);
+}
+
+// The clock: the same again, back, past the end; a call when every slot has gone by.
+fn clocks() {
+    run(
+        b"(frame 4 1)\n(clock 3)\n(clock 3)\n(clock 2)\n(clock 0)\n(clock 5)\n(clock 6)\n(call (1 1))\n",
+    );
+}
+
+// No text, no presets, and a call with a number twice.
+fn small_texts() {
+    run(b"");
+    run(b"(frame 2 1)\n");
+    run(b"(frame 4 1)\n(call (5 1) (5 1))\n");
+}
+
+// Lines at fault after an event: no form, a head's line, limits, no byte 10. Each is answered, and the next one is heard.
+fn faulty_lines() {
+    run(
+        b"(frame 2 2)\n(preset 7 0 1 1)\n(clock 1)\n\n(frame 2 2)\n(busy 1 (1 1))\n(call)\n(call (1 0))\n(call (256 1))\n(call (1 65))\n(call (1 1) (2 1) (3 1) (4 1) (5 1) (6 1) (7 1) (8 1) (9 1))\n(call (7 1))\n(call (1 2))\n(call (1 1))\n(call (2 1)",
+    );
+}
+
+// Whom a call costs: the worse preset, and the latest slot of one preset.
+fn costs() {
+    run(
+        b"(frame 3 1)\n(preset 1 0 0 1)\n(preset 2 9 0 2)\n(call (3 1))\n(call (4 1))\n(call (5 1))\n(call (6 1))\n",
+    );
+    run(
+        b"(frame 4 2)\n(busy 2 (2 3))\n(preset 1 0 2 1)\n(preset 2 1 1 2)\n(clock 2)\n(call (9 2))\n(call (10 1))\n(call (11 1))\n",
+    );
+    run(b"(frame 2 2)\n(preset 1 0 3 0)\n(clock 1)\n");
+}
+
 fn main() {
     good();
     first_lines();
     later_lines();
     many_presets();
     long_texts();
+    clocks();
+    small_texts();
+    faulty_lines();
+    costs();
 }

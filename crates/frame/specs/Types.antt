@@ -1,0 +1,12 @@
+-- What the answers of src/types.rt stand for.
+-- Assumes nothing.
+use Rattle.station.specs.Types.{refusalIn}
+use Rattle.frame.specs.declared.types.Answer as reply
+use Rattle.frame.specs.declared.types.Answer.the-variants.{Now, Taken, Refused}
+use Rattle.frame.specs.Event.{Answer, now, taken, refused}
+
+-- the answer that a value of the code stands for
+abbrev pub answerIn : reply.Answer → Answer
+answerIn (Now t) = now t
+answerIn (Taken n) = taken n
+answerIn (Refused r) = refused (refusalIn r)

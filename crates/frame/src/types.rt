@@ -1,0 +1,15 @@
+// The answers of the running frame. What each stands for is in specs/Types.antt and specs/Running.antt.
+use station::types::Refusal;
+
+// The answer to one event: the new clock, the number of optional cells that a call evicts, or the cause of its refusal.
+pub enum Answer {
+    Now(usize),
+    Taken(usize),
+    Refused(Refusal),
+}
+
+// What one event comes to beside the table: its answer, and the clock afterwards.
+pub struct Outcome {
+    pub answer: Answer,
+    pub clock: usize,
+}

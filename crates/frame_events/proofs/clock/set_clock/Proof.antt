@@ -1,0 +1,39 @@
+-- `clock::set_clock` meets its contract: a law for each answer. Assumes nothing.
+use mathlib.Core.Path.{refl}
+use borrow.Author.Needs.{needs}
+use Rattle.station.specs.Types.{headIn}
+use Rattle.frame.specs.Event.{Event}
+use Rattle.frame_events.proofs.Running.{frame-free, frame-passes, frame-refused, event-done}
+use Rattle.frame_events.proofs.clock.set_clock.Statement.{statement}
+use Rattle.frame_events.proofs.clock.set_clock.Tie as tie
+
+frame-cause-requires : tie.Need-frame-cause-requires
+frame-cause-requires c κs = search needs
+
+enum-known-r : tie.Need-enum-known-r
+enum-known-r c = search needs
+
+returns : tie.Need-returns
+returns c =
+    let f = c .before .before .before in
+    let a = f .before .before .args in
+    frame-refused (a .head) (a .presets) (a .clock) (a .table .now) (Event.clock (a .t)) (c .before .r .given .0 .0) (f .frame-cause .ensures) (c .before .r .given .1)
+
+enum-told : tie.Need-enum-told
+enum-told c = search needs
+
+asked-clock-requires : tie.Need-asked-clock-requires
+asked-clock-requires c κs = search needs
+
+returns-2 : tie.Need-returns-2
+returns-2 c =
+    let f = c .before .before .before in
+    let a = f .before .before .args in
+    let free = frame-free (a .head) (a .presets) (a .clock) (a .table .now) (f .frame-cause .ensures) (c .before .enum-told .given .1) in
+    event-done (a .head) (a .presets) (a .clock) (a .table .now) (Event.clock (a .t)) free
+    (c .asked-clock .ensures (headIn (a .head) (a .presets)) (a .table .now) refl (frame-passes (a .head) (a .presets) (a .clock) (a .table .now) free))
+
+pub set-clock-spec : {M : Type 1} → statement M
+set-clock-spec =
+    tie.close
+    (tie.spec frame-cause-requires enum-known-r returns enum-told asked-clock-requires returns-2)

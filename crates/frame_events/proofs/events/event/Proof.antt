@@ -1,0 +1,70 @@
+-- `events::event` meets its contract: a law for each answer, the frame afterwards by `done-running`, and the claim by `demand-3`. Assumes nothing.
+use mathlib.Core.Path.{_≡_}
+use mathlib.Core.Option.{none}
+use mathlib.Core.List.{[], _∷_}
+use borrow.Author.Needs.{needs}
+use Rattle.station.specs.Refusal.{firstOf}
+use Rattle.station.specs.Types.{headIn}
+use Rattle.placing_check.specs.Causes.{frameCausesOf}
+use Rattle.frame.specs.Event.{Event}
+use Rattle.frame_events.specs.Running.{stateOf}
+use Rattle.frame.proofs.Demands.{demand-3}
+use Rattle.frame_events.proofs.Running.{frame-free, frame-refused, event-done, done-running}
+use Rattle.frame_events.proofs.events.event.Statement.{statement}
+use Rattle.frame_events.proofs.events.event.Tie as tie
+
+-- no cause of the frame is met
+free : (c : tie.After-enum-told)
+    → let a = c .before .before .before .before .before .before .args in
+    firstOf (frameCausesOf (a .head) (a .presets) (a .clock) (a .table .now)) ≡ none
+free c =
+    let f = c .before .before in
+    let a = f .before .before .before .before .args in
+    frame-free (a .head) (a .presets) (a .clock) (a .table .now) (f .frame-cause .ensures) (c .enum-told .given .1)
+
+frame-cause-requires : tie.Need-frame-cause-requires
+frame-cause-requires c κs = search needs
+
+enum-known-r : tie.Need-enum-known-r
+enum-known-r c = search needs
+
+same-length : tie.Need-same-length
+same-length c = search needs
+
+returns : tie.Need-returns
+returns c =
+    let f = c .before .before .before in
+    let a = f .before .before .before .before .args in
+    let e = Event.line (a .line .now) in
+    let done = frame-refused (a .head) (a .presets) (a .clock) (a .table .now) e (c .before .r .given .0 .0) (f .frame-cause .ensures) (c .before .r .given .1) in
+    (done, (done-running (a .head) (a .presets) (a .clock) (a .table .now) e done, demand-3 (headIn (a .head) (a .presets)) (stateOf (a .table .now) (a .clock)) (e ∷ [])))
+
+enum-told : tie.Need-enum-told
+enum-told c = search needs
+
+asked-event-requires : tie.Need-asked-event-requires
+asked-event-requires c κs = search needs
+
+same-length-2 : tie.Need-same-length-2
+same-length-2 c = search needs
+
+returns-2 : tie.Need-returns-2
+returns-2 c =
+    let n = c .before .before .before .before in
+    let a = n .before .before .before .before .before .before .args in
+    let e = Event.line (a .line .now) in
+    let done = event-done (a .head) (a .presets) (a .clock) (a .table .now) e (free n) (c .before .before .asked-event .ensures (free n)) in
+    (done, (done-running (a .head) (a .presets) (a .clock) (a .table .now) e done, demand-3 (headIn (a .head) (a .presets)) (stateOf (a .table .now) (a .clock)) (e ∷ [])))
+
+pub event-spec : {M : Type 1} → statement M
+event-spec =
+    tie.close
+    (tie.spec
+    frame-cause-requires
+    enum-known-r
+    same-length
+    returns
+    enum-told
+    asked-event-requires
+    same-length-2
+    returns-2)

@@ -1,0 +1,89 @@
+// What an event asks for, on a frame that meets none of the causes 8, a head record's 2, and 11: the causes of the event itself, and then it is carried out.
+use frame::types::Answer;
+use frame::types::Outcome;
+use placing_entries::call_entry::CallAnswer;
+use placing_entries::call_entry::call;
+use station::types::Head;
+use station::types::Preset;
+use station::types::Refusal;
+use station_forms::events::Event;
+use station_forms::events::read_event;
+ghost use mathlib.Core.Path.{_≡_};
+ghost use mathlib.Core.Option.{none};
+ghost use Rattle.station.specs.Refusal.{firstOf};
+ghost use Rattle.placing_check.specs.Causes.{frameCausesOf};
+ghost use Rattle.placing_entries.specs.Calling.{takenIn};
+ghost use Rattle.frame.specs.Types.{answerIn};
+ghost use Rattle.frame.specs.Event.{answerOf};
+ghost use Rattle.frame_events.specs.Running.{ClockDone, LineDone};
+
+// A clock that is asked for on a frame of so many slots: 2 where it is outside 1 to S + 1, 6 where it is below the present one, else it is the new clock.
+pub fn asked_clock(slots: usize, clock: usize, to: usize) -> Outcome
+    ensures { λ r. ⌜ ClockDone slots clock to r ⌝ }
+{
+    if to < 1 {
+        return Outcome {
+            answer: Answer::Refused(Refusal::OutOfLimits),
+            clock,
+        };
+    }
+    if slots < to - 1 {
+        return Outcome {
+            answer: Answer::Refused(Refusal::OutOfLimits),
+            clock,
+        };
+    }
+    if to < clock {
+        return Outcome {
+            answer: Answer::Refused(Refusal::ClockBack),
+            clock,
+        };
+    }
+    Outcome {
+        answer: Answer::Now(to),
+        clock: to,
+    }
+}
+
+// The outcome of a call: its answer, and the clock as it is.
+fn call_outcome(answer: CallAnswer, clock: usize) -> Outcome
+    ensures { λ r. ⌜ (answerIn (r .answer) ≡ answerOf (takenIn answer)) × (r .clock ≡ clock) ⌝ }
+{
+    match answer {
+        CallAnswer::Taken(n) => Outcome {
+            answer: Answer::Taken(n),
+            clock,
+        },
+        CallAnswer::Refused(r) => Outcome {
+            answer: Answer::Refused(r),
+            clock,
+        },
+    }
+}
+
+// An event line on a frame that meets none of the causes: its clock is set, its call placed, or its fault handed back. Nothing of the frame is looked at for a clock
+// or a faulty line. It is a part of `event` and of the loop over a text's lines, which have tried these causes.
+pub fn asked_event(
+    head: Head,
+    presets: [Preset; 32],
+    table: &mut [u16],
+    clock: usize,
+    line: &[u8],
+) -> Outcome
+    ensures { λ r. ⌜ (firstOf (frameCausesOf head presets clock (now (table .entry))) ≡ none → LineDone head presets (now (table .entry)) clock (now (line .entry)) (now (table .exit)) r) ⌝ }
+{
+    let read = read_event(line);
+    let event = read.event;
+    let jobs = read.jobs;
+    match event {
+        Event::SetClock(t) => asked_clock(head.slots, clock, t as usize),
+        Event::Place(n) => {
+            let answer = call(head, presets, table, clock, jobs, n);
+            call_outcome(answer, clock)
+        }
+        Event::Fault(cause) => Outcome {
+            answer: Answer::Refused(cause),
+            clock,
+        },
+    }
+}

@@ -1,0 +1,2 @@
+-- The laws that the listing's code cites.
+pub mod SlotLines

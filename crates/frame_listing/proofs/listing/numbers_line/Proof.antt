@@ -1,0 +1,37 @@
+-- `listing::numbers_line` meets its contract. Assumes nothing.
+use mathlib.Core.List.{append-assoc}
+use Rattle.station.specs.Text.{bytes}
+use Rattle.station_output.proofs.Wrote.{wrote-then}
+use borrow.Author.Needs.{needs}
+use Rattle.frame_listing.proofs.listing.numbers_line.Statement.{statement}
+use Rattle.frame_listing.proofs.listing.numbers_line.Tie as tie
+
+word-requires : tie.Need-word-requires
+word-requires c κs = search needs
+
+two-numbers-requires : tie.Need-two-numbers-requires
+two-numbers-requires c κs = search needs
+
+slice-aggregate-word : tie.Need-slice-aggregate-word
+slice-aggregate-word c = search needs
+
+word-requires-2 : tie.Need-word-requires-2
+word-requires-2 c κs = search needs
+
+same-length : tie.Need-same-length
+same-length c = search needs
+
+returns : tie.Need-returns
+unfolding bytes
+returns c = simp append-assoc at (wrote-then (c .before .before .before .before .before .before .before .before .before .before .before .word .ensures) (wrote-then (c .before .before .before .before .before .before .before .two-numbers .ensures) (c .before .before .word2 .ensures)))
+
+pub numbers-line-spec : {M : Type 1} → statement M
+numbers-line-spec =
+    tie.close
+    (tie.spec
+    word-requires
+    two-numbers-requires
+    slice-aggregate-word
+    word-requires-2
+    same-length
+    returns)

@@ -1,0 +1,2 @@
+-- What the listing's code is held to: the lines of slots.
+pub mod SlotLines

@@ -1,0 +1,82 @@
+-- `text::run_lines` meets its contract. The invariant is `AtEvent`: the lines that are left, run from here on, come to what the whole run comes to, and their
+-- answers are what is left to be written. The measure is what is left of the text. Assumes nothing.
+use Prim.Native.Nat.{_-_}
+use native.Mathlib.Omega.{arith}
+use lib.ListN.{length}
+use borrow.Author.Needs.{needs}
+use Rattle.frame_text.proofs.Lines.{AtEvent, at-first, at-free, line-inside, line-bytes, at-next, at-end}
+use Rattle.frame_text.proofs.text.run_lines.Statement.{statement}
+use Rattle.frame_text.proofs.text.run_lines.Tie as tie
+
+abbrev Inv-loop : tie.InvT-loop
+Inv-loop text from first head presets table₀ out₀ place at₀ n₀ clock₀ next₀ table out at n clock next =
+    AtEvent head presets text from first table₀ out₀ place at n clock next table out
+
+abbrev μ-loop : tie.MeasureT-loop
+μ-loop text from first head presets table₀ out₀ place at₀ n₀ clock₀ next₀ table out at n clock next =
+    length text - at
+
+loop-holds : tie.Need-loop-holds Inv-loop μ-loop
+loop-holds c =
+    let s = c .before .before .before in
+    let a = s .args in
+    at-first (a .head) (a .presets) (a .text .now) (a .from) (a .first) (a .table .now) (a .out .now) (a .place) (s .pre)
+
+line-at-requires : tie.Need-line-at-requires Inv-loop μ-loop
+line-at-requires c κs = search needs
+
+asked-event-requires : tie.Need-asked-event-requires Inv-loop μ-loop
+asked-event-requires c κs = search needs
+
+add-n : tie.Need-add-n Inv-loop μ-loop
+add-n c =
+    let i = c .before .before .before .before .before .before .loop .inv in
+    omega (arith, i .few, i .inside, i .short)
+
+answer-line-requires : tie.Need-answer-line-requires Inv-loop μ-loop
+answer-line-requires c κs = search needs
+
+add-at : tie.Need-add-at Inv-loop μ-loop
+add-at c =
+    let x = c .before .before .before .before .before .before .before .before in
+    let i = x .before .before .loop .inv in
+    omega (arith, line-inside i (x .before .loop-test .taken) (x .line-at .ensures), i .short)
+
+loop-less : tie.Need-loop-less Inv-loop μ-loop
+loop-less c =
+    let x = c .before .before .before .before .before .before .before .before in
+    let i = x .before .before .loop .inv in
+    omega (arith, line-bytes i (x .before .loop-test .taken) (x .line-at .ensures), x .before .loop-test .taken)
+
+loop-again : tie.Need-loop-again Inv-loop μ-loop
+loop-again c =
+    let e = c .before .before .before .before .before .before in
+    let x = e .before .before in
+    at-next (x .before .before .loop .inv) (x .before .loop-test .taken) (x .line-at .ensures) (e .asked-event .ensures (at-free (x .before .before .loop .inv))) (c .before .before .answer-line .ensures)
+
+same-length : tie.Need-same-length Inv-loop μ-loop
+same-length c = c .before .loop .inv .size
+
+same-length-2 : tie.Need-same-length-2 Inv-loop μ-loop
+same-length-2 c = c .before .loop .inv .output .size
+
+returns : tie.Need-returns Inv-loop μ-loop
+returns c = at-end (c .before .loop .inv) (c .loop-test .left)
+
+pub run-lines-spec : {M : Type 1} → statement M
+run-lines-spec =
+    tie.close
+    (tie.spec
+    Inv-loop
+    μ-loop
+    loop-holds
+    line-at-requires
+    asked-event-requires
+    add-n
+    answer-line-requires
+    add-at
+    loop-less
+    loop-again
+    same-length
+    same-length-2
+    returns)

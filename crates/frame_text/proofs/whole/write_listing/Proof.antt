@@ -1,0 +1,63 @@
+-- `whole::write_listing` meets its contract: the listing of a text that ran stands there already, and the one line of a refusal is written. Assumes nothing.
+use borrow.Author.Needs.{needs}
+use Rattle.frame_text.specs.Whole.{wholeBeside}
+use Rattle.frame_text.proofs.WholeText.{listed-ran, listed-refused}
+use Rattle.frame_text.proofs.ListingSize.{listing-whole}
+use Rattle.frame_text.proofs.whole.write_listing.Statement.{statement}
+use Rattle.frame_text.proofs.whole.write_listing.Tie as tie
+
+run-text-requires : tie.Need-run-text-requires
+run-text-requires c κs = search needs
+
+enum-known-ended : tie.Need-enum-known-ended
+enum-known-ended c = search needs
+
+enum-known-ended-2 : tie.Need-enum-known-ended-2
+enum-known-ended-2 c = search needs
+
+refused-line-requires : tie.Need-refused-line-requires
+refused-line-requires c κs = search needs
+
+same-length : tie.Need-same-length
+same-length c = search needs
+
+same-length-2 : tie.Need-same-length-2
+same-length-2 c = search needs
+
+returns : tie.Need-returns
+returns c =
+    let e = c .before in
+    let t = e .before .before .before .before .before .before in
+    let a = t .before .before .before .before .before .before .args in
+    let done = listed-ran (wholeBeside (a .text .now) (a .table .now) (a .out .now)) (t .run-text .ensures .0) (e .ended .given .1) in
+    (done, listing-whole (a .text .now) (a .table .now) (done .1))
+
+same-length-3 : tie.Need-same-length-3
+same-length-3 c = search needs
+
+same-length-4 : tie.Need-same-length-4
+same-length-4 c = search needs
+
+returns-2 : tie.Need-returns-2
+returns-2 c =
+    let l = c .before .before in
+    let e = l .before .before .before in
+    let t = e .before .before .before .before .before .before in
+    let a = t .before .before .before .before .before .before .args in
+    let done = listed-refused (wholeBeside (a .text .now) (a .table .now) (a .out .now)) (t .run-text .ensures .0) (e .ended2 .given .1) (l .refused-line .ensures) in
+    (done, listing-whole (a .text .now) (a .table .now) (done .1))
+
+pub write-listing-spec : {M : Type 1} → statement M
+write-listing-spec =
+    tie.close
+    (tie.spec
+    run-text-requires
+    enum-known-ended
+    enum-known-ended-2
+    refused-line-requires
+    same-length
+    same-length-2
+    returns
+    same-length-3
+    same-length-4
+    returns-2)

@@ -1,0 +1,142 @@
+// The entries on a whole text: the head, its plan, then every line as an event, and the listing of it all.
+use crate::text::run_lines;
+use frame_listing::listing::granted_lines;
+use frame_listing::listing::refused_line;
+use frame_listing::listing::slot_lines;
+use placing_entries::plan_entry::PlanAnswer;
+use placing_entries::plan_entry::plan;
+use station::types::Head;
+use station::types::Preset;
+use station::types::Refusal;
+use station_heads::heads::ReadAnswer;
+use station_heads::heads::read_head;
+ghost use mathlib.Core.Path.{_≡_};
+ghost use Prim.Native.Nat.{_≤_};
+ghost use lib.ListN.{length};
+ghost use Rattle.frame.specs.Text.{wholeOf};
+ghost use Rattle.frame_text.specs.Whole.{refusedRun, HeadStart, Leaves, TextDone, TextClaim, Listed, ListedWhole};
+
+// How a text ends: the number of bytes of its listing in the output, or the line and the cause of the one refusal.
+pub enum Ended {
+    Ran(usize),
+    Refused(usize, Refusal),
+}
+
+// What a text leaves beside the table and the output: its end, the head with its presets, and the clock.
+pub struct TextRun {
+    pub ended: Ended,
+    pub head: Head,
+    pub presets: [Preset; 32],
+    pub clock: usize,
+}
+
+// A refusal, with the head, the presets and the clock that it leaves.
+fn refused(line: usize, cause: Refusal, head: Head, presets: [Preset; 32], clock: usize) -> TextRun
+    ensures { λ r. ⌜ r ≡ refusedRun line cause head presets clock ⌝ }
+{
+    TextRun {
+        ended: Ended::Refused(line, cause),
+        head,
+        presets,
+        clock,
+    }
+}
+
+// A head that was read, `bytes` long and of `lines` lines: its plan, then the lines after it, and the listing. 5 leaves all but the head as it was.
+fn run_head(
+    text: &[u8],
+    bytes: usize,
+    lines: usize,
+    head: Head,
+    presets: [Preset; 32],
+    table: &mut [u16],
+    clock: usize,
+    out: &mut [u8],
+) -> TextRun
+    requires { ⌜ HeadStart head presets (now text) bytes lines (now table) ⌝ }
+    ensures { λ r. ⌜ Leaves (wholeOf (now (text .entry)) (now (table .entry))) head presets (now (table .entry)) clock (now (out .entry)) (now (table .exit)) (now (out .exit)) r ⌝ }
+{
+    let planned = plan(head, presets, table);
+    let answer = planned.answer;
+    let grants = planned.grants;
+    if let PlanAnswer::Refused(cause) = answer {
+        return refused(lines, cause, head, presets, clock);
+    }
+    let granted = granted_lines(out, 0, presets, grants, head.count);
+    let ran = run_lines(text, bytes, lines, head, presets, table, out, granted);
+    let end = slot_lines(out, ran.place, head.slots, head.bridges, table);
+    TextRun {
+        ended: Ended::Ran(end),
+        head,
+        presets,
+        clock: ran.clock,
+    }
+}
+
+// Runs a whole text: 10 for more than 32,768 bytes, 8 for an output below 8,192 bytes or a table below 512 cells, then the head's causes, then 5; else every
+// line after the head is answered, and the listing stands at the start of the output, as far as it has room for it. A refusal leaves table, clock and output
+// as they were; the head is the one handed in, and with 5 the one read.
+pub fn run_text(
+    text: &[u8],
+    head: Head,
+    presets: [Preset; 32],
+    table: &mut [u16],
+    clock: usize,
+    out: &mut [u8],
+) -> TextRun
+    ensures done { λ r. ⌜ TextDone (now (text .entry)) head presets (now (table .entry)) clock (now (out .entry)) (now (table .exit)) (now (out .exit)) r ⌝ }
+    ensures claim { λ _. ⌜ TextClaim (now (text .entry)) (now (table .entry)) (now (out .entry)) ⌝ }
+{
+    if 32768 < text.len() {
+        return refused(0, Refusal::TextTooLong, head, presets, clock);
+    }
+    if out.len() < 8192 {
+        return refused(0, Refusal::TooShort, head, presets, clock);
+    }
+    if table.len() < 512 {
+        return refused(0, Refusal::TooShort, head, presets, clock);
+    }
+    let read = read_head(text, head, presets);
+    let answer = read.answer;
+    let found = read.head;
+    let records = read.presets;
+    match answer {
+        ReadAnswer::Refused(line, cause) => refused(line, cause, found, records, clock),
+        ReadAnswer::Accepted(lines, bytes) => run_head(
+            text,
+            bytes,
+            lines,
+            found,
+            records,
+            table,
+            clock,
+            out,
+        ),
+    }
+}
+
+// Writes the listing of a whole text at the start of the output, as far as it has room for it, the one line of a refusal too. Answers how many bytes it is.
+// An output of 655,360 bytes has room for every listing.
+pub fn write_listing(text: &[u8], table: &mut [u16], out: &mut [u8]) -> usize
+    ensures done { λ n. ⌜ Listed (now (text .entry)) (now (table .entry)) (now (out .entry)) (now (table .exit)) (now (out .exit)) n ⌝ }
+    ensures whole { λ n. ⌜ (655360 ≤ length (now (out .entry)) → ListedWhole (now (text .entry)) (now (table .entry)) (now (out .exit)) n) ⌝ }
+{
+    let head = Head {
+        slots: 0,
+        bridges: 0,
+        busy: [0; 8],
+        count: 0,
+    };
+    let presets = [Preset {
+        number: 0,
+        priority: 0,
+        mandatory: 0,
+        optional: 0,
+    }; 32];
+    let run = run_text(text, head, presets, table, 1, out);
+    let ended = run.ended;
+    match ended {
+        Ended::Ran(n) => n,
+        Ended::Refused(line, cause) => refused_line(out, 0, line, cause),
+    }
+}

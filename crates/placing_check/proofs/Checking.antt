@@ -1,0 +1,211 @@
+-- Laws of the definitions of specs/Checking.antt, as the functions of src/check.rt cite them.
+--
+-- In order: counts by value (`counted`), then those of a table's cells; a number new in its slot; places and rows of the frame; valid head records,
+-- the presets and the counts of their numbers; jobs within their limits, numbers that are used. That the whole check is the test `wellFormed` is in
+-- Checked.antt.
+-- Assumes nothing.
+use Prim.Native.Nat.{ℕ, zero, suc, _+_, _*_, _≤_, _<_}
+use native.Mathlib.Nat.{mul-le-mul, mul-le-mul-left, suc-mul}
+use native.Mathlib.Numerals.{add-one}
+use native.Mathlib.Omega.{arith}
+use mathlib.Core.Path.{_≡_, refl, sym, _∙_, ap, ap₂}
+use mathlib.Core.Bool.{Bool, true, false, not, _&&_, _||_}
+use mathlib.Core.List.{List, map}
+use lib.ListN.{length, take, getD, List·getD-map, length-map, replicate, length-set, length-replicate, getD-replicate, List·getD-eq-default}
+use lib.Seq.{length-take-le, getD-take, getD-set-same, getD-set-other, set-out}
+use lib.Dec.{eqb, ltb, leb}
+use Rattle.laws.specs.Sums.{bit, sum, count}
+use Rattle.laws.proofs.Sums.{Is, is-true, is-false, is, lt-of, ge-of, le-of, eq-of, ne-of, ltb-yes, ltb-no, leb-yes, leb-no, eqb-yes, eqb-no}
+use Rattle.laws.proofs.Sums.{both, left-of, right-of, count-le}
+use Rattle.station.specs.declared.types.Preset as record-types
+use Rattle.station.specs.declared.types.Head as record-head
+use Rattle.station.proofs.Head.{valid-of}
+use Rattle.station.specs.Types.{presetIn, headIn, validRecord}
+use Rattle.station.specs.Head.{Preset, Job, Valid, noPreset, valid, within}
+use Rattle.placing.proofs.Written.{place-below}
+use Rattle.laws.proofs.Loops.{fails-left, fails-right}
+use Rattle.laws.proofs.Every.{not-is-true, or-left, or-right, all-every}
+use Rattle.placing.specs.Table.{numberIn, mandatoryCell, optionalCell, presetCount}
+use Rattle.placing_check.specs.Checking.{bump, counted, tally, numbered, differs, isNew, isMet, hasCall, jobWithin, usedBy}
+
+-- ---- counts by value
+
+module _ (m : ℕ) (f : ℕ → ℕ) where
+  pub counted-length : (n : ℕ) → length (counted m f n) ≡ m
+  unfolding counted
+  counted-length zero = length-replicate m 0
+  counted-length (suc n) = length-set (counted m f n) (f n) (getD (counted m f n) (f n) 0 + 1) ∙ counted-length n
+
+  pub counted-at : (v : ℕ) → v < m → (n : ℕ) → getD (counted m f n) v 0 ≡ count n (λ i. eqb (f i) v)
+  unfolding counted sum
+  counted-at v l zero = getD-replicate m v 0 0 l
+  counted-at v l (suc n) = go (is (eqb (f n) v)) (counted-at v l n)
+    where
+      c : List ℕ
+      c = counted m f n
+
+      go : Is (eqb (f n) v) → getD c v 0 ≡ count n (λ i. eqb (f i) v) → getD (bump c (f n)) v 0 ≡ count n (λ i. eqb (f i) v) + bit (eqb (f n) v)
+      go (is-true e) ih =
+          let q : f n ≡ v = eq-of (f n) v e in
+          let at : getD (bump c (f n)) v 0 ≡ getD c v 0 + 1 =
+          rw q (getD-set-same c v (getD c v 0 + 1) 0 (omega (arith, counted-length n))) in
+          omega (arith, at, ih, ap bit e)
+      go (is-false e) ih =
+          omega (
+            arith,
+            getD-set-other c (f n) v (getD c (f n) 0 + 1) 0 (λ q. ne-of (f n) v e (sym q)),
+            ih,
+            ap bit e,
+          )
+
+  pub counted-le : (v n : ℕ) → getD (counted m f n) v 0 ≤ n
+  counted-le v n = go (is (ltb v m))
+    where
+      go : Is (ltb v m) → getD (counted m f n) v 0 ≤ n
+      go (is-true l) = omega (arith, counted-at v (lt-of v m l) n, count-le n (λ i. eqb (f i) v))
+      go (is-false l) =
+          omega (arith, List·getD-eq-default (counted m f n) 0 {n = v} (omega (arith, ge-of v m l, counted-length n)))
+
+  pub counted-none : counted m f 0 ≡ replicate m 0
+  unfolding counted
+  counted-none = refl
+
+  pub counted-more : (n : ℕ) → counted m f (n + 1) ≡ bump (counted m f n) (f n)
+  unfolding counted
+  counted-more n = rw (add-one n) refl
+
+  pub counted-skip : (n : ℕ) → m ≤ f n → counted m f (n + 1) ≡ counted m f n
+  counted-skip n l = counted-more n ∙ set-out (counted m f n) (f n) (getD (counted m f n) (f n) 0 + 1) (omega (arith, counted-length n))
+
+-- the counts of a table's cells
+module _ (t : List ℕ) where
+  pub tally-at : (v : ℕ) → v < 1280 → (n : ℕ) → getD (tally t n) v 0 ≡ count n (λ i. eqb (getD t i 0) v)
+  unfolding tally
+  tally-at v l n = counted-at 1280 (λ i. getD t i 0) v l n
+
+  pub tally-le : (v n : ℕ) → getD (tally t n) v 0 ≤ n
+  unfolding tally
+  tally-le v n = counted-le 1280 (λ i. getD t i 0) v n
+
+  pub tally-none : tally t 0 ≡ replicate 1280 0
+  unfolding tally
+  tally-none = counted-none 1280 (λ i. getD t i 0)
+
+  pub tally-more : (n : ℕ) → tally t (n + 1) ≡ bump (tally t n) (getD t n 0)
+  unfolding tally
+  tally-more n = counted-more 1280 (λ i. getD t i 0) n
+
+  pub tally-skip : (n : ℕ) → 1280 ≤ getD t n 0 → tally t (n + 1) ≡ tally t n
+  unfolding tally
+  tally-skip n l = counted-skip 1280 (λ i. getD t i 0) n l
+
+-- ---- a slot
+
+module _ (t : List ℕ) (start n a : ℕ) where
+  pub differs-zero : n ≡ 0 → differs t start n a ≡ true
+  differs-zero z = or-right (not (eqb (numberIn (getD t (start + a) 0)) n)) (eqb n 0) (eqb-yes n 0 z)
+
+  pub differs-yes : (numberIn (getD t (start + a) 0) ≡ n → ⊥) → differs t start n a ≡ true
+  differs-yes h =
+      or-left (not (eqb (numberIn (getD t (start + a) 0)) n)) (eqb n 0)
+      (not-is-true (eqb (numberIn (getD t (start + a) 0)) n) (eqb-no (numberIn (getD t (start + a) 0)) n h))
+
+  pub differs-no : (n ≡ 0 → ⊥) → numberIn (getD t (start + a) 0) ≡ n → differs t start n a ≡ false
+  differs-no h e = rw (eqb-yes (numberIn (getD t (start + a) 0)) n e, eqb-no n 0 h)
+
+-- a cell without a number is new
+pub new-zero : (t : List ℕ) (start b : ℕ) → numberIn (getD t (start + b) 0) ≡ 0 → isNew t start b ≡ true
+new-zero t start b z =
+    all-every b (differs t start (numberIn (getD t (start + b) 0))) (λ a l. differs-zero t start (numberIn (getD t (start + b) 0)) a z)
+
+-- ---- places and rows of the frame
+
+pub place-lt : (s b m n : ℕ) → s < 64 → m ≤ 8 → b < m → 512 ≤ n → s * m + b < n
+place-lt s b m n ls lm lb ln = omega (arith, place-below 64 m s b ls lb, mul-le-mul-left 64 lm)
+
+pub frame-le : (s m : ℕ) → s ≤ 64 → m ≤ 8 → s * m ≤ 512
+frame-le s m ls lm = mul-le-mul {n₂ = 64} {m₂ = 8} ls lm
+
+pub row-le : (s m : ℕ) → s < 64 → m ≤ 8 → s * m + m ≤ 512
+row-le s m ls lm = omega (arith, suc-mul s m, mul-le-mul {n₁ = suc s} {n₂ = 64} {m₂ = 8} ls lm)
+
+pub next-row : (s m : ℕ) → s * m + m ≡ (s + 1) * m
+next-row s m = sym (ap (λ (k : ℕ). k * m) (add-one s) ∙ suc-mul s m)
+
+-- ---- the presets
+
+-- a valid head record
+module _ (head : record-head.Head) (ps : List record-types.Preset) where
+  pub count-high : validRecord head ps ≡ true → head .count ≤ 32
+  count-high e = le-of (head .count) 32 (left-of (leb (head .count) 32) (valid (headIn head ps)) e)
+
+  pub record-valid : validRecord head ps ≡ true → Valid (headIn head ps)
+  record-valid e = valid-of (headIn head ps) (right-of (leb (head .count) 32) (valid (headIn head ps)) e)
+
+  pub presets-count : length ps ≡ 32 → head .count ≤ 32 → presetCount (headIn head ps) ≡ head .count
+  presets-count long h = length-map (take (head .count) ps) presetIn ∙ length-take-le (head .count) ps (omega (arith, long))
+
+-- the record at i, with what stands past the last, and the preset that it stands for
+abbrev pub recordAt : List record-types.Preset → ℕ → record-types.Preset
+recordAt ps i = getD ps i (record { number = 0; priority = 0; mandatory = 0; optional = 0 })
+
+pub preset-at : (k : ℕ) (ps : List record-types.Preset) (i : ℕ) → i < k → getD (map presetIn (take k ps)) i noPreset ≡ presetIn (recordAt ps i)
+preset-at k ps i l =
+    List·getD-map presetIn (take k ps) i (record { number = 0; priority = 0; mandatory = 0; optional = 0 })
+    ∙ ap presetIn (getD-take k ps i (record { number = 0; priority = 0; mandatory = 0; optional = 0 }) l)
+
+module _ (ps : List Preset) where
+  pub numbered-none : numbered ps 0 ≡ replicate 256 0
+  unfolding numbered
+  numbered-none = counted-none 256 (λ i. getD ps i noPreset .number)
+
+  pub numbered-more : (n : ℕ) → numbered ps (n + 1) ≡ bump (numbered ps n) (getD ps n noPreset .number)
+  unfolding numbered
+  numbered-more n = counted-more 256 (λ i. getD ps i noPreset .number) n
+
+  pub numbered-le : (v n : ℕ) → getD (numbered ps n) v 0 ≤ n
+  unfolding numbered
+  numbered-le v n = counted-le 256 (λ i. getD ps i noPreset .number) v n
+
+  pub numbered-at : (v : ℕ) → v < 256 → (n : ℕ) → getD (numbered ps n) v 0 ≡ count n (λ i. eqb (getD ps i noPreset .number) v)
+  unfolding numbered
+  numbered-at v l n = counted-at 256 (λ i. getD ps i noPreset .number) v l n
+
+-- a preset's cells: the mandatory ones are as many as they should be, and what is left to test; or they are not
+pub met-exact : (c : List ℕ) (p : Preset) → getD c (mandatoryCell (p .number)) 0 ≡ p .mandatory
+    → isMet c p ≡ leb (getD c (optionalCell (p .number)) 0) (p .optional)
+met-exact c p e =
+    ap (λ (b : Bool). b && leb (getD c (optionalCell (p .number)) 0) (p .optional)) (eqb-yes (getD c (mandatoryCell (p .number)) 0) (p .mandatory) e)
+
+pub met-not : (c : List ℕ) (p : Preset) → (getD c (mandatoryCell (p .number)) 0 ≡ p .mandatory → ⊥) → isMet c p ≡ false
+met-not c p h =
+    ap (λ (b : Bool). b && leb (getD c (optionalCell (p .number)) 0) (p .optional)) (eqb-no (getD c (mandatoryCell (p .number)) 0) (p .mandatory) h)
+
+-- ---- a call's jobs
+
+-- a job within its limits, test by test
+module _ (j : Job) where
+  pub number-low : j .number < 1 → jobWithin j ≡ false
+  number-low l =
+      fails-left (within 1 255 (j .number)) (within 1 64 (j .slots)) (fails-left (leb 1 (j .number)) (leb (j .number) 255) (leb-no 1 (j .number) l))
+
+  pub number-high : 255 < j .number → jobWithin j ≡ false
+  number-high l =
+      fails-left (within 1 255 (j .number)) (within 1 64 (j .slots)) (fails-right (leb 1 (j .number)) (leb (j .number) 255) (leb-no (j .number) 255 l))
+
+  pub slots-low : j .slots < 1 → jobWithin j ≡ false
+  slots-low l =
+      fails-right (within 1 255 (j .number)) (within 1 64 (j .slots)) (fails-left (leb 1 (j .slots)) (leb (j .slots) 64) (leb-no 1 (j .slots) l))
+
+  pub all-but-slots : 1 ≤ j .number → j .number ≤ 255 → 1 ≤ j .slots → jobWithin j ≡ leb (j .slots) 64
+  all-but-slots p q r =
+      ap₂ (λ (a b : Bool). a && (b && leb (j .slots) 64))
+      (both (leb 1 (j .number)) (leb (j .number) 255) (leb-yes 1 (j .number) p) (leb-yes (j .number) 255 q)) (leb-yes 1 (j .slots) r)
+
+-- a number that is used
+module _ (ns c : List ℕ) (n : ℕ) where
+  pub used-preset : 0 < getD ns n 0 → usedBy ns c n ≡ true
+  used-preset l = or-left (ltb 0 (getD ns n 0)) (hasCall c n) (ltb-yes 0 (getD ns n 0) l)
+
+  pub used-rest : getD ns n 0 ≤ 0 → usedBy ns c n ≡ hasCall c n
+  used-rest l = ap (λ (b : Bool). b || hasCall c n) (ltb-no 0 (getD ns n 0) l)

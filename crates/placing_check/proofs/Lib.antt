@@ -1,0 +1,4 @@
+-- The laws that the code of the causes cites.
+pub mod Checking
+pub mod Checked
+pub mod Tried

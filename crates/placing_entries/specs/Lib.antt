@@ -1,0 +1,3 @@
+-- What the entries plan and call are held to.
+pub mod Planning
+pub mod Calling

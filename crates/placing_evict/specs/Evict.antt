@@ -1,0 +1,176 @@
+-- The eviction search as the code goes through it: what it keeps, and what the walk over the refinement cells makes of that. That this is document 01's
+-- rule, "of the smallest sets with which the call fits .. the one whose list comes first", is proved of `evictedSet` of specs/Call.antt, with which it agrees.
+-- Assumes nothing.
+use Prim.Native.Nat.{ℕ, _+_, _*_, _-_, _^_, _≤_, _<_}
+use mathlib.Core.Path.{_≡_}
+use mathlib.Core.Bool.{Bool, true, false, cond, _&&_}
+use mathlib.Core.List.{List, [], _∷_}
+use lib.ListN.{length, getD, set, take, replicate}
+use lib.Bits.{bitOr}
+use lib.Dec.{ltb, leb, eqb}
+use Rattle.laws.specs.Sums.{sum, only, count, greatest, position, ascending}
+use Rattle.laws.specs.Placement.{at, before, capacity}
+use Rattle.laws.specs.Eviction.{put, ones}
+use Rattle.station.specs.Head.{Head, Job}
+use Rattle.station.specs.declared.types.Preset as record-of-preset
+use Rattle.station.specs.declared.types.Head as record-of-head
+use Rattle.station.specs.Types.{headIn}
+use Rattle.placing_evict.specs.declared.evict.Search.{Search}
+use Rattle.placing_evict.specs.declared.evict.Evicted.{Evicted}
+use Rattle.placing_evict.specs.declared.evict.Demand.{Demand}
+use Rattle.placing.specs.Limits.{inLimits}
+use Rattle.placing.specs.Table.{Cells, cell, isOptional, isEmpty, numberIn}
+use Rattle.placing.specs.Valid.{usable}
+use Rattle.placing.specs.Mask.{bridgeMask}
+use Rattle.placing.specs.Call.{Place, downward, lengths, evictedSet, callFits, callFree}
+
+-- How many of the first n of the priorities ps come before that of line i. "Rank: better priority first, then the earlier line."
+unfoldable pub rankBelow : List ℕ → ℕ → ℕ → ℕ
+rankBelow ps i n = position n (ascending (at ps)) i
+
+-- How many of the first n of the needs cs come before that of job i: the longer first, of equal ones the earlier.
+unfoldable pub longerBelow : List ℕ → ℕ → ℕ → ℕ
+longerBelow cs i n = position n (before (at cs)) i
+
+-- what the first n of k needs add to the sum of the r longest of the k
+unfoldable pub longestBelow : List ℕ → ℕ → ℕ → ℕ → ℕ
+longestBelow cs k n r = sum n (λ i. only (ltb (longerBelow cs i k) r) (at cs i))
+
+-- the sum of the r longest of the first k needs
+abbrev pub longest : List ℕ → ℕ → ℕ → ℕ
+longest cs k r = longestBelow cs k k r
+
+-- what the first n of k presets add to the rank of the number m
+unfoldable pub rankAmong : List ℕ → List ℕ → ℕ → ℕ → ℕ → ℕ
+rankAmong ns ps k n m = sum n (λ i. only (eqb (at ns i) m) (rankBelow ps i k))
+
+-- the greatest excess of the sums cs over the capacities xs, for r from 0 to k
+unfoldable pub excessUpTo : List ℕ → List ℕ → ℕ → ℕ
+excessUpTo cs xs k = greatest k (λ r. at cs r - at xs r)
+
+-- the empty cells among the bridges from a place of the table on
+abbrev pub emptyIn : List ℕ → ℕ → ℕ → Bool
+emptyIn t from b = isEmpty (getD t (from + b) 0)
+
+-- their mask
+unfoldable pub emptyMask : List ℕ → ℕ → ℕ → ℕ
+emptyMask t from n = bridgeMask n (emptyIn t from)
+
+-- and how many they are
+unfoldable pub emptyCells : List ℕ → ℕ → ℕ → ℕ
+emptyCells t from n = count n (emptyIn t from)
+
+-- The mask and the number of the empty cells of a slot, where nothing before the clock is free: "A call uses slots from the clock on."
+unfoldable pub slotMask : List ℕ → ℕ → ℕ → ℕ → ℕ
+slotMask t bridges clock s = only (usable clock s) (emptyMask t (s * bridges) bridges)
+
+unfoldable pub slotCells : List ℕ → ℕ → ℕ → ℕ → ℕ
+slotCells t bridges clock s = only (usable clock s) (emptyCells t (s * bridges) bridges)
+
+-- By how much sums of the longest jobs exceed the capacities for 0 to k of the free cells x of n slots, at the worst. Where `sums` has the sums of the
+-- r longest of k jobs this is `excess`.
+unfoldable pub shortage : List ℕ → ℕ → ℕ → (ℕ → ℕ) → ℕ
+shortage sums k n x = greatest k (λ r. at sums r - capacity n x r)
+
+-- the same for what the jobs demand
+abbrev pub shortFor : Demand → (ℕ → ℕ) → ℕ
+shortFor d = shortage (d .sums) (d .jobs) (d .slots)
+
+-- What the search has at a point of its walk: for each slot the mask of the bridges that the jobs may use and the number of them, and how many
+-- cells are evicted so far.
+pub record Kept : Type 0 where
+  pub free : List ℕ
+  pub counts : List ℕ
+  pub evicted : ℕ
+
+-- with one more cell
+abbrev pub withCell : Place → Kept → Kept
+withCell z k =
+    record {
+      free = set (k .free) (z .slot) (bitOr (getD (k .free) (z .slot) 0) (2 ^ z .bridge));
+      counts = set (k .counts) (z .slot) (getD (k .counts) (z .slot) 0 + 1);
+      evicted = k .evicted + 1;
+    }
+
+-- one cell of the walk: it is evicted if that lowers the shortage
+unfoldable pub stepped : ((ℕ → ℕ) → ℕ) → Place → Kept → Kept
+stepped short z k = cond (ltb (short (put (at (k .counts)) (z .slot))) (short (at (k .counts)))) (withCell z k) k
+
+-- the walk over a list of cells, one after the other
+unfoldable pub walked : ((ℕ → ℕ) → ℕ) → List Place → Kept → Kept
+walked short [] k = k
+walked short (z ∷ zs) k = walked short zs (stepped short z k)
+
+-- what a search of the code keeps
+abbrev pub keptIn : Search → Kept
+keptIn s = record { free = s .free; counts = s .counts; evicted = s .evicted }
+
+-- The numbers that the search keeps beside that are right: the capacities for 0 to 8, and the shortage. The bounds keep sums from overflowing: a cell
+-- is taken only where the shortage falls.
+pub record Stands (d : Demand) (s : Search) : Type 0 where
+  pub few-jobs : d .jobs ≤ 8
+  pub few-slots : d .slots ≤ 64
+  pub free-long : length (s .free) ≡ 64
+  pub counts-long : length (s .counts) ≡ 64
+  pub capacities : (r : ℕ) → r < 9 → getD (s .capacities) r 0 ≡ capacity (d .slots) (at (s .counts)) r
+  pub short : s .short ≡ shortFor d (at (s .counts))
+  pub few : s .evicted + s .short ≤ 4096
+  pub low : (z : ℕ) → getD (s .counts) z 0 + s .short ≤ 4096
+
+-- what a part of the walk answers: the numbers stand, and what is kept is what the walk over zs makes of what was kept
+pub record Walked (d : Demand) (zs : List Place) (s r : Search) : Type 0 where
+  pub stands : Stands d r
+  pub kept : keptIn r ≡ walked (shortFor d) zs (keptIn s)
+
+-- what the search has before its walk: the empty cells from the clock on
+pub record Starts (t : List ℕ) (bridges clock : ℕ) (d : Demand) (s : Search) : Type 0 where
+  pub stands : Stands d s
+  pub free : (z : ℕ) → getD (s .free) z 0 ≡ only (ltb z (d .slots)) (slotMask t bridges clock z)
+  pub counts : (z : ℕ) → getD (s .counts) z 0 ≡ only (ltb z (d .slots)) (slotCells t bridges clock z)
+  pub none : s .evicted ≡ 0
+
+-- ---- The eviction order over a list of cells, with the ranks by number in a list: `evictionOrder`, part by part. "The order of loss: worst rank
+-- first; for one preset the latest slot first."
+
+-- a refinement cell of the preset that has the rank
+abbrev pub ofRank : List ℕ → ℕ → ℕ → Bool
+ofRank ranks rank v = isOptional v && eqb (getD ranks (numberIn v) 0) rank
+
+-- the cells of one rank in a slot, among its first n bridges
+unfoldable pub placesIn : List ℕ → ℕ → List ℕ → ℕ → ℕ → ℕ → List Place
+placesIn t bridges ranks rank slot n =
+    downward n (λ b. cond (ofRank ranks rank (getD t (slot * bridges + b) 0)) (record { slot = slot; bridge = b } ∷ []) [])
+
+-- the cells of one rank in the first n slots, from the clock on
+unfoldable pub placesFrom : List ℕ → ℕ → ℕ → List ℕ → ℕ → ℕ → List Place
+placesFrom t bridges clock ranks rank n =
+    downward n (λ s. cond (usable clock s) (placesIn t bridges ranks rank s bridges) [])
+
+-- the cells of the first n ranks
+unfoldable pub placesOf : List ℕ → ℕ → ℕ → ℕ → List ℕ → ℕ → List Place
+placesOf t bridges slots clock ranks n = downward n (λ r. placesFrom t bridges clock ranks r slots)
+
+-- ---- the answer
+
+-- What the search answers for the head h, the clock, the jobs and the cells t: whether the call fits; "the number of lost cells"; and for each slot
+-- the mask of the bridges that it may use, as "jobs are then placed .. over the empty and lost cells", 0 past the frame.
+pub record Evicts (h : Head) (clock : ℕ) (jobs : List Job) (t : Cells) (r : Evicted) : Type 0 where
+  pub fits : r .fits ≡ callFits h clock jobs t
+  pub count : r .count ≡ ones (evictedSet h clock jobs t)
+  pub free : (s : ℕ) → s < h .slots → getD (r .free) s 0 ≡ bridgeMask (h .bridges) (λ b. callFree h clock jobs t s b)
+  pub past : (s : ℕ) → h .slots ≤ s → getD (r .free) s 0 ≡ 0
+
+-- What the search can look at: a frame, presets and a lent table within the limits, and at most eight jobs.
+abbrev pub searchable : record-of-head.Head → ℕ → ℕ → Bool
+searchable head k cells = leb k 8 && inLimits (head .slots) (head .bridges) (head .count) cells
+
+-- the answer where it cannot: the call does not fit
+abbrev pub unfit : Evicted
+unfit = record { fits = false; count = 0; free = replicate 64 0 }
+
+-- What `evict` answers for a head record, its preset records, the first k needs and a lent table: for all jobs of these lengths what the search finds,
+-- or that the call does not fit where the search cannot look at the frame. A head record that some text yields is within the limits.
+pub record Searched (head : record-of-head.Head) (ps : List record-of-preset.Preset) (clock : ℕ) (needs : List ℕ) (k : ℕ) (t : List ℕ) (r : Evicted) : Type 0 where
+  pub found : searchable head k (length t) ≡ true → (jobs : List Job) → lengths jobs ≡ take k needs
+      → Evicts (headIn head ps) clock jobs (cell (headIn head ps) t) r
+  pub stopped : searchable head k (length t) ≡ false → r ≡ unfit

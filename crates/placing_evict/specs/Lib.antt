@@ -1,0 +1,2 @@
+-- What the eviction search's code is held to.
+pub mod Evict

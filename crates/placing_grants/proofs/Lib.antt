@@ -1,0 +1,3 @@
+-- The laws that the grants' code cites.
+pub mod Granting
+pub mod Granted

@@ -1,0 +1,2 @@
+-- What the grants' code is held to.
+pub mod Granting

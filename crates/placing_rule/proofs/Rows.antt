@@ -1,0 +1,313 @@
+-- Laws of one slot's row, as the code writes it.
+--
+-- In order: what a job writes; a cell of the row, emptied (`emptied-..`) and with one job more (`slotCell-..`); a row of which cells are written (`row-..`);
+-- the free cells that are left after some were taken in order (`untaken-..`), and who takes one (`takes-..`); a row after some jobs took their cells:
+-- none, one more, all (`filled-..`).
+-- Assumes nothing.
+use Prim.Native.Nat.{ℕ, _+_, _-_, _≤_, _<_, zero-le}
+use native.Mathlib.Nat.{add-zero, le-of-eq}
+use native.Mathlib.Numerals.{add-one}
+use native.Mathlib.Omega.{arith}
+use mathlib.Core.Path.{_≡_, refl, sym, _∙_, ap, ap₂}
+use mathlib.Core.Bool.{Bool, true, false, not, _&&_, cond, and-true, and-false}
+use mathlib.Core.List.{List}
+use lib.ListN.{length, set, length-set}
+use lib.Seq.{getD-set-same, getD-set-other}
+use lib.Dec.{ltb, leb, eqb}
+use Rattle.laws.specs.Sums.{bit, only, sum, count}
+use Rattle.laws.specs.Placement.{at}
+use Rattle.laws.specs.Cells.{takes, slotCell}
+use Rattle.laws.proofs.Sums.{Is, is-true, is-false, is, clash, lt-of, ge-of, le-of, gt-of, eq-of, ne-of, ltb-yes, ltb-no, leb-yes, leb-no, eqb-yes, eqb-no, both, left-of, right-of}
+use Rattle.laws.proofs.Sums.{sum-ext, sum-point, count-ext, count-none}
+use Rattle.laws.proofs.Cells.{count-below, nth-count}
+use Rattle.station.specs.Head.{taken}
+use Rattle.placing_rule.specs.Code.{jobCell, RowWritten, emptied}
+use Rattle.placing_rule.proofs.Chosen.{count-more}
+
+-- ---- what a job writes
+
+module _ (need rest first early late : ℕ) where
+  pub writes-early : need - rest < first → early ≡ jobCell need rest first early late
+  writes-early h = rw (ltb-yes (need - rest) first h) refl
+
+  pub writes-late : first ≤ need - rest → late ≡ jobCell need rest first early late
+  writes-late h = rw (ltb-no (need - rest) first h) refl
+
+-- ---- a cell of the row
+
+-- of two different numbers that pass a test, one has more of them before it
+apart : (a : ℕ → Bool) (i j : ℕ) → a i ≡ true → a j ≡ true → (j ≡ i → ⊥) → count j a ≡ count i a → ⊥
+apart a i j p q ne e = go (is (ltb j i))
+  where
+    go : Is (ltb j i) → ⊥
+    go (is-true l) = omega (arith, count-below i a j (lt-of j i l), ap bit q)
+    go (is-false l) =
+        let m : i ≤ j = ge-of j i l in
+        omega (arith, count-below j a i (omega arith), ap bit p)
+
+-- a cell goes by the k jobs and what it held alone
+pub slotCell-ext : (k : ℕ) (a f : ℕ → Bool) (v t : ℕ → ℕ) (b : ℕ) (a′ : ℕ → Bool) (v′ t′ : ℕ → ℕ)
+    → ((i : ℕ) → i < k → a i ≡ a′ i) → ((i : ℕ) → i < k → v i ≡ v′ i) → t b ≡ t′ b → slotCell k a f v t b ≡ slotCell k a′ f v′ t′ b
+slotCell-ext k a f v t b a′ v′ t′ p q e =
+    ap₂ (λ (n m : ℕ). cond (f b) n m)
+    (sum-ext k (λ i. only (takes a f i b) (v i)) (λ i. only (takes a′ f i b) (v′ i)) (λ i l. one i l))
+    e
+  where
+    one : (i : ℕ) → i < k → only (takes a f i b) (v i) ≡ only (takes a′ f i b) (v′ i)
+    one i l = rw (p i l, q i l, count-ext i a a′ (λ j m. p j (omega arith))) refl
+
+module _ (f : ℕ → Bool) (t : ℕ → ℕ) (b : ℕ) where
+  pub emptied-free : f b ≡ true → emptied f t b ≡ 0
+  emptied-free e = rw e refl
+
+  pub emptied-kept : f b ≡ false → emptied f t b ≡ t b
+  emptied-kept e = rw e refl
+
+module _ (i : ℕ) (a f : ℕ → Bool) (v t : ℕ → ℕ) (b : ℕ) where
+  -- one job more, which takes another cell or none
+  pub slotCell-passed : takes a f i b ≡ false → slotCell i a f v t b ≡ slotCell (i + 1) a f v t b
+  unfolding sum
+  slotCell-passed e = rw (add-one i, e) (ap (λ (n : ℕ). cond (f b) n (t b)) (sym (add-zero (sum i (λ j. only (takes a f j b) (v j))))))
+
+  -- one job more, which takes this cell: none before it did
+  pub slotCell-taken : f b ≡ true → a i ≡ true → count i a ≡ count b f → v i ≡ slotCell (i + 1) a f v t b
+  slotCell-taken p q e =
+      sym (ap (λ (x : Bool). cond x (sum (i + 1) (λ j. only (takes a f j b) (v j))) (t b)) p
+      ∙ sum-point (i + 1) (λ j. only (takes a f j b) (v j)) i (omega arith) (λ j m ne. off j ne (is (a j)))
+      ∙ (rw (p, q, eqb-yes (count i a) (count b f) e) refl))
+    where
+      off : (j : ℕ) → (j ≡ i → ⊥) → Is (a j) → only (takes a f j b) (v j) ≡ 0
+      off j ne (is-true r) = rw (p, r, eqb-no (count j a) (count b f) (λ d. apart a i j q r ne (d ∙ sym e))) refl
+      off j ne (is-false r) = rw (p, r) refl
+
+-- ---- a row, cell by cell
+
+module _ (t : List ℕ) (start : ℕ) (w : ℕ → ℕ) where
+  pub row-none : RowWritten t t start 0 w
+  row-none = record { long = refl; inside = λ b h. absurd (omega arith); before = λ i h. refl; after = λ i h. refl }
+
+  module _ (u : List ℕ) (n : ℕ) (done : RowWritten t u start n w) where
+    -- the next cell keeps what it held
+    pub row-kept : at t (start + n) ≡ w n → RowWritten t u start (n + 1) w
+    row-kept e =
+        record {
+          long = done .long;
+          inside = λ b h. go b h (is (eqb b n));
+          before = done .before;
+          after = λ i h. done .after i (omega arith);
+        }
+      where
+        go : (b : ℕ) → b < n + 1 → Is (eqb b n) → at u (start + b) ≡ w b
+        go b h (is-true q) = rw (eq-of b n q) (done .after (start + n) (omega arith) ∙ e)
+        go b h (is-false q) = let other : b ≡ n → ⊥ = ne-of b n q in done .inside b (omega arith)
+
+    -- the next cell is stored
+    pub row-stored : (x : ℕ) → start + n < length t → x ≡ w n → RowWritten t (set u (start + n) x) start (n + 1) w
+    row-stored x short e =
+        record {
+          long = length-set u (start + n) x ∙ done .long;
+          inside = λ b h. go b h (is (eqb b n));
+          before = λ i h. getD-set-other u (start + n) i x 0 (λ q. omega arith) ∙ done .before i h;
+          after = λ i h. getD-set-other u (start + n) i x 0 (λ q. omega arith) ∙ done .after i (omega arith);
+        }
+      where
+        go : (b : ℕ) → b < n + 1 → Is (eqb b n) → at (set u (start + n) x) (start + b) ≡ w b
+        go b h (is-true q) = rw (eq-of b n q) (getD-set-same u (start + n) x 0 (omega (arith, done .long)) ∙ e)
+        go b h (is-false q) =
+            let other : b ≡ n → ⊥ = ne-of b n q in
+            getD-set-other u (start + n) (start + b) x 0 (λ z. other (omega arith)) ∙ done .inside b (omega arith)
+
+  -- the cells under another name
+  pub row-same : (u : List ℕ) (n : ℕ) (w′ : ℕ → ℕ) → RowWritten t u start n w → ((b : ℕ) → b < n → w b ≡ w′ b) → RowWritten t u start n w′
+  row-same u n w′ done e =
+      record { long = done .long; inside = λ b h. done .inside b h ∙ e b h; before = done .before; after = done .after }
+
+  -- cell z, which is written already, is stored anew
+  pub row-set : (u : List ℕ) (n z x : ℕ) (w′ : ℕ → ℕ) → RowWritten t u start n w → z < n → start + n ≤ length t → x ≡ w′ z
+      → ((b : ℕ) → b < n → (b ≡ z → ⊥) → w b ≡ w′ b) → RowWritten t (set u (start + z) x) start n w′
+  row-set u n z x w′ done l short e rest =
+      record {
+        long = length-set u (start + z) x ∙ done .long;
+        inside = λ b h. go b h (is (eqb b z));
+        before = λ i h. getD-set-other u (start + z) i x 0 (λ q. omega arith) ∙ done .before i h;
+        after = λ i h. getD-set-other u (start + z) i x 0 (λ q. omega arith) ∙ done .after i h;
+      }
+    where
+      go : (b : ℕ) → b < n → Is (eqb b z) → at (set u (start + z) x) (start + b) ≡ w′ b
+      go b h (is-true q) = rw (eq-of b z q) (getD-set-same u (start + z) x 0 (omega (arith, done .long)) ∙ e)
+      go b h (is-false q) =
+          let other : b ≡ z → ⊥ = ne-of b z q in
+          getD-set-other u (start + z) (start + b) x 0 (λ y. other (omega arith)) ∙ done .inside b h ∙ rest b h other
+
+-- ---- the free cells that are left after some were taken in order
+
+-- a free cell that has m free ones before it, or more
+abbrev pub untaken : (ℕ → Bool) → ℕ → ℕ → Bool
+untaken f m b = f b && leb m (count b f)
+
+module _ (f : ℕ → Bool) where
+  pub untaken-none : (b : ℕ) → f b ≡ untaken f 0 b
+  untaken-none b = go (is (f b))
+    where
+      go : Is (f b) → f b ≡ untaken f 0 b
+      go (is-true e) = rw (e, leb-yes 0 (count b f) zero-le) refl
+      go (is-false e) = rw e refl
+
+  module _ (m : ℕ) where
+    -- the first cell that is left has just m free ones before it
+    pub untaken-first : (z : ℕ) → untaken f m z ≡ true → ((b : ℕ) → b < z → untaken f m b ≡ false) → count z f ≡ m
+    untaken-first z e none =
+        let enough : m ≤ count z f = le-of m (count z f) (right-of (f z) (leb m (count z f)) e) in
+        let unmet : count z (λ b. f b && eqb m (count b f)) ≡ 0 = count-none z (λ b. f b && eqb m (count b f)) (λ b l. off b (none b l) (is (f b)) (is (eqb m (count b f)))) in
+        go enough unmet (is (ltb m (count z f)))
+      where
+        off : (b : ℕ) → untaken f m b ≡ false → Is (f b) → Is (eqb m (count b f)) → (f b && eqb m (count b f)) ≡ false
+        off b u (is-true p) (is-true q) =
+            absurd (clash (sym (both (f b) (leb m (count b f)) p (leb-yes m (count b f) (le-of-eq (eq-of m (count b f) q)))) ∙ u))
+        off b u (is-true p) (is-false q) = rw (p, q) refl
+        off b u (is-false p) q = rw p refl
+
+        go : m ≤ count z f → count z (λ b. f b && eqb m (count b f)) ≡ 0 → Is (ltb m (count z f)) → count z f ≡ m
+        go enough unmet (is-true l) = absurd (omega (arith, nth-count z f m, ap bit l, unmet))
+        go enough unmet (is-false l) = let most = ge-of m (count z f) l in omega arith
+
+    -- without it, one more is taken
+    pub untaken-more : (z : ℕ) → f z ≡ true → count z f ≡ m → (b : ℕ) → (untaken f m b && not (eqb b z)) ≡ untaken f (m + 1) b
+    untaken-more z p e b = go (is (f b)) (is (eqb b z))
+      where
+        go : Is (f b) → Is (eqb b z) → (untaken f m b && not (eqb b z)) ≡ untaken f (m + 1) b
+        go (is-true q) (is-true s) =
+            let same : b ≡ z = eq-of b z s in
+            rw (q, s, leb-no (m + 1) (count b f) (omega (arith, ap (λ (d : ℕ). count d f) same))) (and-false (leb m (count b f)))
+        go (is-true q) (is-false s) = rw (q, s) (and-true (leb m (count b f)) ∙ further (is (leb m (count b f))))
+          where
+            other : count b f ≡ m → ⊥
+            other d = apart f z b p q (ne-of b z s) (d ∙ sym e)
+
+            further : Is (leb m (count b f)) → leb m (count b f) ≡ leb (m + 1) (count b f)
+            further (is-true l) = l ∙ sym (leb-yes (m + 1) (count b f) (let k = le-of m (count b f) l in let ne : count b f ≡ m → ⊥ = other in omega arith))
+            further (is-false l) = l ∙ sym (leb-no (m + 1) (count b f) (let k = gt-of m (count b f) l in omega arith))
+        go (is-false q) s = rw q refl
+
+    -- a cell that is not left stays so
+    pub untaken-stays : (b : ℕ) → untaken f m b ≡ false → untaken f (m + 1) b ≡ false
+    untaken-stays b u = go (is (f b))
+      where
+        go : Is (f b) → untaken f (m + 1) b ≡ false
+        go (is-true q) =
+            let l : count b f < m = gt-of m (count b f) (ap (λ (x : Bool). x && leb m (count b f)) (sym q) ∙ u) in
+            rw (q, leb-no (m + 1) (count b f) (omega arith)) refl
+        go (is-false q) = rw q refl
+
+-- ---- who takes a free cell, by what is left
+
+module _ (a f : ℕ → Bool) (i b : ℕ) where
+  pub takes-not-chosen : a i ≡ false → takes a f i b ≡ false
+  takes-not-chosen e = rw e (go (f b))
+    where
+      go : (x : Bool) → (x && false && eqb (count i a) (count b f)) ≡ false
+      go true = refl
+      go false = refl
+
+  pub takes-not-left : untaken f (count i a) b ≡ false → takes a f i b ≡ false
+  takes-not-left u = go (is (f b)) (is (eqb (count i a) (count b f)))
+    where
+      go : Is (f b) → Is (eqb (count i a) (count b f)) → takes a f i b ≡ false
+      go (is-true p) (is-true q) =
+          absurd (clash (sym (both (f b) (leb (count i a) (count b f)) p (leb-yes (count i a) (count b f) (le-of-eq (eq-of (count i a) (count b f) q)))) ∙ u))
+      go (is-true p) (is-false q) = rw (p, q) (and-false (a i))
+      go (is-false p) q = rw p refl
+
+  -- another cell has as many before it
+  pub takes-other : (z : ℕ) → f z ≡ true → count z f ≡ count i a → (b ≡ z → ⊥) → takes a f i b ≡ false
+  takes-other z p e ne = go (is (f b))
+    where
+      go : Is (f b) → takes a f i b ≡ false
+      go (is-true q) = rw (q, eqb-no (count i a) (count b f) (λ d. apart f z b p q ne (sym d ∙ sym e))) (and-false (a i))
+      go (is-false q) = rw q refl
+
+-- ---- a row after some jobs took their cells
+
+-- u is t with the n cells from `start` on written by the jobs before i, and g is the test of the free cells that are left
+pub record RowFilled (t : List ℕ) (start n : ℕ) (a f : ℕ → Bool) (v : ℕ → ℕ) (u : List ℕ) (g : ℕ → Bool) (i : ℕ) : Type 0 where
+  pub row : RowWritten t u start n (slotCell i a f v (λ b. at t (start + b)))
+  pub rest : (b : ℕ) → b < n → g b ≡ untaken f (count i a) b
+
+module _ (t : List ℕ) (start n : ℕ) (a f : ℕ → Bool) (v : ℕ → ℕ) where
+  abbrev held : ℕ → ℕ
+  held b = at t (start + b)
+
+  module _ (u : List ℕ) (g : ℕ → Bool) (i : ℕ) (done : RowFilled t start n a f v u g i) where
+    -- job i takes no cell
+    same : ((b : ℕ) → b < n → takes a f i b ≡ false) → RowWritten t u start n (slotCell (i + 1) a f v held)
+    same off =
+        row-same t start (slotCell i a f v held) u n (slotCell (i + 1) a f v held) (done .row)
+        (λ b h. slotCell-passed i a f v held b (off b h))
+
+    -- it is not chosen
+    pub filled-not-chosen : a i ≡ false → RowFilled t start n a f v u g (i + 1)
+    filled-not-chosen e =
+        record {
+          row = same (λ b h. takes-not-chosen a f i b e);
+          rest = λ b h. done .rest b h ∙ ap (λ (m : ℕ). untaken f m b) (omega (arith, count-more i a, ap bit e));
+        }
+
+    -- it is, and no cell is left
+    pub filled-full : a i ≡ true → ((b : ℕ) → b < n → g b ≡ false) → RowFilled t start n a f v u g (i + 1)
+    filled-full e none =
+        let gone : (b : ℕ) → b < n → untaken f (count i a) b ≡ false = λ b h. sym (done .rest b h) ∙ none b h in
+        record {
+          row = same (λ b h. takes-not-left a f i b (gone b h));
+          rest = λ b h.
+              none b h
+              ∙ sym (ap (λ (m : ℕ). untaken f m b) (omega (arith, count-more i a, ap bit e)) ∙ untaken-stays f (count i a) b (gone b h));
+        }
+
+    -- it is, and z is the first cell that is left
+    pub filled-next : a i ≡ true → (z : ℕ) → z < n → start + n ≤ length t → g z ≡ true → ((b : ℕ) → b < z → g b ≡ false)
+        → (g′ : ℕ → Bool) → ((b : ℕ) → g′ b ≡ (g b && not (eqb b z))) → RowFilled t start n a f v (set u (start + z) (v i)) g′ (i + 1)
+    filled-next e z l short here below g′ without =
+        let m = count i a in
+        let left : untaken f m z ≡ true = sym (done .rest z l) ∙ here in
+        let free : f z ≡ true = left-of (f z) (leb m (count z f)) left in
+        let order : count z f ≡ m = untaken-first f m z left (λ b h. sym (done .rest b (omega arith)) ∙ below b h) in
+        record {
+          row =
+              row-set t start (slotCell i a f v held) u n z (v i) (slotCell (i + 1) a f v held) (done .row) l short
+              (slotCell-taken i a f v held z free e (sym order))
+              (λ b h ne. slotCell-passed i a f v held b (takes-other a f i b z free order ne));
+          rest = λ b h.
+              without b
+              ∙ ap (λ (x : Bool). x && not (eqb b z)) (done .rest b h)
+              ∙ untaken-more f m z free order b
+              ∙ ap (λ (k : ℕ). untaken f k b) (omega (arith, count-more i a, ap bit e));
+        }
+
+-- From a table t over one whose free cells were made empty, t′, to the row that all k jobs have written.
+module _ (t t′ : List ℕ) (start n : ℕ) (a f : ℕ → Bool) (v : ℕ → ℕ) (begun : RowWritten t t′ start n (emptied f (λ b. at t (start + b)))) where
+  -- no job has written yet
+  pub filled-none : RowFilled t′ start n a f v t′ f 0
+  unfolding sum
+  filled-none =
+      record {
+        row = record { long = refl; inside = λ b h. go b h (is (f b)); before = λ i h. refl; after = λ i h. refl };
+        rest = λ b h. untaken-none f b;
+      }
+    where
+      go : (b : ℕ) → b < n → Is (f b) → at t′ (start + b) ≡ slotCell 0 a f v (λ d. at t′ (start + d)) b
+      go b h (is-true e) = begun .inside b h ∙ (rw e refl)
+      go b h (is-false e) = rw e refl
+
+  pub filled-all : (k : ℕ) (u : List ℕ) (g : ℕ → Bool) → RowFilled t′ start n a f v u g k
+      → RowWritten t u start n (slotCell k a f v (λ b. at t (start + b)))
+  filled-all k u g done =
+      record {
+        long = done .row .long ∙ begun .long;
+        inside = λ b h. done .row .inside b h ∙ go b h (is (f b));
+        before = λ i h. done .row .before i h ∙ begun .before i h;
+        after = λ i h. done .row .after i h ∙ begun .after i h;
+      }
+    where
+      go : (b : ℕ) → b < n → Is (f b) → slotCell k a f v (λ d. at t′ (start + d)) b ≡ slotCell k a f v (λ d. at t (start + d)) b
+      go b h (is-true e) = rw e refl
+      go b h (is-false e) = rw e (begun .inside b h ∙ (rw e refl))

@@ -1,0 +1,57 @@
+-- What the code's contracts cite: the placing rule over the arrays that the code keeps.
+-- Assumes nothing.
+use Prim.Native.Nat.{ℕ, _+_, _-_, _*_, _/_, _%_, _≤_, _<_}
+use mathlib.Core.Path.{_≡_}
+use mathlib.Core.Bool.{Bool, false, cond}
+use mathlib.Core.List.{List, _++_}
+use lib.ListN.{length, getD, take, drop}
+use lib.Dec.{ltb}
+use Rattle.laws.specs.Placement.{at, left, tabulate}
+use Rattle.station.specs.Head.{taken}
+use Rattle.placing.specs.Limits.{inLimits}
+use Rattle.placing.specs.Table.{Cells}
+use Rattle.placing.specs.Plan.{placing, freeCount}
+
+-- a list of flags as a test: past the end nothing is set
+abbrev pub flag : List Bool → ℕ → Bool
+flag l i = getD l i false
+
+-- What a job writes that needs `need` slots in all and `rest` of them still: `early` in its first `first` slots, `late` in the others.
+-- "A preset's first m cells in time are required, the rest refinement."
+abbrev pub jobCell : ℕ → ℕ → ℕ → ℕ → ℕ → ℕ
+jobCell need rest first early late = cond (ltb (need - rest) first) early late
+
+-- u is t with the n cells from `start` on written: cell b of them is w b.
+pub record RowWritten (t u : List ℕ) (start n : ℕ) (w : ℕ → ℕ) : Type 0 where
+  pub long : length u ≡ length t
+  pub inside : (b : ℕ) → b < n → at u (start + b) ≡ w b
+  pub before : (i : ℕ) → i < start → at u i ≡ at t i
+  pub after : (i : ℕ) → start + n ≤ i → at u i ≡ at t i
+
+-- what cell b of a slot holds after its free cells were made empty: any other cell what it held
+abbrev pub emptied : (ℕ → Bool) → (ℕ → ℕ) → ℕ → ℕ
+emptied f t b = cond (f b) 0 (t b)
+
+-- the free bridges that a list of masks gives, one mask a slot
+abbrev pub freeIn : List ℕ → ℕ → ℕ → Bool
+freeIn masks s b = taken (at masks s) b
+
+-- what job i writes in slot s, where the jobs with the needs c go by LRTF into the free cells x
+abbrev pub cellIn : List ℕ → (ℕ → ℕ) → List ℕ → List ℕ → List ℕ → ℕ → ℕ → ℕ
+cellIn c x first early late i s = jobCell (at c i) (at (left c x s) i) (at first i) (at early i) (at late i)
+
+-- the cells of a lent table of so many bridges
+abbrev pub cellsIn : ℕ → List ℕ → Cells
+cellsIn bridges t s b = at t (s * bridges + b)
+
+-- The lent table after jobs were placed: by the rule in the cells of the frame, and "Cells past S × B are never changed".
+unfoldable pub placedIn : ℕ → ℕ → List ℕ → List ℕ → List ℕ → List ℕ → List ℕ → List ℕ → List ℕ
+placedIn slots bridges masks c first early late t =
+    tabulate (slots * bridges) (λ i.
+    placing bridges (freeIn masks) c (cellIn c (freeCount bridges (freeIn masks)) first early late) (cellsIn bridges t) (i / bridges) (i % bridges))
+    ++ drop (slots * bridges) t
+
+-- The lent table after `place`, for the first k needs of an array: beyond the limits it is as it was.
+unfoldable pub placedWithin : ℕ → ℕ → List ℕ → List ℕ → ℕ → List ℕ → List ℕ → List ℕ → List ℕ → List ℕ
+placedWithin slots bridges masks needs k first early late t =
+    cond (inLimits slots bridges k (length t)) (placedIn slots bridges masks (take k needs) first early late t) t

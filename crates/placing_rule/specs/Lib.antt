@@ -1,0 +1,2 @@
+-- What the placing rule's code is held to.
+pub mod Code

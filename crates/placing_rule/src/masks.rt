@@ -1,0 +1,54 @@
+// A slot's free bridges as one bit each: bridge b is the bit of worth 2^b.
+ghost use mathlib.Core.Path.{_≡_};
+ghost use Prim.Native.Nat.{_-_, _<_, _≤_};
+ghost use lib.Bits.{bitAnd};
+ghost use lib.Count.{trailingZeros};
+ghost use Rattle.laws.specs.Sums.{count};
+ghost use Rattle.station.specs.Head.{taken};
+
+// Whether bridge b of the mask is free.
+pub fn is_free(mask: u8, b: usize) -> bool
+    requires { ⌜ b < 8 ⌝ }
+    ensures { λ r. ⌜ r ≡ taken mask b ⌝ }
+{
+    (mask >> b) % 2 == 1
+}
+
+// A mask as a wider number, since 2^8 is no u8: a function, so that a caller has no cast to prove.
+fn widened(mask: u8) -> u16
+    ensures { λ r. ⌜ (r ≡ mask) × (r < 256) ⌝ }
+{
+    mask as u16
+}
+
+// How many of the first `bridges` bridges are free; what the mask has past them does not count.
+pub fn count_free(mask: u8, bridges: usize) -> u32
+    requires { ⌜ bridges ≤ 8 ⌝ }
+    ensures { λ r. ⌜ r ≡ count bridges (taken mask) ⌝ }
+{
+    u16::count_ones(widened(mask) % (1u16 << bridges))
+}
+
+// The same number, as an index.
+fn index(n: u32) -> usize
+    ensures { λ r. ⌜ r ≡ n ⌝ }
+{
+    n as usize
+}
+
+// The next free bridge, that is the lowest one, or 8 if none is free.
+pub fn next_free(mask: u8) -> usize
+    ensures { λ r. ⌜ r ≡ trailingZeros 8 mask ⌝ }
+{
+    index(u8::trailing_zeros(mask))
+}
+
+// The mask without its next free bridge, or 0 if none is free.
+pub fn without_next(mask: u8) -> u8
+    ensures { λ r. ⌜ r ≡ bitAnd mask (mask - 1) ⌝ }
+{
+    if mask == 0 {
+        return 0;
+    }
+    mask & (mask - 1)
+}

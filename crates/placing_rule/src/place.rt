@@ -1,0 +1,40 @@
+// The placing rule over the whole frame, for plans and calls alike.
+use crate::choice::chosen_in;
+use crate::choice::served;
+use crate::masks::count_free;
+use crate::row::values_in;
+use crate::row::write_row;
+use placing::limits::in_limits;
+ghost use mathlib.Core.Path.{_≡_};
+ghost use Rattle.placing_rule.specs.Code.{placedWithin};
+
+// Places jobs 0 to k - 1 with the needs into the free bridges, largest remaining time first, slot by slot from the first. Job i writes `early[i]` in its first
+// `first[i]` slots and `late[i]` in the others. A free bridge that nobody takes becomes 0; one that is not free keeps its cell, and so does all past the frame.
+// Of a mask the first `bridges` bridges count. Where the frame, k or the table is beyond the limits, nothing is written.
+pub fn place(
+    table: &mut [u16],
+    slots: usize,
+    bridges: usize,
+    free: [u8; 64],
+    needs: [u8; 32],
+    k: usize,
+    first: [u8; 32],
+    early: [u16; 32],
+    late: [u16; 32],
+)
+    ensures { λ _. ⌜ now (table .exit) ≡ placedWithin slots bridges free needs k first early late (now (table .entry)) ⌝ }
+{
+    if !in_limits(slots, bridges, k, table.len()) {
+        return;
+    }
+    let mut left = needs;
+    for s in 0..slots {
+        let mask = free[s];
+        let chosen = chosen_in(left, k, count_free(mask, bridges));
+        let values = values_in(needs, left, k, first, early, late);
+        write_row(table, s * bridges, bridges, mask, chosen, values, k);
+        // By a local of its own: a call's result cannot be laid into an array that is in use.
+        let next = served(left, k, chosen);
+        left = next;
+    }
+}

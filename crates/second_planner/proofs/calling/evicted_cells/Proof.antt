@@ -1,0 +1,59 @@
+-- `calling::evicted_cells` is safe and ends. The loop's invariant: `cell` is at most 6. Assumes nothing.
+use Prim.Native.Nat.{_≤_, _-_}
+use native.Mathlib.Omega.{arith}
+use borrow.Author.Needs.{needs}
+use Rattle.second_planner.proofs.calling.evicted_cells.Statement.{statement}
+use Rattle.second_planner.proofs.calling.evicted_cells.Tie as tie
+
+abbrev Inv-loop : tie.InvT-loop
+Inv-loop before after set₀ cell₀ set cell = cell ≤ 6
+
+abbrev μ-loop : tie.MeasureT-loop
+μ-loop before after set₀ cell₀ set cell = 6 - cell
+
+loop-holds : tie.Need-loop-holds Inv-loop μ-loop
+loop-holds c = omega arith
+
+get6-requires : tie.Need-get6-requires Inv-loop μ-loop
+get6-requires c κs = search needs
+
+kind-of-requires : tie.Need-kind-of-requires Inv-loop μ-loop
+kind-of-requires c κs = search needs
+
+get6-requires-2 : tie.Need-get6-requires-2 Inv-loop μ-loop
+get6-requires-2 c κs = search needs
+
+kind-of-requires-2 : tie.Need-kind-of-requires-2 Inv-loop μ-loop
+kind-of-requires-2 c κs = search needs
+
+bit-requires : tie.Need-bit-requires Inv-loop μ-loop
+bit-requires c κs = search needs
+
+add-cell : tie.Need-add-cell Inv-loop μ-loop
+add-cell c = omega arith
+
+loop-less : tie.Need-loop-less Inv-loop μ-loop
+loop-less c = omega arith
+
+loop-again : tie.Need-loop-again Inv-loop μ-loop
+loop-again c = omega arith
+
+returns : tie.Need-returns Inv-loop μ-loop
+returns c = search needs
+
+pub evicted-cells-spec : {M : Type 1} → statement M
+evicted-cells-spec =
+    tie.close
+    (tie.spec
+    Inv-loop
+    μ-loop
+    loop-holds
+    get6-requires
+    kind-of-requires
+    get6-requires-2
+    kind-of-requires-2
+    bit-requires
+    add-cell
+    loop-less
+    loop-again
+    returns)

@@ -1,0 +1,35 @@
+-- `calling::evicted_set` is safe and ends. The loop's invariant: `set` is at most 64. Assumes nothing.
+use Prim.Native.Nat.{_≤_, _-_}
+use native.Mathlib.Omega.{arith}
+use borrow.Author.Needs.{needs}
+use Rattle.second_planner.proofs.calling.evicted_set.Statement.{statement}
+use Rattle.second_planner.proofs.calling.evicted_set.Tie as tie
+
+abbrev Inv-loop : tie.InvT-loop
+Inv-loop feasibles case table call best₀ least₀ set₀ best least set = set ≤ 64
+
+abbrev μ-loop : tie.MeasureT-loop
+μ-loop feasibles case table call best₀ least₀ set₀ best least set = 64 - set
+
+loop-holds : tie.Need-loop-holds Inv-loop μ-loop
+loop-holds c = omega arith
+
+place-of-requires : tie.Need-place-of-requires Inv-loop μ-loop
+place-of-requires c κs = search needs
+
+add-set : tie.Need-add-set Inv-loop μ-loop
+add-set c = omega arith
+
+loop-less : tie.Need-loop-less Inv-loop μ-loop
+loop-less c = omega arith
+
+loop-again : tie.Need-loop-again Inv-loop μ-loop
+loop-again c = omega arith
+
+returns : tie.Need-returns Inv-loop μ-loop
+returns c = search needs
+
+pub evicted-set-spec : {M : Type 1} → statement M
+evicted-set-spec =
+    tie.close
+    (tie.spec Inv-loop μ-loop loop-holds place-of-requires add-set loop-less loop-again returns)

@@ -1,0 +1,47 @@
+-- `planning::plan_table` is safe and ends. The loop's invariant: `cell` is at most 6. Assumes nothing.
+use Prim.Native.Nat.{_≤_, _-_}
+use native.Mathlib.Omega.{arith}
+use borrow.Author.Needs.{needs}
+use Rattle.second_planner.proofs.planning.plan_table.Statement.{statement}
+use Rattle.second_planner.proofs.planning.plan_table.Tie as tie
+
+abbrev Inv-loop : tie.InvT-loop
+Inv-loop case at table₀ cell₀ table cell = cell ≤ 6
+
+abbrev μ-loop : tie.MeasureT-loop
+μ-loop case at table₀ cell₀ table cell = 6 - cell
+
+loop-holds : tie.Need-loop-holds Inv-loop μ-loop
+loop-holds c = omega arith
+
+plan-cell-requires : tie.Need-plan-cell-requires Inv-loop μ-loop
+plan-cell-requires c κs = search needs
+
+put6-requires : tie.Need-put6-requires Inv-loop μ-loop
+put6-requires c κs = search needs
+
+add-cell : tie.Need-add-cell Inv-loop μ-loop
+add-cell c = omega arith
+
+loop-less : tie.Need-loop-less Inv-loop μ-loop
+loop-less c = omega arith
+
+loop-again : tie.Need-loop-again Inv-loop μ-loop
+loop-again c = omega arith
+
+returns : tie.Need-returns Inv-loop μ-loop
+returns c = search needs
+
+pub plan-table-spec : {M : Type 1} → statement M
+plan-table-spec =
+    tie.close
+    (tie.spec
+    Inv-loop
+    μ-loop
+    loop-holds
+    plan-cell-requires
+    put6-requires
+    add-cell
+    loop-less
+    loop-again
+    returns)

@@ -1,0 +1,100 @@
+-- Laws of jobs that are read one after the other into an array of eight.
+--
+-- In order: jobs stored from a place on (`stored`), past the end (`stored-past`) and into an array of zeros (`stored-padded`); the jobs so far and
+-- those that are left (`counted`): at the start (`counted-start`), one more (`counted-next`), the last
+-- (`counted-last`), and so by the bracket that was read (`read-none`, `read-next`, `read-last`).
+-- Assumes nothing.
+use Prim.Native.Nat.{ℕ, zero, suc, _+_, _≤_}
+use native.Mathlib.Omega.{arith}
+use mathlib.Core.Path.{_≡_, refl, sym, _∙_, ap}
+use mathlib.Core.Bool.{true, false}
+use mathlib.Core.Option.{Option, none, some}
+use mathlib.Core.List.{List, [], _∷_, _++_, append-assoc, append-nil}
+use lib.ListN.{length, drop, set, length-append}
+use lib.Seq.{set-out, set-append-seam}
+use Rattle.laws.proofs.Sums.{clash}
+use Rattle.station.specs.declared.types.Job.{Job}
+use Rattle.station_brackets.specs.declared.brackets.Jobs.{Jobs}
+use Rattle.station.specs.Head as meant
+use Rattle.station.specs.Form.{Pairs, last, next, also, readBrackets, jobsOf}
+use Rattle.station_scan.specs.Numeral.{seen}
+use Rattle.station_brackets.specs.declared.brackets.Bracket.{Bracket}
+use Rattle.station_scan.specs.Jobs.{jobIn, noJob, padded, noJobs}
+use Rattle.station_brackets.specs.Bracket.{jobsRead, BracketAt, no-bracket, last-bracket, next-bracket}
+
+-- jobs stored from place n on
+unfoldable pub stored : ℕ → List Job → List meant.Job → List Job
+stored n js [] = js
+stored n js (j ∷ l) = stored (suc n) (set js n (jobIn j)) l
+
+pub stored-past : (n : ℕ) (js : List Job) (l : List meant.Job) → length js ≤ n → stored n js l ≡ js
+unfolding stored
+stored-past n js [] h = refl
+stored-past n js (j ∷ l) h = rw (set-out js n (jobIn j) h) (stored-past (suc n) js l (omega arith))
+
+stored-after : (a : List Job) (k n : ℕ) (l : List meant.Job) → length a ≡ n → stored n (a ++ padded k []) l ≡ a ++ padded k l
+unfolding stored
+stored-after a k n [] h = refl
+stored-after a zero n (j ∷ l) h =
+    rw (append-nil a, set-out a n (jobIn j) (omega arith)) (stored-past (suc n) a l (omega arith))
+stored-after a (suc k) n (j ∷ l) h =
+    let s : set (a ++ (noJob ∷ padded k [])) n (jobIn j) ≡ (a ++ (jobIn j ∷ [])) ++ padded k [] =
+    rw (← h) (set-append-seam a noJob (padded k []) (jobIn j)) ∙ sym (append-assoc a (jobIn j ∷ []) (padded k [])) in
+    let e : length (a ++ (jobIn j ∷ [])) ≡ suc n = omega (arith, length-append a (jobIn j ∷ [])) in
+    ap (λ (x : List Job). stored (suc n) x l) s
+    ∙ stored-after (a ++ (jobIn j ∷ [])) k (suc n) l e
+    ∙ append-assoc a (jobIn j ∷ []) (padded k l)
+
+pub stored-padded : (l : List meant.Job) → stored 0 noJobs l ≡ padded 8 l
+stored-padded l = stored-after [] 8 0 l refl
+
+-- ---- the jobs so far, and those that are left
+
+-- what the whole line makes
+abbrev pub counted : ℕ → List Job → Option Pairs → Jobs
+counted n js none = record { found = false; count = 0; jobs = noJobs }
+counted n js (some p) = record { found = true; count = seen (n + length (jobsOf p)); jobs = stored n js (jobsOf p) }
+
+pub counted-start : (o : Option Pairs) → counted 0 noJobs o ≡ jobsRead o
+counted-start none = refl
+counted-start (some p) =
+    let e : 0 + length (jobsOf p) ≡ length (jobsOf p) = omega arith in
+    rw (e, stored-padded (jobsOf p)) refl
+
+module _ (n : ℕ) (js : List Job) (a b : ℕ) where
+  abbrev job : Job
+  job = record { number = seen a; slots = seen b }
+
+  pub counted-next : (o : Option Pairs) → counted n js (also a b o) ≡ counted (n + 1) (set js n job) o
+  unfolding jobsOf stored
+  counted-next none = refl
+  counted-next (some p) =
+      let e : n + suc (length (jobsOf p)) ≡ suc n + length (jobsOf p) = omega arith in
+      let i : suc n ≡ n + 1 = omega arith in
+      rw (← i, e) refl
+
+  pub counted-last : counted n js (some (last a b)) ≡ record { found = true; count = seen (n + 1); jobs = set js n job }
+  unfolding jobsOf stored
+  counted-last = refl
+
+-- ---- by the bracket that was read
+
+module _ (n : ℕ) (js : List Job) {t : List ℕ} {at : ℕ} {b : Bracket} where
+  pub read-none : BracketAt t at b → b .found ≡ false → record { found = false; count = 0; jobs = noJobs } ≡ counted n js (readBrackets (drop at t))
+  read-none (no-bracket f e) y = rw e refl
+  read-none (last-bracket c d f l x w h i e) y = absurd (clash (sym f ∙ y))
+  read-none (next-bracket c d f l x w h i e) y = absurd (clash (sym f ∙ y))
+
+  pub read-last : BracketAt t at b → b .found ≡ true → b .last ≡ true
+      → record { found = true; count = seen (n + 1); jobs = set js n (record { number = b .first; slots = b .second }) }
+      ≡ counted n js (readBrackets (drop at t))
+  read-last (no-bracket f e) y z = absurd (clash (sym y ∙ f))
+  read-last (last-bracket c d f l x w h i e) y z = rw (e, x, w) (sym (counted-last n js c d))
+  read-last (next-bracket c d f l x w h i e) y z = absurd (clash (sym z ∙ l))
+
+  pub read-next : BracketAt t at b → b .found ≡ true → b .last ≡ false
+      → counted (n + 1) (set js n (record { number = b .first; slots = b .second })) (readBrackets (drop (b .next) t))
+      ≡ counted n js (readBrackets (drop at t))
+  read-next (no-bracket f e) y z = absurd (clash (sym y ∙ f))
+  read-next (last-bracket c d f l x w h i e) y z = absurd (clash (sym l ∙ z))
+  read-next (next-bracket c d f l x w h i e) y z = rw (e, x, w) (sym (counted-next n js c d (readBrackets (drop (b .next) t))))

@@ -1,0 +1,2 @@
+-- The laws of the test of a head record.
+pub mod Valid

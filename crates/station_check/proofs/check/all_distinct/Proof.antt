@@ -1,0 +1,84 @@
+-- `check::all_distinct` meets its contract. The invariant: the answer is that of the presets from i on. Assumes nothing.
+use Prim.Native.Nat.{_-_, _≤_}
+use native.Mathlib.Numerals.{add-one}
+use native.Mathlib.Omega.{arith}
+use mathlib.Core.Path.{_≡_, refl, sym, _∙_}
+use lib.ListN.{length, take, drop}
+use mathlib.Core.List.{map}
+use Rattle.station.specs.Head.{allDistinct}
+use Rattle.station.specs.Types.{presetIn, presetsIn}
+use Rattle.station_check.proofs.Valid.{distinct-fault, distinct-next, distinct-end}
+use Rattle.station_check.proofs.check.all_distinct.Statement.{statement}
+use Rattle.station_check.proofs.check.all_distinct.Tie as tie
+
+abbrev Inv-loop : tie.InvT-loop
+Inv-loop count presets i₀ i = (i ≤ count) × (allDistinct (map presetIn (drop i (take count presets))) ≡ allDistinct (presetsIn count presets))
+
+abbrev μ-loop : tie.MeasureT-loop
+μ-loop count presets i₀ i = count - i
+
+loop-holds : tie.Need-loop-holds Inv-loop μ-loop
+loop-holds c = (omega arith, refl)
+
+mul-preset : tie.Need-mul-preset Inv-loop μ-loop
+mul-preset c = omega arith
+
+array-copy-out-preset : tie.Need-array-copy-out-preset Inv-loop μ-loop
+array-copy-out-preset c = omega arith
+
+add-has-number : tie.Need-add-has-number Inv-loop μ-loop
+add-has-number c = omega arith
+
+has-number-requires : tie.Need-has-number-requires Inv-loop μ-loop
+has-number-requires c κs = omega arith
+
+returns : tie.Need-returns Inv-loop μ-loop
+returns c = let a = c .before .before .before .before .before .args in
+    let loop = c .before .before .before .before .loop in
+    let n : length (a .t1) ≡ 32 = omega arith in
+    sym
+    (distinct-fault (loop .i) (a .count) (a .t1) (c .before .before .before .loop-test .taken) (omega arith)
+    (sym (rw add-one at (c .before .has-number .ensures)) ∙ c .if1 .taken))
+    ∙ loop .inv .1
+
+add-i : tie.Need-add-i Inv-loop μ-loop
+add-i c = omega arith
+
+loop-less : tie.Need-loop-less Inv-loop μ-loop
+loop-less c = omega arith
+
+loop-again : tie.Need-loop-again Inv-loop μ-loop
+loop-again c = let a = c .before .before .before .before .before .args in
+    let loop = c .before .before .before .before .loop in
+    let n : length (a .t1) ≡ 32 = omega arith in (
+      omega arith,
+      rw add-one
+          (sym
+          (distinct-next (loop .i) (a .count) (a .t1) (c .before .before .before .loop-test .taken) (omega arith)
+          (sym (rw add-one at (c .before .has-number .ensures)) ∙ c .if1 .left))
+          ∙ loop .inv .1),
+    )
+
+returns-2 : tie.Need-returns-2 Inv-loop μ-loop
+returns-2 c = let a = c .before .before .args in
+    let loop = c .before .loop in
+    let n : length (a .t1) ≡ 32 = omega arith in
+    let e : loop .i ≡ a .count = omega arith in
+    sym (distinct-end (a .count) (a .t1) (omega arith)) ∙ (rw e at (loop .inv .1))
+
+pub all-distinct-spec : {M : Type 1} → statement M
+all-distinct-spec =
+    tie.close
+    (tie.spec
+    Inv-loop
+    μ-loop
+    loop-holds
+    mul-preset
+    array-copy-out-preset
+    add-has-number
+    has-number-requires
+    returns
+    add-i
+    loop-less
+    loop-again
+    returns-2)

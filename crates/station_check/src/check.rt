@@ -1,0 +1,149 @@
+// The test of a lent head record: whether some text yields it.
+use station::types::Head;
+use station::types::Preset;
+ghost use Prim.Native.Nat.{_≤_, _^_};
+ghost use mathlib.Core.Path.{_≡_};
+ghost use mathlib.Core.Bool.{_&&_};
+ghost use mathlib.Core.List.{map};
+ghost use lib.ListN.{length, take, drop};
+ghost use lib.Dec.{eqb, ltb};
+ghost use Rattle.station.specs.Head.{within, inLimits, hasNumber, allInLimits, allDistinct, masksIn};
+ghost use Rattle.station_check.specs.Check.{maskIn};
+ghost use Rattle.station.specs.Types.{presetIn, presetsIn, validRecord};
+
+// The frame's numbers of slots and bridges are within their limits.
+fn frame_in_limits(slots: usize, bridges: usize) -> bool
+    ensures { λ r. ⌜ r ≡ (within 1 64 slots && within 1 8 bridges) ⌝ }
+{
+    if slots < 1 {
+        return false;
+    }
+    if slots > 64 {
+        return false;
+    }
+    if bridges < 1 {
+        return false;
+    }
+    bridges <= 8
+}
+
+// A mask has only slots of a frame of `slots` slots.
+fn mask_below(mask: u64, slots: usize) -> bool
+    ensures { λ r. ⌜ r ≡ ltb mask (2 ^ slots) ⌝ }
+{
+    if 64 <= slots {
+        return true;
+    }
+    mask >> slots == 0
+}
+
+// The mask of bridge `bridge`, counted from 0, has only cells of the frame: none at all past the last bridge.
+fn mask_in(mask: u64, bridge: usize, bridges: usize, slots: usize) -> bool
+    ensures { λ r. ⌜ r ≡ maskIn mask bridge bridges slots ⌝ }
+{
+    if bridge < bridges {
+        return mask_below(mask, slots);
+    }
+    mask == 0
+}
+
+// There are eight masks, and all have only cells of the frame.
+fn masks_in(busy: [u64; 8], bridges: usize, slots: usize) -> bool
+    ensures { λ r. ⌜ r ≡ (eqb (length busy) 8 && masksIn bridges (2 ^ slots) busy) ⌝ }
+{
+    let mut b = 0;
+    while b < 8 {
+        if !mask_in(busy[b], b, bridges, slots) {
+            return false;
+        }
+        b += 1;
+    }
+    true
+}
+
+// A preset is within its limits.
+fn preset_in_limits(preset: Preset) -> bool
+    ensures { λ r. ⌜ r ≡ inLimits (presetIn preset) ⌝ }
+{
+    if preset.number < 1 {
+        return false;
+    }
+    if preset.priority > 9 {
+        return false;
+    }
+    if preset.mandatory > 64 {
+        return false;
+    }
+    preset.optional <= 64
+}
+
+// The first `count` presets are within their limits.
+fn all_in_limits(presets: [Preset; 32], count: usize) -> bool
+    requires { ⌜ count ≤ 32 ⌝ }
+    ensures { λ r. ⌜ r ≡ allInLimits (presetsIn count presets) ⌝ }
+{
+    let mut i = 0;
+    while i < count {
+        let preset = presets[i];
+        if !preset_in_limits(preset) {
+            return false;
+        }
+        i += 1;
+    }
+    true
+}
+
+// One of the presets from `from` up to `count` has the number.
+fn has_number(presets: [Preset; 32], from: usize, count: usize, number: u8) -> bool
+    requires { ⌜ (from ≤ count) × (count ≤ 32) ⌝ }
+    ensures { λ r. ⌜ r ≡ hasNumber number (map presetIn (drop from (take count presets))) ⌝ }
+{
+    let mut i = from;
+    while i < count {
+        let preset = presets[i];
+        if number == preset.number {
+            return true;
+        }
+        i += 1;
+    }
+    false
+}
+
+// No two of the first `count` presets have one number.
+fn all_distinct(presets: [Preset; 32], count: usize) -> bool
+    requires { ⌜ count ≤ 32 ⌝ }
+    ensures { λ r. ⌜ r ≡ allDistinct (presetsIn count presets) ⌝ }
+{
+    let mut i = 0;
+    while i < count {
+        let preset = presets[i];
+        if has_number(presets, i + 1, count, preset.number) {
+            return false;
+        }
+        i += 1;
+    }
+    true
+}
+
+// Some text yields the head record with the first of the preset records.
+pub fn valid_record(head: Head, presets: [Preset; 32]) -> bool
+    ensures { λ r. ⌜ r ≡ validRecord head presets ⌝ }
+{
+    let slots = head.slots;
+    let bridges = head.bridges;
+    let busy = head.busy;
+    let count = head.count;
+    if count > 32 {
+        return false;
+    }
+    if !frame_in_limits(slots, bridges) {
+        return false;
+    }
+    if !masks_in(busy, bridges, slots) {
+        return false;
+    }
+    if !all_in_limits(presets, count) {
+        return false;
+    }
+    all_distinct(presets, count)
+}

@@ -1,0 +1,79 @@
+-- What the code makes of an event line by itself, before the table and the clock are looked at. Document 01, "The station text" and "Causes".
+-- Assumes nothing.
+use Prim.Native.Nat.{ℕ, zero, suc}
+use mathlib.Core.Bool.{Bool, true, false, _&&_}
+use mathlib.Core.Option.{Option, none, some}
+use mathlib.Core.List.{List, [], _∷_}
+use lib.ListN.{length}
+use lib.Dec.{leb}
+use Rattle.station.specs.Head as meant
+use Rattle.station.specs.Head.{within}
+use Rattle.station.specs.Form.{Form, frameLine, busyLine, presetLine, clockLine, callLine, jobsOf}
+use Rattle.station_scan.specs.Numeral.{seen}
+use Rattle.station_scan.specs.Jobs.{padded, noJobs}
+use Rattle.station.specs.declared.types.Job.{Job}
+use Rattle.station.specs.declared.types.Refusal.{Refusal}
+use Rattle.station.specs.declared.types.Refusal.the-variants as refusal
+use Rattle.station_forms.specs.declared.forms.Line.{Line}
+use Rattle.station_forms.specs.declared.forms.Line.the-variants.{NoForm, Frame, Busy, Preset, Clock, Call}
+use Rattle.station_forms.specs.declared.events.Event.the-variants.{SetClock, Place, Fault}
+use Rattle.station_forms.specs.declared.events.EventRead.{EventRead}
+
+-- a refusal has no jobs
+abbrev pub fault : Refusal → EventRead
+fault r = record { event = Fault r; jobs = noJobs }
+
+abbrev pub pickEvent : Bool → EventRead → EventRead → EventRead
+pickEvent true a b = a
+pickEvent false a b = b
+
+-- "c: from 1 to 64; preset or job number: from 1 to 255"
+abbrev pub jobInLimits : meant.Job → Bool
+jobInLimits j = within 1 255 (j .number) && within 1 64 (j .slots)
+
+-- every job is within its limits
+unfoldable pub jobsInLimits : List meant.Job → Bool
+jobsInLimits [] = true
+jobsInLimits (j ∷ l) = jobInLimits j && jobsInLimits l
+
+-- "jobs in a call: from 1 to 8", which a form has at least, and each within its limits; else "a value .. outside its limits", "a ninth job in a call"
+abbrev pub callInLimits : List meant.Job → Bool
+callInLimits l = leb (length l) 8 && jobsInLimits l
+
+-- A call: its jobs first in the array and zeros after them, or its refusal.
+abbrev pub callMeant : List meant.Job → EventRead
+callMeant l = pickEvent (callInLimits l) (record { event = Place (length l); jobs = padded 8 l }) (fault refusal.OutOfLimits)
+
+-- The event of a line: "a line that is not one of the five forms" is refused; "A head line after an event is out of place"; a clock; a call.
+abbrev pub eventIn : Option Form → EventRead
+eventIn none = fault refusal.NoForm
+eventIn (some (frameLine s b)) = fault refusal.OutOfPlace
+eventIn (some (busyLine b p)) = fault refusal.OutOfPlace
+eventIn (some (presetLine n p m o)) = fault refusal.OutOfPlace
+eventIn (some (clockLine t)) = record { event = SetClock (seen t); jobs = noJobs }
+eventIn (some (callLine p)) = callMeant (jobsOf p)
+
+-- ---- the same by what was read of the line
+
+-- a job that was read is within its limits
+abbrev pub jobFits : Job → Bool
+jobFits j = within 1 255 (j .number) && within 1 64 (j .slots)
+
+-- the first n jobs are
+unfoldable pub firstFit : ℕ → List Job → Bool
+firstFit zero l = true
+firstFit (suc n) [] = true
+firstFit (suc n) (j ∷ l) = jobFits j && firstFit n l
+
+-- a call of n jobs, with the first eight
+abbrev pub callEvent : ℕ → List Job → EventRead
+callEvent n js = pickEvent (leb n 8 && firstFit n js) (record { event = Place n; jobs = js }) (fault refusal.OutOfLimits)
+
+-- the event of what was read
+abbrev pub lineEvent : Line → List Job → EventRead
+lineEvent NoForm js = fault refusal.NoForm
+lineEvent (Frame s b) js = fault refusal.OutOfPlace
+lineEvent (Busy b m o) js = fault refusal.OutOfPlace
+lineEvent (Preset n p m o) js = fault refusal.OutOfPlace
+lineEvent (Clock t) js = record { event = SetClock t; jobs = js }
+lineEvent (Call n) js = callEvent n js

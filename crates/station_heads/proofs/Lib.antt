@@ -1,0 +1,5 @@
+-- The laws of reading a head: one line's step, the lines of a head, the text of a head; the round trips over the contracts of read_head and write_head.
+pub mod ReadHead
+pub mod HeadLines
+pub mod HeadText
+pub mod RoundTrip

@@ -1,0 +1,2 @@
+-- The laws of writers of bytes.
+pub mod Wrote

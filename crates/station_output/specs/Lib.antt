@@ -1,0 +1,2 @@
+-- What a writer of bytes leaves.
+pub mod Wrote
