@@ -1,8 +1,9 @@
 -- The entries on the running frame, law by law.
 --
--- In order: what is asked for on a frame that meets no cause (`asked-stopped`, `asked-carried`); a clock, a law for each answer; an event line as it was read
--- (`asked-read`, `line-yields`); the causes of the frame (`frame-passes`, `frame-of-running`); a law for each answer of an entry; the frame afterwards
--- (`done-running`).
+-- In order: what is asked for on a frame that meets no cause (`asked-stopped`, `asked-carried`); a clock, a law for each answer; an event line as it was read,
+-- a law for what each asks (`line-clock`, `line-place`, `line-fault`), and that it is what the line asks for (`asked-read`); the causes of the frame
+-- (`frame-passes`, `frame-of-running`); where none is met, a line and a clock come to what the event does (`line-event`, `line-done`, `clock-done`); a law for
+-- each answer of an entry; the frame afterwards (`done-running`).
 -- Assumes nothing.
 use Prim.Native.Nat.{ℕ, zero, suc, _-_, _≤_, _<_}
 use native.Mathlib.Omega.{arith}
@@ -22,7 +23,6 @@ use Rattle.station_scan.specs.Numeral.{seen}
 use Rattle.station_scan.specs.Jobs.{padded}
 use Rattle.station_forms.specs.Event.{jobInLimits, jobsInLimits, callInLimits, eventIn}
 use Rattle.station.specs.Types.{headIn, validRecord, refusalIn}
-use Rattle.station.specs.declared.types.Job as record-of-job
 use Rattle.station.specs.declared.types.Preset as record-of-preset
 use Rattle.station.specs.declared.types.Head as record-of-head
 use Rattle.station.specs.declared.types.Refusal as refusal
@@ -48,12 +48,13 @@ use Rattle.placing_check.proofs.Tried.{causes-none}
 use Rattle.placing_check.proofs.Tried.{call-jobs, frame-known}
 use Rattle.frame.specs.declared.types.Answer.the-variants.{Now, Refused}
 use Rattle.frame.specs.declared.types.Outcome as result
-use Rattle.frame.specs.Event.{Event, line, call, Asked, setClock, place, fault, askedByForm, asked, refused, State, Outcome}
+use Rattle.frame.specs.Event.{Event, line, clock, call, Asked, setClock, place, fault, askedByForm, asked, now, refused, State, Outcome}
 use Rattle.frame.specs.Event.{ownCauses, carriedOut, comesTo, eventOf}
 use Rattle.frame.specs.Types.{answerIn}
 use Rattle.frame.specs.Event.{answerOf}
-use Rattle.frame_events.specs.Running.{stateOf, eventMeant, Yields, EventDone, ClockDone}
-use Rattle.frame.proofs.Event.{event-call, event-running}
+use Rattle.frame_events.specs.Running.{stateOf, eventMeant, Yields, EventDone}
+use Rattle.frame_events.specs.Running.{clockCauses, clockAnswer, clockAfter, ClockDone, askedIn, lineOutcome, lineMeant}
+use Rattle.frame.proofs.Event.{outcomeOf, event-call, event-running}
 
 -- ---- what is asked for on a frame that meets no cause
 
@@ -93,61 +94,89 @@ yields-same e y =
 
 -- ---- a clock
 
--- "t below 1 or above S + 1"
-clock-outside : (h : Head) (st : State) (t : ℕ) → within 1 (suc (h .slots)) t ≡ false → firstOf (ownCauses h st (setClock t)) ≡ some outOfLimits
+-- the causes of a clock are its own on any frame of so many slots
+own-clock : (h : Head) (st : State) (t : ℕ) → ownCauses h st (setClock t) ≡ clockCauses (h .slots) (st .clock) t
 unfolding ownCauses
-clock-outside h st t e = met outOfLimits (not (within 1 (suc (h .slots)) t)) _ (not-is-true _ e)
-
-above : (h : Head) (t : ℕ) → suc (h .slots) < t → within 1 (suc (h .slots)) t ≡ false
-above h t l = fails-right (leb 1 t) (leb t (suc (h .slots))) (leb-no t (suc (h .slots)) l)
-
--- "a clock below the present one"
-clock-before : (h : Head) (st : State) (t : ℕ) → within 1 (suc (h .slots)) t ≡ true → t < st .clock → firstOf (ownCauses h st (setClock t)) ≡ some clockBack
-unfolding ownCauses
-clock-before h st t e l =
-    passed outOfLimits (not (within 1 (suc (h .slots)) t)) _ (not-is-false _ e) ∙ met clockBack (ltb t (st .clock)) [] (ltb-yes t (st .clock) l)
-
-clock-after : (h : Head) (st : State) (t : ℕ) → within 1 (suc (h .slots)) t ≡ true → st .clock ≤ t → firstOf (ownCauses h st (setClock t)) ≡ none
-unfolding ownCauses
-clock-after h st t e l =
-    passed outOfLimits (not (within 1 (suc (h .slots)) t)) _ (not-is-false _ e)
-    ∙ passed clockBack (ltb t (st .clock)) [] (ltb-no t (st .clock) l)
-    ∙ first-of-none
+own-clock h st t = refl
 
 module _ (slots c t : ℕ) where
+  -- "t below 1 or above S + 1"
+  clock-outside : within 1 (suc slots) t ≡ false → firstOf (clockCauses slots c t) ≡ some outOfLimits
+  clock-outside e = met outOfLimits (not (within 1 (suc slots) t)) _ (not-is-true _ e)
+
+  clock-above : suc slots < t → firstOf (clockCauses slots c t) ≡ some outOfLimits
+  clock-above l = clock-outside (fails-right (leb 1 t) (leb t (suc slots)) (leb-no t (suc slots) l))
+
+  -- "a clock below the present one"
+  clock-before : within 1 (suc slots) t ≡ true → t < c → firstOf (clockCauses slots c t) ≡ some clockBack
+  clock-before e l = passed outOfLimits (not (within 1 (suc slots) t)) _ (not-is-false _ e) ∙ met clockBack (ltb t c) [] (ltb-yes t c l)
+
+  clock-after : within 1 (suc slots) t ≡ true → c ≤ t → firstOf (clockCauses slots c t) ≡ none
+  clock-after e l =
+      passed outOfLimits (not (within 1 (suc slots) t)) _ (not-is-false _ e) ∙ passed clockBack (ltb t c) [] (ltb-no t c l) ∙ first-of-none
+
+  -- the first cause is the answer, and the clock stays
+  clock-stopped : (r : Refusal) → firstOf (clockCauses slots c t) ≡ some r → (clockAnswer slots c t ≡ refused r) × (clockAfter slots c t ≡ c)
+  unfolding clockAnswer clockAfter
+  clock-stopped r e = (rw (e, clockAnswer) refl, rw (e, clockAfter) refl)
+
+  -- without one it is the new clock
+  clock-moved : firstOf (clockCauses slots c t) ≡ none → (clockAnswer slots c t ≡ now t) × (clockAfter slots c t ≡ t)
+  unfolding clockAnswer clockAfter
+  clock-moved e = (rw (e, clockAnswer) refl, rw (e, clockAfter) refl)
+
+  clock-refused : (q : refusal.Refusal) → firstOf (clockCauses slots c t) ≡ some (refusalIn q) → ClockDone slots c t (record { answer = Refused q; clock = c })
+  clock-refused q e = let z = clock-stopped (refusalIn q) e in record { answer = sym (z .0); clock = sym (z .1) }
+
   pub clock-low : t < 1 → ClockDone slots c t (record { answer = Refused OutOfLimits; clock = c })
-  clock-low l h table same free =
-      refused-yields table c OutOfLimits
-      (asked-stopped h (stateOf table c) (setClock t) free outOfLimits
-      (clock-outside h (stateOf table c) t (fails-left (leb 1 t) (leb t (suc (h .slots))) (leb-no 1 t l))))
+  clock-low l = clock-refused OutOfLimits (clock-outside (fails-left (leb 1 t) (leb t (suc slots)) (leb-no 1 t l)))
 
   pub clock-high : slots < t - 1 → ClockDone slots c t (record { answer = Refused OutOfLimits; clock = c })
-  clock-high l h table same free =
-      refused-yields table c OutOfLimits
-      (asked-stopped h (stateOf table c) (setClock t) free outOfLimits (clock-outside h (stateOf table c) t (above h t (omega arith))))
+  clock-high l = clock-refused OutOfLimits (clock-above (omega arith))
 
   module _ (low : 1 ≤ t) (high : t - 1 ≤ slots) where
-    inside : (h : Head) → h .slots ≡ slots → within 1 (suc (h .slots)) t ≡ true
-    inside h same = of-within 1 (suc (h .slots)) t low (omega arith)
+    inside : within 1 (suc slots) t ≡ true
+    inside = of-within 1 (suc slots) t low (omega arith)
 
     pub clock-below : t < c → ClockDone slots c t (record { answer = Refused ClockBack; clock = c })
-    clock-below l h table same free =
-        refused-yields table c ClockBack
-        (asked-stopped h (stateOf table c) (setClock t) free clockBack (clock-before h (stateOf table c) t (inside h same) l))
+    clock-below l = clock-refused ClockBack (clock-before inside l)
 
     pub clock-set : c ≤ t → ClockDone slots c t (record { answer = Now t; clock = t })
-    unfolding carriedOut
-    clock-set l h table same free =
-        yields-same (asked-carried h (stateOf table c) (setClock t) free (clock-after h (stateOf table c) t (inside h same) l))
-        (record { answer = refl; table = refl; clock = refl })
+    clock-set l = let z = clock-moved (clock-after inside l) in record { answer = sym (z .0); clock = sym (z .1) }
 
 -- ---- an event line as it was read
 
--- what an event line asks for, as it was read
-abbrev askedIn : read.Event → List record-of-job.Job → Asked
-askedIn (SetClock t) js = setClock t
-askedIn (Place n) js = place (callJobs n js)
-askedIn (Fault r) js = fault (refusalIn r)
+module _ (head : record-of-head.Head) (ps : List record-of-preset.Preset) (c : ℕ) (t : List ℕ) where
+  -- what was read of a line, and what that comes to
+  line-yields : (l : List ℕ) {x : EventRead} {v : read.Event} {u : List ℕ} {r : result.Outcome} → x ≡ eventIn (form l) → x .event ≡ v
+      → Yields (lineOutcome head ps (stateOf t c) (askedIn v (x .jobs))) u r → Yields (lineMeant head ps (stateOf t c) l) u r
+  line-yields l {x} {v} e m y =
+      yields-same
+      (ap (λ (z : EventRead). lineOutcome head ps (stateOf t c) (askedIn (z .event) (z .jobs))) (sym e)
+      ∙ ap (λ (w : read.Event). lineOutcome head ps (stateOf t c) (askedIn w (x .jobs))) m)
+      y
+
+  clock-yields : {n : ℕ} {r : result.Outcome} → ClockDone (head .slots) c n r → Yields (lineOutcome head ps (stateOf t c) (setClock n)) t r
+  unfolding lineOutcome
+  clock-yields d = record { answer = d .answer; table = refl; clock = d .clock }
+
+  pub line-clock : (l : List ℕ) {x : EventRead} {n : ℕ} {r : result.Outcome} → x ≡ eventIn (form l) → x .event ≡ SetClock n
+      → ClockDone (head .slots) c n r → Yields (lineMeant head ps (stateOf t c) l) t r
+  line-clock l e m d = line-yields l e m (clock-yields d)
+
+  -- a call of the layer below, as an event
+  pub line-place : (l : List ℕ) {x : EventRead} {n : ℕ} {u : List ℕ} {a : reply.CallAnswer} {r : result.Outcome} → x ≡ eventIn (form l) → x .event ≡ Place n
+      → CallDone head ps c (callJobs n (x .jobs)) t u a → answerIn (r .answer) ≡ answerOf (takenIn a) → r .clock ≡ c
+      → Yields (lineMeant head ps (stateOf t c) l) u r
+  unfolding lineOutcome
+  line-place l e m d s k = line-yields l e m (record { answer = s ∙ ap answerOf (d .answer); table = d .table; clock = k })
+
+  pub line-fault : (l : List ℕ) {x : EventRead} {q : refusal.Refusal} → x ≡ eventIn (form l) → x .event ≡ Fault q
+      → Yields (lineMeant head ps (stateOf t c) l) t (record { answer = Refused q; clock = c })
+  unfolding lineOutcome
+  line-fault l {x} {q} e m = line-yields l e m (refused-yields t c q refl)
+
+-- ---- what was read of a line is what the line asks for, on a frame that meets no cause
 
 -- jobs within their limits are read as they are
 padded-back : (k : ℕ) (l : List Job) → length l ≤ k → jobsInLimits l ≡ true → jobsIn (length l) (padded k l) ≡ l
@@ -193,6 +222,9 @@ jobs-refused l e = go (is (jobsOutside l))
         absurd (clash (sym (both (leb (length l) 8) (jobsInLimits l) (right-of (leb 1 (length l)) (leb (length l) 8) (of-within 1 8 (length l) (p .0) (p .1))) (all-in-limits l (p .2))) ∙ e))
 
 module _ (h : Head) (st : State) (free : firstOf (frameCauses h (st .clock) (st .table)) ≡ none) where
+  outside : (t : ℕ) → suc (h .slots) < t → firstOf (ownCauses h st (setClock t)) ≡ some outOfLimits
+  outside t l = ap firstOf (own-clock h st t) ∙ clock-above (h .slots) (st .clock) t l
+
   -- "t below 1 or above S + 1", whether t was read as it is or stopped at 65,535
   clock-seen : (t : ℕ) → h .slots ≤ 64 → comesTo h st (setClock t) ≡ comesTo h st (setClock (seen t))
   clock-seen t small = go (is (leb t 65535))
@@ -204,8 +236,8 @@ module _ (h : Head) (st : State) (free : firstOf (frameCauses h (st .clock) (st 
           ap (λ (n : ℕ). comesTo h st (setClock n)) s
       go (is-false e) =
           let l = gt-of t 65535 e in
-          asked-stopped h st (setClock t) free outOfLimits (clock-outside h st t (above h t (omega arith)))
-          ∙ sym (asked-stopped h st (setClock (seen t)) free outOfLimits (clock-outside h st (seen t) (above h (seen t) (omega arith))))
+          asked-stopped h st (setClock t) free outOfLimits (outside t (omega arith))
+          ∙ sym (asked-stopped h st (setClock (seen t)) free outOfLimits (outside (seen t) (omega arith)))
 
   fault-own : (r : Refusal) → firstOf (ownCauses h st (fault r)) ≡ some r
   unfolding ownCauses
@@ -249,7 +281,7 @@ module _ (head : record-of-head.Head) (ps : List record-of-preset.Preset) (c : �
   record-passes : firstOf (frameCausesOf head ps c t) ≡ none → firstOf (causesOf head ps t) ≡ none
   record-passes e = left-none (causesOf head ps t) eleven e
 
-  pub frame-passes : firstOf (frameCausesOf head ps c t) ≡ none → firstOf (frameCauses (headIn head ps) c t) ≡ none
+  frame-passes : firstOf (frameCausesOf head ps c t) ≡ none → firstOf (frameCauses (headIn head ps) c t) ≡ none
   frame-passes e = sym (same-frame (record-passes e)) ∙ e
 
   -- a running frame meets none
@@ -265,46 +297,42 @@ module _ (head : record-of-head.Head) (ps : List record-of-preset.Preset) (c : �
   abbrev h : Head
   h = headIn head ps
 
+  free : firstOf (frameCauses h c t) ≡ none
+  free = frame-passes head ps c t none-met
+
   slots-small : h .slots ≤ 64
   slots-small = record-valid head ps (frame-known head ps c t none-met .1) .slots-high
 
-  -- what was read of a line, and what that comes to
-  pub line-yields : (l : List ℕ) {x : EventRead} {v : read.Event} {u : List ℕ} {r : result.Outcome} → x ≡ eventIn (form l) → x .event ≡ v
-      → Yields (comesTo h (stateOf t c) (askedIn v (x .jobs))) u r → Yields (eventOf h (stateOf t c) (line l)) u r
-  line-yields l {x} {v} e m y =
-      let free = frame-passes head ps c t none-met in
-      yields-same
-      (asked-read h (stateOf t c) free (form l) slots-small
-      ∙ ap (λ (z : EventRead). comesTo h (stateOf t c) (askedIn (z .event) (z .jobs))) (sym e)
-      ∙ ap (λ (w : read.Event). comesTo h (stateOf t c) (askedIn w (x .jobs))) m)
-      y
-
-  pub line-clock : (l : List ℕ) {x : EventRead} {n : ℕ} {r : result.Outcome} → x ≡ eventIn (form l) → x .event ≡ SetClock n
-      → ClockDone (head .slots) c n r → Yields (eventOf h (stateOf t c) (line l)) t r
-  line-clock l e m d = line-yields l e m (d h t refl (frame-passes head ps c t none-met))
-
-  -- a call of the layer below, as an event
-  pub line-place : (l : List ℕ) {x : EventRead} {n : ℕ} {u : List ℕ} {a : reply.CallAnswer} {r : result.Outcome} → x ≡ eventIn (form l) → x .event ≡ Place n
-      → CallDone head ps c (callJobs n (x .jobs)) t u a → answerIn (r .answer) ≡ answerOf (takenIn a) → r .clock ≡ c
-      → Yields (eventOf h (stateOf t c) (line l)) u r
-  unfolding callMeant
-  line-place l {x} {n} {u} {a} {r} e m d s k =
-      let jobs = callJobs n (x .jobs) in
+  -- what is asked for comes to the same where the causes of the frame are tried before it
+  outcome-asked : (a : Asked) → lineOutcome head ps (stateOf t c) a ≡ comesTo h (stateOf t c) a
+  unfolding lineOutcome carriedOut callMeant
+  outcome-asked (setClock n) = go (firstOf (clockCauses (head .slots) c n)) refl
+    where
+      go : (o : Option Refusal) → firstOf (clockCauses (head .slots) c n) ≡ o
+          → lineOutcome head ps (stateOf t c) (setClock n) ≡ comesTo h (stateOf t c) (setClock n)
+      go none e =
+          let z = clock-moved (head .slots) c n e in
+          rw (z .0, z .1) (sym (asked-carried h (stateOf t c) (setClock n) free (ap firstOf (own-clock h (stateOf t c) n) ∙ e)))
+      go (some r) e =
+          let z = clock-stopped (head .slots) c n r e in
+          rw (z .0, z .1) (sym (asked-stopped h (stateOf t c) (setClock n) free r (ap firstOf (own-clock h (stateOf t c) n) ∙ e)))
+  outcome-asked (place jobs) =
       let same : callMeant head ps c jobs t ≡ callOf h c jobs t =
       (let z = record-passes head ps c t none-met in rw (z, callMeant) refl) in
-      line-yields l e m
-      (yields-same (event-call h (stateOf t c) (call jobs) jobs refl)
-      (record {
-        answer = s ∙ ap answerOf (d .answer ∙ ap (λ (o : CallOutcome). o .answer) same);
-        table = d .table ∙ ap (λ (o : CallOutcome). o .table) same;
-        clock = k;
-      }))
+      ap (λ (o : CallOutcome). outcomeOf o c) same ∙ sym (event-call h (stateOf t c) (call jobs) jobs refl)
+  outcome-asked (fault r) = sym (asked-stopped h (stateOf t c) (fault r) free r (fault-own h (stateOf t c) free r))
 
-  pub line-fault : (l : List ℕ) {x : EventRead} {q : refusal.Refusal} → x ≡ eventIn (form l) → x .event ≡ Fault q
-      → Yields (eventOf h (stateOf t c) (line l)) t (record { answer = Refused q; clock = c })
-  line-fault l {x} {q} e m =
-      let free = frame-passes head ps c t none-met in
-      line-yields l e m (refused-yields t c q (asked-stopped h (stateOf t c) (fault (refusalIn q)) free (refusalIn q) (fault-own h (stateOf t c) free (refusalIn q))))
+  -- an event line comes to what the event does
+  pub line-event : (l : List ℕ) → lineMeant head ps (stateOf t c) l ≡ eventOf h (stateOf t c) (line l)
+  line-event l = outcome-asked (askedIn (eventIn (form l) .event) (eventIn (form l) .jobs)) ∙ sym (asked-read h (stateOf t c) free (form l) slots-small)
+
+  pub line-done : (l : List ℕ) {u : List ℕ} {r : result.Outcome} → Yields (lineMeant head ps (stateOf t c) l) u r
+      → Yields (eventOf h (stateOf t c) (line l)) u r
+  line-done l y = yields-same (sym (line-event l)) y
+
+  -- and so does a clock that is handed over
+  pub clock-done : (n : ℕ) {r : result.Outcome} → ClockDone (head .slots) c n r → Yields (eventOf h (stateOf t c) (clock n)) t r
+  clock-done n d = yields-same (sym (outcome-asked (setClock n))) (clock-yields head ps c t d)
 
 -- ---- a law for each answer of an entry
 

@@ -1,4 +1,4 @@
-// What an event asks for, on a frame that meets none of the causes 8, a head record's 2, and 11: the causes of the event itself, and then it is carried out.
+// What an event asks for, where the frame's own causes (8, a head record's 2, 11) are not tried: the causes of the event itself, and then it is carried out.
 use frame::types::Answer;
 use frame::types::Outcome;
 use placing_entries::call_entry::CallAnswer;
@@ -9,13 +9,10 @@ use station::types::Refusal;
 use station_forms::events::Event;
 use station_forms::events::read_event;
 ghost use mathlib.Core.Path.{_≡_};
-ghost use mathlib.Core.Option.{none};
-ghost use Rattle.station.specs.Refusal.{firstOf};
-ghost use Rattle.placing_check.specs.Causes.{frameCausesOf};
 ghost use Rattle.placing_entries.specs.Calling.{takenIn};
 ghost use Rattle.frame.specs.Types.{answerIn};
 ghost use Rattle.frame.specs.Event.{answerOf};
-ghost use Rattle.frame_events.specs.Running.{ClockDone, LineDone};
+ghost use Rattle.frame_events.specs.Running.{stateOf, Yields, ClockDone, lineMeant};
 
 // A clock that is asked for on a frame of so many slots: 2 where it is outside 1 to S + 1, 6 where it is below the present one, else it is the new clock.
 pub fn asked_clock(slots: usize, clock: usize, to: usize) -> Outcome
@@ -61,8 +58,9 @@ fn call_outcome(answer: CallAnswer, clock: usize) -> Outcome
     }
 }
 
-// An event line on a frame that meets none of the causes: its clock is set, its call placed, or its fault handed back. Nothing of the frame is looked at for a clock
-// or a faulty line. It is a part of `event` and of the loop over a text's lines, which have tried these causes.
+// An event line by what it asks for alone: its clock is set, its call placed, or its fault handed back. Of the frame a clock looks at the number of slots only and
+// a faulty line at nothing; a call tries the frame's own causes itself. It is a part of `event` and of the loop over a text's lines, which have tried these causes,
+// so that it comes to what the event does.
 pub fn asked_event(
     head: Head,
     presets: [Preset; 32],
@@ -70,7 +68,7 @@ pub fn asked_event(
     clock: usize,
     line: &[u8],
 ) -> Outcome
-    ensures { λ r. ⌜ (firstOf (frameCausesOf head presets clock (now (table .entry))) ≡ none → LineDone head presets (now (table .entry)) clock (now (line .entry)) (now (table .exit)) r) ⌝ }
+    ensures { λ r. ⌜ Yields (lineMeant head presets (stateOf (now (table .entry)) clock) (now (line .entry))) (now (table .exit)) r ⌝ }
 {
     let read = read_event(line);
     let event = read.event;

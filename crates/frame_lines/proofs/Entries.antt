@@ -14,7 +14,7 @@ use mir.Val.{Val}
 use denote.Laws.{Is}
 use denote.Enum.Declared.{row}
 use denote.Enum.Laws.{owed}
-use lib.Dec.{ltb, leb}
+use lib.Dec.{ltb}
 use Rattle.laws.proofs.Sums.{ltb-yes, ltb-no, leb-yes, leb-no}
 use Rattle.station.specs.Head.{Head, within}
 use Rattle.station.specs.Refusal.{Refusal, noForm, outOfLimits, outOfPlace, numberUsed, mandatoryNotFeasible, clockBack, callNotFeasible, tooShort, tooMany, textTooLong, notWellFormed, numberOf, try, firstOf}

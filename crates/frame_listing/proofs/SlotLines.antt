@@ -7,11 +7,9 @@
 use Prim.Native.Nat.{ℕ, zero, suc, _-_, _≤_, _<_}
 use native.Mathlib.Omega.{arith}
 use mathlib.Core.Path.{_≡_, refl, sym, _∙_, ap}
-use mathlib.Core.Bool.{Bool, true, false, cond, _&&_}
 use mathlib.Core.List.{List, [], _∷_, _++_, append-assoc, map}
 use lib.ListN.{length, take, drop, getD}
 use lib.Seq.{take-all}
-use lib.Dec.{eqb, ltb, leb}
 use Rattle.laws.specs.Placement.{at}
 use Rattle.laws.proofs.Sums.{eqb-yes, eqb-no, ltb-yes, ltb-no, leb-yes, leb-no}
 use Rattle.station.specs.Head.{Head}

@@ -25,11 +25,11 @@ use Rattle.frame.specs.declared.types.Outcome as result
 use Rattle.frame.specs.Event.{Event, line, Answer, State, Outcome, eventOf, runOf}
 use Rattle.frame.specs.Types.{answerIn}
 use Rattle.frame.specs.Listing.{answerLine, answerLines}
-use Rattle.frame_events.specs.Running.{stateOf, LineDone}
+use Rattle.frame_events.specs.Running.{stateOf, Yields, lineMeant}
 use Rattle.frame_text.specs.Lines.{LinesStart, eventsFrom, linesRun, RanLines}
 use Rattle.frame.proofs.Event.{event-running}
 use Rattle.frame.proofs.Kept.{run-kept}
-use Rattle.frame_events.proofs.Running.{frame-of-running}
+use Rattle.frame_events.proofs.Running.{frame-of-running, line-done}
 
 -- one event more, and none
 run-cons : (h : Head) (st : State) (e : Event) (es : List Event)
@@ -97,7 +97,7 @@ module _ {head : record-of-head.Head} {ps : List record-of-preset.Preset} {text 
   all = answerLines first (linesRun h text from t .answers)
 
   -- the frame meets no cause
-  pub at-free : firstOf (frameCausesOf head ps c u) ≡ none
+  at-free : firstOf (frameCausesOf head ps c u) ≡ none
   at-free = frame-of-running head ps c u (a .valid) (a .running)
 
   -- ---- at a line
@@ -130,9 +130,10 @@ module _ {head : record-of-head.Head} {ps : List record-of-preset.Preset} {text 
         ∙ answers-cons n (done .answer) (runOf h (done .after) rest .answers)
 
     -- the event was answered, and its answer written
-    pub at-next : {u₁ l₂ : List ℕ} {o : result.Outcome} {r₁ : ℕ} → LineDone head ps u c x u₁ o → Wrote l₁ r (answerLine (n + 1) (answerIn (o .answer))) l₂ r₁
+    pub at-next : {u₁ l₂ : List ℕ} {o : result.Outcome} {r₁ : ℕ} → Yields (lineMeant head ps st x) u₁ o → Wrote l₁ r (answerLine (n + 1) (answerIn (o .answer))) l₂ r₁
         → AtEvent head ps text from first t l place (at + length x) (n + 1) (o .clock) r₁ u₁ l₂
-    at-next {u₁} {l₂} {o} {r₁} y w =
+    at-next {u₁} {l₂} {o} {r₁} d w =
+        let y = line-done head ps c u at-free x d in
         let left : stateOf u₁ (o .clock) ≡ done .after =
         ap (λ (v : List ℕ). stateOf v (o .clock)) (y .table) ∙ ap (stateOf (done .after .table)) (y .clock) in
         let f = a .few in

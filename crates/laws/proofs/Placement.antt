@@ -434,10 +434,6 @@ lrtf-places c n x h =
     largest-first-places (length c) n x (λ s. at (left c x s)) (λ s i. lrtf c x i s)
     (λ s z. chosen-step (length c) (at (left c x s)) (x s)) (λ s i z m. omega (arith, left-step c x i s)) h
 
--- every need is met
-pub left-end : (c : List ℕ) (n : ℕ) (x : ℕ → ℕ) → Criterion (length c) (at c) n x → (i : ℕ) → i < length c → at (left c x n) i ≡ 0
-left-end c n x h i m = omega (arith, left-got c x i n, lrtf-places c n x h .exact i m)
-
 -- needs without excess are placed by LRTF
 pub fits-placed : (c : List ℕ) (n : ℕ) (x : ℕ → ℕ) → excess (length c) (at c) n x ≡ 0 → Placed (length c) (at c) n x (lrtf c x)
 fits-placed c n x e = lrtf-places c n x (criterion-of-excess (length c) (at c) n x e)

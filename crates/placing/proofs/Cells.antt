@@ -7,15 +7,14 @@
 use Prim.Native.Nat.{ℕ, _+_, _*_, _≤_, _<_}
 use native.Mathlib.Omega.{arith}
 use mathlib.Core.Path.{_≡_, refl, _∙_, ap}
-use mathlib.Core.Logic.{_⊎_, inl, inr}
 use mathlib.Core.Bool.{Bool, true, false, not, _&&_}
 use lib.Dec.{eqb}
 use Rattle.laws.specs.Sums.{bit, only, sum, count}
-use Rattle.laws.proofs.Sums.{Is, is-true, is-false, is, lt-of, eq-of, eqb-self, ne-of, ltb-yes, eqb-no, both, left-of, right-of, sum-ext, sum-le}
+use Rattle.laws.proofs.Sums.{lt-of, eq-of, eqb-self, ltb-yes, eqb-no, both, left-of, right-of, sum-ext, sum-le}
 use Rattle.laws.proofs.Sums.{sum-zero, term-le, sum-add, count-imp, count-none, sum-point}
 use Rattle.laws.proofs.Every.{not-is-true, false-of-not, injective-below, sum-pos, count-pos, count-some, count-split}
 use Rattle.station.specs.Head.{Head, Valid, presetAt}
-use Rattle.placing.specs.Table.{Cells, Each, cells, holding, kindOf, numberIn, mandatoryCell, optionalCell, callCell, isEmpty, isBusy}
+use Rattle.placing.specs.Table.{Cells, Each, cells, holding, kindOf, numberIn, mandatoryCell, optionalCell, callCell, isBusy}
 use Rattle.placing.specs.Table.{isMandatory, isOptional, isCall, presetCount, numberAt, hasPreset}
 use Rattle.placing.specs.Valid.{lost, priorityOf}
 use Rattle.placing.specs.Plan.{rank}
@@ -112,26 +111,13 @@ kind-test j k n h = ap (λ (i : ℕ). eqb i j) (kindOf-cell k n h)
 pub cell-of-kind : (k v : ℕ) → kindOf v ≡ k → v ≡ k * 256 + numberIn v
 cell-of-kind k v h = omega arith
 
-pub plain-cell : (v : ℕ) → kindOf v ≤ 1 → numberIn v ≡ 0 → (v ≡ 0) ⊎ (v ≡ 256)
-plain-cell v h z = go (is (eqb v 0))
-  where
-    go : Is (eqb v 0) → (v ≡ 0) ⊎ (v ≡ 256)
-    go (is-true e) = inl (eq-of v 0 e)
-    go (is-false e) = let ne : v ≡ 0 → ⊥ = ne-of v 0 e in inr (omega arith)
-
--- a cell of kind 1 or more is not empty, one of kind 2 or more is not busy either
-pub isEmpty-no : (v : ℕ) → 1 ≤ kindOf v → isEmpty v ≡ false
-isEmpty-no v h = eqb-no v 0 (λ e. omega arith)
-
+-- a cell of kind 2 or more is not busy
 pub isBusy-no : (v : ℕ) → 2 ≤ kindOf v → isBusy v ≡ false
 isBusy-no v h = eqb-no v 256 (λ e. omega arith)
 
 module _ (n : ℕ) (h : n < 256) where
   pub kindOf-mandatory : kindOf (mandatoryCell n) ≡ 2
   kindOf-mandatory = kindOf-cell 2 n h
-
-  pub kindOf-optional : kindOf (optionalCell n) ≡ 3
-  kindOf-optional = kindOf-cell 3 n h
 
   pub kindOf-call : kindOf (callCell n) ≡ 4
   kindOf-call = kindOf-cell 4 n h
@@ -148,23 +134,8 @@ module _ (n : ℕ) (h : n < 256) where
   pub isMandatory-mandatory : isMandatory (mandatoryCell n) ≡ true
   isMandatory-mandatory = kind-test 2 2 n h
 
-  pub isOptional-mandatory : isOptional (mandatoryCell n) ≡ false
-  isOptional-mandatory = kind-test 3 2 n h
-
-  pub isCall-mandatory : isCall (mandatoryCell n) ≡ false
-  isCall-mandatory = kind-test 4 2 n h
-
-  pub isMandatory-optional : isMandatory (optionalCell n) ≡ false
-  isMandatory-optional = kind-test 2 3 n h
-
   pub isOptional-optional : isOptional (optionalCell n) ≡ true
   isOptional-optional = kind-test 3 3 n h
-
-  pub isCall-optional : isCall (optionalCell n) ≡ false
-  isCall-optional = kind-test 4 3 n h
-
-  pub isMandatory-call : isMandatory (callCell n) ≡ false
-  isMandatory-call = kind-test 2 4 n h
 
   pub isOptional-call : isOptional (callCell n) ≡ false
   isOptional-call = kind-test 3 4 n h

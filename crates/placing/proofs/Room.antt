@@ -4,22 +4,21 @@
 -- Assumes nothing.
 use Prim.Native.Nat.{ℕ, _+_, _≤_, _<_}
 use native.Mathlib.Omega.{arith}
-use mathlib.Core.Path.{_≡_, refl, sym, _∙_, ap}
+use mathlib.Core.Path.{_≡_, sym, _∙_, ap}
 use mathlib.Core.Logic.{_↔_}
 use mathlib.Core.Bool.{Bool, true, false, _&&_, _||_, and-true, and-false}
 use mathlib.Core.List.{List}
 use lib.ListN.{length, length-map}
-use Rattle.laws.specs.Sums.{bit, sum, count}
+use Rattle.laws.specs.Sums.{count}
 use Rattle.laws.specs.Placement.{at, largest}
 use Rattle.laws.specs.Eviction.{added, ones, Shortage}
 use Rattle.laws.proofs.Sums.{eq-of, eqb-yes, right-of, count-ext, count-imp}
 use Rattle.laws.proofs.Every.{count-or}
 use Rattle.laws.proofs.Eviction.{searched-best, searched-ones, searched-long, excess-shortage}
 use Rattle.station.specs.Head.{Head, Job, Valid}
-use Rattle.placing.specs.Table.{Cells, cell, WellFormed, isEmpty, isOptional}
+use Rattle.placing.specs.Table.{Cells, WellFormed, isEmpty, isOptional}
 use Rattle.placing.specs.Valid.{usable}
 use Rattle.placing.specs.Call.{Place, evictable, evictionOrder, slotsOf, inSet, emptyFree, emptyCount, lengths, callExcess, evictedSet, callFits}
-use Rattle.placing.specs.Entries.{CallAnswer, callOf}
 use Rattle.placing.proofs.Order.{those, length-those, in-those, set-in-slot, in-set-evictable}
 
 -- the cells that a call may use: empty and refinement cells in slots from the clock on

@@ -14,7 +14,7 @@ use mathlib.Core.Bool.{Bool, true, false, not, _&&_, and-true}
 use lib.Count.{ones, ones-step, trailingZeros, trailing-of-zero}
 use lib.Bits.{bitAnd, and-step, and-self}
 use lib.Dec.{eqb, eqb·suc-zero, eqb·suc-suc}
-use lib.Pow.{pow-mono, shr-shr, field, mod-mod-pow}
+use lib.Pow.{shr-shr, field, mod-mod-pow}
 use Rattle.laws.specs.Sums.{bit, only, sum, count}
 use Rattle.laws.proofs.Sums.{Is, is-true, is-false, is, eq-of, ne-of, eqb-yes, eqb-no, sum-ext, sum-first, count-ext}
 use Rattle.station.specs.Head.{taken}
@@ -135,10 +135,6 @@ mask-taken (suc n) m h =
       mask-ext n (λ b. taken m (suc b)) (taken (m / 2)) (λ b l. taken-half m b),
       mask-taken n (m / 2) (omega (arith, pow-suc 2 n)),
     )
-
--- a mask of at most eight bridges is a byte
-pub mask-byte : (n : ℕ) (f : ℕ → Bool) → n ≤ 8 → bridgeMask n f < 256
-mask-byte n f h = let l : 2 ^ n ≤ 2 ^ 8 = pow-mono h in omega (arith, mask-below n f)
 
 -- ---- the lowest bit that is set, and a number without it
 

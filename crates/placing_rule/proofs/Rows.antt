@@ -20,7 +20,6 @@ use Rattle.laws.specs.Cells.{takes, slotCell}
 use Rattle.laws.proofs.Sums.{Is, is-true, is-false, is, clash, lt-of, ge-of, le-of, gt-of, eq-of, ne-of, ltb-yes, ltb-no, leb-yes, leb-no, eqb-yes, eqb-no, both, left-of, right-of}
 use Rattle.laws.proofs.Sums.{sum-ext, sum-point, count-ext, count-none}
 use Rattle.laws.proofs.Cells.{count-below, nth-count}
-use Rattle.station.specs.Head.{taken}
 use Rattle.placing_rule.specs.Code.{jobCell, RowWritten, emptied}
 use Rattle.placing_rule.proofs.Chosen.{count-more}
 

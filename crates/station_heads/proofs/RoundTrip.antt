@@ -5,11 +5,11 @@
 use Prim.Native.Nat.{ℕ, _≤_}
 use native.Mathlib.Omega.{arith}
 use mathlib.Core.Path.{_≡_, refl, sym, _∙_, ap}
-use mathlib.Core.Bool.{true, _&&_}
+use mathlib.Core.Bool.{true}
 use mathlib.Core.List.{List, _++_}
 use lib.ListN.{length, take, drop}
 use lib.Seq.{take-at}
-use lib.Dec.{ltb, leb}
+use lib.Dec.{leb}
 use Rattle.laws.proofs.Sums.{ltb-no, leb-yes, both}
 use Rattle.station.specs.declared.types.Preset.{Preset}
 use Rattle.station.specs.declared.types.Head.{Head}
@@ -22,12 +22,12 @@ use Rattle.station.specs.Text.{lines, join}
 use Rattle.station.specs.Writing.{formsOf, textOf}
 use Rattle.station.specs.Reading.{headOf}
 use Rattle.station.specs.Types.{headIn, validRecord}
-use Rattle.station_heads.specs.ReadHead.{headRead, headRecord, recordsOver}
-use Rattle.station_write.specs.WriteHead.{Answer, written, answerIn, writeAnswer, writeOutput, WroteHead}
+use Rattle.station_heads.specs.ReadHead.{headRead}
+use Rattle.station_write.specs.WriteHead.{written, answerIn, writeAnswer, writeOutput, WroteHead}
 use Rattle.station.proofs.Head.{of-valid}
 use Rattle.station.proofs.Writing.{read-written}
 use Rattle.station.proofs.Written.{written-read}
-use Rattle.station_heads.proofs.HeadText.{ReadAccepted, read-accepted, head-back}
+use Rattle.station_heads.proofs.HeadText.{read-accepted, head-back}
 use Rattle.station_check.proofs.Valid.{valid-head}
 
 -- a valid record is written: its text, and its length

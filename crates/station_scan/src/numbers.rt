@@ -1,7 +1,7 @@
 // Words and numbers at a place of a text. Each is total in the text and the place: past the end nothing is found.
 ghost use mathlib.Core.Path.{_≡_};
 ghost use Prim.Native.Nat.{_+_, _-_, _*_, _≤_};
-ghost use lib.ListN.{length, drop};
+ghost use lib.ListN.{drop};
 ghost use Rattle.station.specs.Decimal.{digitCount, plain};
 ghost use Rattle.station.specs.Form.{starts};
 ghost use Rattle.station_scan.specs.Numeral.{seen, leads, closes, noNumeral, numeralAt, numeralThen, numeralLast};

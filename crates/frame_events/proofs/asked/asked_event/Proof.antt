@@ -33,7 +33,7 @@ returns c =
     let r = c .before .before .before .before .before in
     let s = r .before .before .before in
     let a = s .args in
-    λ free. line-clock (a .head) (a .presets) (a .clock) (a .table .now) free (a .line .now) (r .read-event .ensures) (c .before .before .event .given .1) (c .asked-clock .ensures)
+    line-clock (a .head) (a .presets) (a .clock) (a .table .now) (a .line .now) (r .read-event .ensures) (c .before .before .event .given .1) (c .asked-clock .ensures)
 
 same-length : tie.Need-same-length
 same-length c = search needs
@@ -44,7 +44,7 @@ returns-2 c =
     let r = k .before .before .before .before .before .before in
     let s = r .before .before .before in
     let a = s .args in
-    λ free. line-place (a .head) (a .presets) (a .clock) (a .table .now) free (a .line .now) (r .read-event .ensures) (k .before .before .before .event2 .given .1) (k .call .ensures .0)
+    line-place (a .head) (a .presets) (a .clock) (a .table .now) (a .line .now) (r .read-event .ensures) (k .before .before .before .event2 .given .1) (k .call .ensures .0)
     (c .call-outcome .ensures .0) (c .call-outcome .ensures .1)
 
 returns-3 : tie.Need-returns-3
@@ -52,7 +52,7 @@ returns-3 c =
     let r = c .before .before .before .before in
     let s = r .before .before .before in
     let a = s .args in
-    λ free. line-fault (a .head) (a .presets) (a .clock) (a .table .now) free (a .line .now) (r .read-event .ensures) (c .before .event3 .given .1)
+    line-fault (a .head) (a .presets) (a .clock) (a .table .now) (a .line .now) (r .read-event .ensures) (c .before .event3 .given .1)
 
 pub asked-event-spec : {M : Type 1} → statement M
 asked-event-spec =

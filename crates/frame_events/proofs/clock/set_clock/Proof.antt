@@ -1,9 +1,7 @@
 -- `clock::set_clock` meets its contract: a law for each answer. Assumes nothing.
-use mathlib.Core.Path.{refl}
 use borrow.Author.Needs.{needs}
-use Rattle.station.specs.Types.{headIn}
 use Rattle.frame.specs.Event.{Event}
-use Rattle.frame_events.proofs.Running.{frame-free, frame-passes, frame-refused, event-done}
+use Rattle.frame_events.proofs.Running.{frame-free, clock-done, frame-refused, event-done}
 use Rattle.frame_events.proofs.clock.set_clock.Statement.{statement}
 use Rattle.frame_events.proofs.clock.set_clock.Tie as tie
 
@@ -31,7 +29,7 @@ returns-2 c =
     let a = f .before .before .args in
     let free = frame-free (a .head) (a .presets) (a .clock) (a .table .now) (f .frame-cause .ensures) (c .before .enum-told .given .1) in
     event-done (a .head) (a .presets) (a .clock) (a .table .now) (Event.clock (a .t)) free
-    (c .asked-clock .ensures (headIn (a .head) (a .presets)) (a .table .now) refl (frame-passes (a .head) (a .presets) (a .clock) (a .table .now) free))
+    (clock-done (a .head) (a .presets) (a .clock) (a .table .now) free (a .t) (c .asked-clock .ensures))
 
 pub set-clock-spec : {M : Type 1} → statement M
 set-clock-spec =

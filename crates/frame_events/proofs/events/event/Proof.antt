@@ -9,7 +9,7 @@ use Rattle.placing_check.specs.Causes.{frameCausesOf}
 use Rattle.frame.specs.Event.{Event}
 use Rattle.frame_events.specs.Running.{stateOf}
 use Rattle.frame.proofs.Demands.{demand-3}
-use Rattle.frame_events.proofs.Running.{frame-free, frame-refused, event-done, done-running}
+use Rattle.frame_events.proofs.Running.{frame-free, line-done, frame-refused, event-done, done-running}
 use Rattle.frame_events.proofs.events.event.Statement.{statement}
 use Rattle.frame_events.proofs.events.event.Tie as tie
 
@@ -53,7 +53,8 @@ returns-2 c =
     let n = c .before .before .before .before in
     let a = n .before .before .before .before .before .before .args in
     let e = Event.line (a .line .now) in
-    let done = event-done (a .head) (a .presets) (a .clock) (a .table .now) e (free n) (c .before .before .asked-event .ensures (free n)) in
+    let done = event-done (a .head) (a .presets) (a .clock) (a .table .now) e (free n)
+    (line-done (a .head) (a .presets) (a .clock) (a .table .now) (free n) (a .line .now) (c .before .before .asked-event .ensures)) in
     (done, (done-running (a .head) (a .presets) (a .clock) (a .table .now) e done, demand-3 (headIn (a .head) (a .presets)) (stateOf (a .table .now) (a .clock)) (e ∷ [])))
 
 pub event-spec : {M : Type 1} → statement M

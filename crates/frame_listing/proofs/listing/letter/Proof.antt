@@ -1,6 +1,5 @@
 -- `listing::letter` meets its contract. Assumes nothing.
 use Rattle.frame_listing.proofs.SlotLines.{letter-m, letter-o, letter-c}
-use borrow.Author.Needs.{needs}
 use Rattle.frame_listing.proofs.listing.letter.Statement.{statement}
 use Rattle.frame_listing.proofs.listing.letter.Tie as tie
 

@@ -4,7 +4,7 @@ use Prim.Native.Nat.{_-_}
 use native.Mathlib.Omega.{arith}
 use lib.ListN.{length}
 use borrow.Author.Needs.{needs}
-use Rattle.frame_text.proofs.Lines.{AtEvent, at-first, at-free, line-inside, line-bytes, at-next, at-end}
+use Rattle.frame_text.proofs.Lines.{AtEvent, at-first, line-inside, line-bytes, at-next, at-end}
 use Rattle.frame_text.proofs.text.run_lines.Statement.{statement}
 use Rattle.frame_text.proofs.text.run_lines.Tie as tie
 
@@ -52,7 +52,7 @@ loop-again : tie.Need-loop-again Inv-loop μ-loop
 loop-again c =
     let e = c .before .before .before .before .before .before in
     let x = e .before .before in
-    at-next (x .before .before .loop .inv) (x .before .loop-test .taken) (x .line-at .ensures) (e .asked-event .ensures (at-free (x .before .before .loop .inv))) (c .before .before .answer-line .ensures)
+    at-next (x .before .before .loop .inv) (x .before .loop-test .taken) (x .line-at .ensures) (e .asked-event .ensures) (c .before .before .answer-line .ensures)
 
 same-length : tie.Need-same-length Inv-loop μ-loop
 same-length c = c .before .loop .inv .size
