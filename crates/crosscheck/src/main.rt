@@ -1,4 +1,4 @@
-// The planner of crates/placing beside a second one, which is written from document 01 alone and tries every placement of small frames.
+// The planner of crates/placing beside a second one, which is written from document 01 and tries every placement of small frames.
 //
 // Each line that begins `(differs` names a case in which the two differ, or in which the library's table is not valid or not the best one. What this program writes
 // is compared with the stored output, which ends with no difference.

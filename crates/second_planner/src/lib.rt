@@ -1,4 +1,4 @@
-// A second planner for small frames, written from document 01 alone: it knows nothing of the first, and tries every placement. Nothing is promised of it but that
+// A second planner for small frames, written from document 01: it uses nothing of the first, and tries every placement. Nothing is promised of it but that
 // it is safe and ends; crates/crosscheck compares the two.
 pub mod small; // small.rt: small arrays, sets of cells, and cells
 pub mod case; // case.rt: a small head, and a call
