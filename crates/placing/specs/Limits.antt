@@ -1,4 +1,4 @@
--- The limits within which the code looks at a frame. Document 01, "Limits" and "Causes".
+-- The limits within which the code looks at a frame. Document 01, "The frame and its parts" and "Causes".
 -- Assumes nothing.
 use Prim.Native.Nat.{ℕ}
 use mathlib.Core.Bool.{Bool, _&&_}
