@@ -34,13 +34,13 @@ use Rattle.station.proofs.Refusal.{passed, first-of-none, first-none, append-no
 use Rattle.station.proofs.Head.{within-high, of-within}
 use Rattle.placing_check.specs.declared.cause.Cause as cause
 use Rattle.placing_check.specs.declared.cause.Cause.the-variants.{Met, Passed}
-use Rattle.placing_entries.specs.declared.call_entry.CallAnswer as reply
+use Rattle.placing_call.specs.declared.call.CallAnswer as reply
 use Rattle.placing.specs.Valid.{jobAt}
 use Rattle.placing.specs.CallJobs.{jobsIn}
 use Rattle.placing.specs.Entries.{frameAtFault, frameCauses, jobsOutside, CallOutcome, callOf}
 use Rattle.placing_check.specs.Causes.{causesOf}
 use Rattle.placing_check.specs.Causes.{causeIn, frameCausesOf, callJobs}
-use Rattle.placing_entries.specs.Calling.{takenIn, callMeant, CallDone}
+use Rattle.placing_call.specs.Calling.{takenIn, callMeant, CallDone}
 use Rattle.placing.specs.Claims.{Running}
 use Rattle.placing.proofs.Causes.{met, recordCauses, no-record-cause, of-running, jobs-inside}
 use Rattle.placing_grants.proofs.Granted.{record-valid}

@@ -18,7 +18,7 @@ use Rattle.station_forms.specs.Event.{eventIn}
 use Rattle.station_forms.specs.declared.events.Event as read
 use Rattle.station_forms.specs.declared.events.Event.the-variants.{SetClock, Place, Fault}
 use Rattle.placing_check.specs.Causes.{causesOf, callJobs}
-use Rattle.placing_entries.specs.Calling.{callMeant}
+use Rattle.placing_call.specs.Calling.{callMeant}
 use Rattle.frame.specs.declared.types.Outcome as result
 use Rattle.frame.specs.Event.{Event, Asked, setClock, place, fault, Answer, now, refused, answerOf, State, Outcome, eventOf}
 use Rattle.frame.specs.Types.{answerIn}

@@ -1,15 +1,15 @@
 // What an event asks for, where the frame's own causes (8, a head record's 2, 11) are not tried: the causes of the event itself, and then it is carried out.
 use frame::types::Answer;
 use frame::types::Outcome;
-use placing_entries::call_entry::CallAnswer;
-use placing_entries::call_entry::call;
+use placing_call::call::CallAnswer;
+use placing_call::call::call_by_value;
 use station::types::Head;
 use station::types::Preset;
 use station::types::Refusal;
 use station_forms::events::Event;
 use station_forms::events::read_event;
 ghost use mathlib.Core.Path.{_≡_};
-ghost use Rattle.placing_entries.specs.Calling.{takenIn};
+ghost use Rattle.placing_call.specs.Calling.{takenIn};
 ghost use Rattle.frame.specs.Types.{answerIn};
 ghost use Rattle.frame.specs.Event.{answerOf};
 ghost use Rattle.frame_events.specs.Running.{stateOf, Yields, ClockDone, lineMeant};
@@ -76,7 +76,7 @@ pub fn asked_event(
     match event {
         Event::SetClock(t) => asked_clock(head.slots, clock, t as usize),
         Event::Place(n) => {
-            let answer = call(head, presets, table, clock, jobs, n);
+            let answer = call_by_value(head, presets, table, clock, jobs, n);
             call_outcome(answer, clock)
         }
         Event::Fault(cause) => Outcome {

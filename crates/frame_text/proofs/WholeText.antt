@@ -32,9 +32,9 @@ use Rattle.station_heads.proofs.ReadHead.{records-back}
 use Rattle.station_heads.proofs.HeadText.{ReadAccepted, ReadRefused}
 use Rattle.station_output.proofs.Wrote.{wrote-then}
 use Rattle.placing.specs.Entries.{PlanAnswer, PlanOutcome, planCauses, planOf}
-use Rattle.placing_entries.specs.Planning.{planMeant, repliedIn, PlanDone}
-use Rattle.placing_entries.specs.declared.plan_entry.Planned as planned
-use Rattle.placing_entries.specs.declared.plan_entry.PlanAnswer.the-variants.{Granted, Refused}
+use Rattle.placing_plan.specs.Planning.{planMeant, repliedIn, PlanDone}
+use Rattle.placing_plan.specs.declared.plan.Planned as planned
+use Rattle.placing_plan.specs.declared.plan.PlanAnswer.the-variants.{Granted, Refused}
 use Rattle.placing_check.proofs.Tried.{causes-none}
 use Rattle.placing.proofs.Theorems.{plan-claim}
 use Rattle.frame_text.specs.declared.whole.Ended.the-variants as ends

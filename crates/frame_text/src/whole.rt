@@ -3,8 +3,8 @@ use crate::text::run_lines;
 use frame_listing::listing::granted_lines;
 use frame_listing::listing::refused_line;
 use frame_listing::listing::slot_lines;
-use placing_entries::plan_entry::PlanAnswer;
-use placing_entries::plan_entry::plan;
+use placing_plan::plan::PlanAnswer;
+use placing_plan::plan::plan_by_value;
 use station::types::Head;
 use station::types::Preset;
 use station::types::Refusal;
@@ -56,7 +56,7 @@ fn run_head(
     requires { ⌜ HeadStart head presets (now text) bytes lines (now table) ⌝ }
     ensures { λ r. ⌜ Leaves (wholeOf (now (text .entry)) (now (table .entry))) head presets (now (table .entry)) clock (now (out .entry)) (now (table .exit)) (now (out .exit)) r ⌝ }
 {
-    let planned = plan(head, presets, table);
+    let planned = plan_by_value(head, presets, table);
     let answer = planned.answer;
     let grants = planned.grants;
     if let PlanAnswer::Refused(cause) = answer {

@@ -19,8 +19,8 @@ asked-clock-requires c κs = search needs
 enum-known-event-2 : tie.Need-enum-known-event-2
 enum-known-event-2 c = search needs
 
-call-requires : tie.Need-call-requires
-call-requires c κs = search needs
+call-by-value-requires : tie.Need-call-by-value-requires
+call-by-value-requires c κs = search needs
 
 call-outcome-requires : tie.Need-call-outcome-requires
 call-outcome-requires c κs = search needs
@@ -44,7 +44,7 @@ returns-2 c =
     let r = k .before .before .before .before .before .before in
     let s = r .before .before .before in
     let a = s .args in
-    line-place (a .head) (a .presets) (a .clock) (a .table .now) (a .line .now) (r .read-event .ensures) (k .before .before .before .event2 .given .1) (k .call .ensures .0)
+    line-place (a .head) (a .presets) (a .clock) (a .table .now) (a .line .now) (r .read-event .ensures) (k .before .before .before .event2 .given .1) (k .call-by-value .ensures .0)
     (c .call-outcome .ensures .0) (c .call-outcome .ensures .1)
 
 returns-3 : tie.Need-returns-3
@@ -63,7 +63,7 @@ asked-event-spec =
     cast-asked-clock
     asked-clock-requires
     enum-known-event-2
-    call-requires
+    call-by-value-requires
     call-outcome-requires
     enum-known-event-3
     returns

@@ -1,8 +1,8 @@
 -- `asked::call_outcome` meets its contract: the answer stands for the call's. Assumes nothing.
 use mathlib.Core.Path.{refl, sym, ap}
 use borrow.Author.Needs.{needs}
-use Rattle.placing_entries.specs.Calling.{takenIn}
-use Rattle.placing_entries.specs.declared.call_entry.CallAnswer as reply
+use Rattle.placing_call.specs.Calling.{takenIn}
+use Rattle.placing_call.specs.declared.call.CallAnswer as reply
 use Rattle.frame.specs.Event.{answerOf}
 use Rattle.frame_events.proofs.asked.call_outcome.Statement.{statement}
 use Rattle.frame_events.proofs.asked.call_outcome.Tie as tie

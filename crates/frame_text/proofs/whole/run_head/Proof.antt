@@ -5,8 +5,8 @@ use Rattle.frame_text.proofs.WholeText.{run-refused, lines-may-start, r
 use Rattle.frame_text.proofs.whole.run_head.Statement.{statement}
 use Rattle.frame_text.proofs.whole.run_head.Tie as tie
 
-plan-requires : tie.Need-plan-requires
-plan-requires c κs = search needs
+plan-by-value-requires : tie.Need-plan-by-value-requires
+plan-by-value-requires c κs = search needs
 
 enum-known-answer : tie.Need-enum-known-answer
 enum-known-answer c = search needs
@@ -21,7 +21,7 @@ returns : tie.Need-returns
 returns c =
     let p = c .before .before .before .before .before .before .before in
     let s = p .before .before .before .before .before in
-    run-refused (s .pre) (p .plan .ensures .0) (s .args .clock) (s .args .out .now) (c .before .before .answer .given .1) (c .refused .ensures)
+    run-refused (s .pre) (p .plan-by-value .ensures .0) (s .args .clock) (s .args .out .now) (c .before .before .answer .given .1) (c .refused .ensures)
 
 enum-told : tie.Need-enum-told
 enum-told c = search needs
@@ -33,7 +33,7 @@ run-lines-requires : tie.Need-run-lines-requires
 run-lines-requires c κs =
     let e = c .before .before .before .before .before .before in
     let p = e .before .before .before .before .before in
-    lines-may-start (p .before .before .before .before .before .pre) (p .plan .ensures .0) (e .enum-told .given .1)
+    lines-may-start (p .before .before .before .before .before .pre) (p .plan-by-value .ensures .0) (e .enum-told .given .1)
 
 slot-lines-requires : tie.Need-slot-lines-requires
 slot-lines-requires c κs = search needs
@@ -52,13 +52,13 @@ returns-2 c =
     let e = w .before .before in
     let p = e .before .before .before .before .before in
     let s = p .before .before .before .before .before in
-    run-done (s .pre) (p .plan .ensures .0) (e .enum-told .given .1) (s .args .clock) (w .granted-lines .ensures) (r .run-lines .ensures) (d .slot-lines .ensures) refl
+    run-done (s .pre) (p .plan-by-value .ensures .0) (e .enum-told .given .1) (s .args .clock) (w .granted-lines .ensures) (r .run-lines .ensures) (d .slot-lines .ensures) refl
 
 pub run-head-spec : {M : Type 1} → statement M
 run-head-spec =
     tie.close
     (tie.spec
-    plan-requires
+    plan-by-value-requires
     enum-known-answer
     refused-requires
     same-length

@@ -1,0 +1,2 @@
+-- The laws that a call cites.
+pub mod Calling

@@ -1,0 +1,2 @@
+-- What a call is held to.
+pub mod Calling

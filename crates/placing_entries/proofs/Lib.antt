@@ -1,3 +1,0 @@
--- The laws that the entries plan and call cite.
-pub mod Planning
-pub mod Calling

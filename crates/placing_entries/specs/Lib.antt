@@ -1,3 +1,0 @@
--- What the entries plan and call are held to.
-pub mod Planning
-pub mod Calling

@@ -1,0 +1,2 @@
+-- The laws that a plan cites.
+pub mod Planning

@@ -1,0 +1,2 @@
+-- What a plan is held to.
+pub mod Planning
