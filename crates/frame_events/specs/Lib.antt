@@ -1,2 +1,2 @@
--- What the entries set_clock and event are held to.
+-- What set_clock_by_value and event_by_value are held to.
 pub mod Running

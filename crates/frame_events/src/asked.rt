@@ -59,7 +59,7 @@ fn call_outcome(answer: CallAnswer, clock: usize) -> Outcome
 }
 
 // An event line by what it asks for alone: its clock is set, its call placed, or its fault handed back. Of the frame a clock looks at the number of slots only and
-// a faulty line at nothing; a call tries the frame's own causes itself. It is a part of `event` and of the loop over a text's lines, which have tried these causes,
+// a faulty line at nothing; a call tries the frame's own causes itself. It is a part of `event_by_value` and of the loop over a text's lines, which have tried these causes,
 // so that it comes to what the event does.
 pub fn asked_event(
     head: Head,

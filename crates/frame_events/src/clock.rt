@@ -1,4 +1,4 @@
-// The entry `set_clock`: the causes of the frame, then those of the clock.
+// Setting the clock, the presets by value: the causes of the frame, then those of the clock.
 use crate::asked::asked_clock;
 use frame::types::Answer;
 use frame::types::Outcome;
@@ -11,7 +11,7 @@ ghost use Rattle.frame_events.specs.Running.{EventDone};
 
 // Sets the clock: "slot t is about to begin". The causes 8, 2 of the head record, 11, then 2 where t is outside 1 to S + 1, and 6 where it is below the
 // present clock. The table is only looked at.
-pub fn set_clock(
+pub fn set_clock_by_value(
     head: Head,
     presets: [Preset; 32],
     table: &[u16],

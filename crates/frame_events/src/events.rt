@@ -1,4 +1,4 @@
-// The entry `event`: one line on the running frame.
+// One event line on the running frame, the presets by value.
 use crate::asked::asked_event;
 use frame::types::Answer;
 use frame::types::Outcome;
@@ -16,7 +16,7 @@ ghost use Rattle.frame_events.specs.Running.{stateOf, EventDone};
 // One event line, its byte 10 included, on the table and the clock that the last event left: the causes 8, 2 of the head record, 11, then those of the line,
 // of its clock or of its call. A refusal changes nothing. A frame that 11 lets pass is such a frame afterwards, so that all of demand 3 holds of a list of
 // events handed over one by one.
-pub fn event(
+pub fn event_by_value(
     head: Head,
     presets: [Preset; 32],
     table: &mut [u16],

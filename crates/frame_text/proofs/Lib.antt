@@ -1,5 +1,4 @@
--- The laws that they cite: the loop over the lines after a head, and what it starts from; a whole text; how long its listing can be.
+-- The laws that they cite: the loop over the lines after a head, and what it starts from; a whole text.
 pub mod Lines
 pub mod AfterHead
 pub mod WholeText
-pub mod ListingSize

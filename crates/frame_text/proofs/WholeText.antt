@@ -1,8 +1,7 @@
 -- A whole text beside a lent table and a lent output: what it comes to case by case, and what the code leaves in each case.
 --
 -- In order: the outcome by the causes 10 and 8 (`beside-..`, `whole-..`), and the claim of it (`text-claim`); a refusal (`leaves-refused`); a head that was read
--- and its plan (`run-refused`, `lines-may-start`, `run-done`); the reading handed on (`run-unread`, `head-start`, `run-accepted`); the listing
--- (`listed-ran`, `listed-refused`, `listed-inside`).
+-- and its plan (`run-refused`, `lines-may-start`, `run-done`); the reading handed on (`run-unread`, `head-start`, `run-accepted`).
 -- Assumes nothing.
 use Prim.Native.Nat.{ℕ, suc, _+_, _≤_, _<_}
 use native.Mathlib.Omega.{arith}
@@ -11,7 +10,7 @@ use mathlib.Core.Bool.{true}
 use mathlib.Core.Option.{Option, none, some}
 use mathlib.Core.List.{List, [], _∷_, _++_, map}
 use lib.ListN.{length, take, drop, take-append-drop}
-use lib.Seq.{length-sets, getD-take}
+use lib.Seq.{getD-take}
 use lib.Dec.{ltb, leb}
 use Rattle.laws.proofs.Sums.{Is, is, is-true, is-false, lt-of, ge-of, leb-yes, ltb-yes, ltb-no, both}
 use Rattle.station.specs.Head as meant
@@ -20,7 +19,7 @@ use Rattle.station.specs.Refusal.{Refusal, tooShort, textTooLong, firstOf}
 use Rattle.station.specs.Reading.{Reading, headOf}
 use Rattle.station.specs.Types.{refusalIn, presetsIn, headIn, validRecord}
 use Rattle.station_heads.specs.ReadHead.{headRecord, recordOf, recordsOver}
-use Rattle.station_output.specs.Wrote.{moved, Wrote}
+use Rattle.station_output.specs.Wrote.{Wrote}
 use Rattle.station.specs.declared.types.Preset as record-of-preset
 use Rattle.station.specs.declared.types.Head as record-of-head
 use Rattle.station.specs.declared.types.Refusal as cause
@@ -42,10 +41,10 @@ use Rattle.frame_text.specs.declared.whole.TextRun as result
 use Rattle.frame_text.specs.declared.text.Lines as lines-result
 use Rattle.frame.specs.Event.{Run}
 use Rattle.frame.specs.Text.{Whole, notRead, notPlanned, ran, eventsOf, wholeWithPlan, wholeWithHead, wholeOf}
-use Rattle.frame.specs.Listing.{refusedLine, grantedLines, slotLines, listingOf}
+use Rattle.frame.specs.Listing.{grantedLines, slotLines, listingOf}
 use Rattle.frame_listing.specs.SlotLines.{linesOfSlots}
 use Rattle.frame_text.specs.Lines.{LinesStart, linesRun, RanLines}
-use Rattle.frame_text.specs.Whole.{wholeBeside, End, refusedAt, endIn, endOf, headAfter, presetsAfter, tableAfter, clockAfter, outputAfter, Leaves, TextClaim, refusedRun, HeadStart}
+use Rattle.frame_text.specs.Whole.{wholeBeside, End, endOf, headAfter, presetsAfter, tableAfter, clockAfter, outputAfter, Leaves, TextClaim, refusedRun, HeadStart}
 use Rattle.frame_listing.proofs.SlotLines.{slot-lines-head}
 use Rattle.frame_text.proofs.AfterHead.{read-short, whole-ran, lines-start}
 use Rattle.frame.proofs.Demands.{demand-1, demand-2, demand-3-planned, ran-granted, ran-is}
@@ -66,7 +65,7 @@ module _ (text t out : List ℕ) where
   beside-whole l s = rw (ltb-no 32768 (length text) l, ltb-no (length out) 8192 s, wholeBeside) refl
 
 module _ (text t : List ℕ) where
-  whole-long : 32768 < length text → wholeOf text t ≡ notRead 0 textTooLong
+  pub whole-long : 32768 < length text → wholeOf text t ≡ notRead 0 textTooLong
   unfolding wholeOf firstOf
   whole-long l = rw (ltb-yes 32768 (length text) l, wholeOf) refl
 
@@ -97,7 +96,7 @@ beside-ran text t out {h} {n} {g} {r} e = go (is (ltb 32768 (length text))) (is 
     go (is-false l) (is-false s) = sym (beside-whole text t out (ge-of 32768 (length text) l) (ge-of (length out) 8192 s)) ∙ e
 
 -- an output that is long enough does not matter
-pub beside-other : (text t out : List ℕ) → 8192 ≤ length out → wholeBeside text t out ≡ wholeOf text t
+beside-other : (text t out : List ℕ) → 8192 ≤ length out → wholeBeside text t out ≡ wholeOf text t
 beside-other text t out s = go (is (ltb 32768 (length text)))
   where
     go : Is (ltb 32768 (length text)) → wholeBeside text t out ≡ wholeOf text t
@@ -294,36 +293,3 @@ run-accepted {text} {t} {out} head {old} {r} {n} {k} {clock} {t₁} {out₁} {o}
       clock = x .clock;
       output = x .output;
     })
-
--- ---- the listing
-
-module _ {head : record-of-head.Head} {ps : List record-of-preset.Preset} {t : List ℕ} {clock : ℕ} {out t₁ out₁ : List ℕ} {r : result.TextRun} where
-  pub listed-ran : (w : Whole) {m : ℕ} → Leaves w head ps t clock out t₁ out₁ r → r .ended ≡ ends.Ran m
-      → (t₁ ≡ tableAfter w t) × Wrote out 0 (listingOf w) out₁ m
-  unfolding endOf outputAfter
-  listed-ran (notRead n c) {m} x e = absurd (let q = x .ended in let z : _≡_ {A = ℕ} 0 1 = cc (ap endIn e) in omega arith)
-  listed-ran (notPlanned h n c) {m} x e = absurd (let q = x .ended in let z : _≡_ {A = ℕ} 0 1 = cc (ap endIn e) in omega arith)
-  listed-ran (ran h n g y) {m} x e =
-      let q : End.listed m ≡ End.listed (moved (length out) 0 (length (listingOf (ran h n g y)))) = sym (ap endIn e) ∙ x .ended in
-      (x .table, record { output = x .output; place = cc })
-
-  -- the one line of a refusal
-  pub listed-refused : (w : Whole) {n : ℕ} {c : cause.Refusal} {out₂ : List ℕ} {m : ℕ} → Leaves w head ps t clock out t₁ out₁ r → r .ended ≡ ends.Refused n c
-      → Wrote out₁ 0 (refusedLine n (refusalIn c)) out₂ m → (t₁ ≡ tableAfter w t) × Wrote out 0 (listingOf w) out₂ m
-  unfolding endOf outputAfter listingOf
-  listed-refused (notRead k d) {n} {c} {out₂} {m} x e z =
-      let q : refusedAt k d ≡ refusedAt n (refusalIn c) = sym (x .ended) ∙ ap endIn e in
-      let i : k ≡ n = cc in
-      let j : d ≡ refusalIn c = cc in
-      (x .table, rw (i, j) (rw (x .output) at z))
-  listed-refused (notPlanned h k d) {n} {c} {out₂} {m} x e z =
-      let q : refusedAt k d ≡ refusedAt n (refusalIn c) = sym (x .ended) ∙ ap endIn e in
-      let i : k ≡ n = cc in
-      let j : d ≡ refusalIn c = cc in
-      (x .table, rw (i, j) (rw (x .output) at z))
-  listed-refused (ran h k g y) {n} {c} {out₂} {m} x e z = absurd (let q = x .ended in let f : _≡_ {A = ℕ} 0 1 = cc (ap endIn e) in omega arith)
-
--- the place after the listing is inside the output
-pub listed-inside : {out bs out₁ : List ℕ} {n : ℕ} → Wrote out 0 bs out₁ n → n ≤ length out₁
-unfolding moved
-listed-inside {out} {bs} w = omega (arith, w .place, ap length (w .output), length-sets out 0 bs)

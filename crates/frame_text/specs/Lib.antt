@@ -1,3 +1,3 @@
--- What the entries on a whole text are held to: the lines after a head, the whole text, its listing.
+-- What running a whole text is held to: the lines after a head, the whole text.
 pub mod Lines
 pub mod Whole

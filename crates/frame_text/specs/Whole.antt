@@ -1,14 +1,14 @@
--- What the entries on a whole text are held to: the answer, the head, and every lent cell and byte afterwards, for all texts, tables and outputs. Document 01,
+-- What running a whole text is held to: the answer, the head, and every lent cell and byte afterwards, for all texts, tables and outputs. Document 01,
 -- "Causes" and "One listing, whole".
 --
--- In order: what a text comes to beside a lent output; what is answered and left of each lent thing; the promises `TextDone`, `Listed` and
--- `ListedWhole`, and what is claimed of a text that runs (`TextClaim`); the parts that the code is made of (`refusedRun`, `HeadStart`).
+-- In order: what a text comes to beside a lent output; what is answered and left of each lent thing; the promise `TextDone`, and what is claimed of a text
+-- that runs (`TextClaim`); the parts that the code is made of (`refusedRun`, `HeadStart`).
 -- Assumes nothing.
 use Prim.Native.Nat.{ℕ, _≤_, _<_}
 use mathlib.Core.Path.{_≡_}
 use mathlib.Core.Option.{none, some}
 use mathlib.Core.List.{List, [], _∷_}
-use lib.ListN.{length, take}
+use lib.ListN.{length}
 use lib.Seq.{sets}
 use lib.Dec.{ltb}
 use Rattle.station.specs.Head.{Head}
@@ -17,7 +17,7 @@ use Rattle.station.specs.Types.{refusalIn, headIn}
 use Rattle.station.specs.Writing.{textOf}
 use Rattle.station.specs.Reading.{Reading, headOf}
 use Rattle.station_heads.specs.ReadHead.{headRecord, recordsOver}
-use Rattle.station_output.specs.Wrote.{moved, Wrote}
+use Rattle.station_output.specs.Wrote.{moved}
 use Rattle.station.specs.declared.types.Preset as record-of-preset
 use Rattle.station.specs.declared.types.Head as record-of-head
 use Rattle.station.specs.declared.types.Refusal as cause
@@ -79,7 +79,7 @@ outputAfter (notRead n r) out = out
 outputAfter (notPlanned h n r) out = out
 outputAfter (ran h n g r) out = sets out 0 (listingOf (ran h n g r))
 
--- What `run_text` answers and leaves where the text comes to w.
+-- What `run_text_by_value` answers and leaves where the text comes to w.
 pub record Leaves (w : Whole) (given : record-of-head.Head) (ps : List record-of-preset.Preset) (t : List ℕ) (c : ℕ) (out t₁ out₁ : List ℕ)
     (r : result.TextRun) : Type 0 where
   pub ended : endIn (r .ended) ≡ endOf w out
@@ -92,16 +92,7 @@ pub record Leaves (w : Whole) (given : record-of-head.Head) (ps : List record-of
 abbrev pub TextDone : List ℕ → record-of-head.Head → List record-of-preset.Preset → List ℕ → ℕ → List ℕ → List ℕ → List ℕ → result.TextRun → Type 0
 TextDone text head ps t clock out t₁ out₁ r = Leaves (wholeBeside text t out) head ps t clock out t₁ out₁ r
 
--- What `write_listing` leaves: the whole listing stands at the start of the output, as far as it has room for it; the one refused line too.
-abbrev pub Listed : List ℕ → List ℕ → List ℕ → List ℕ → List ℕ → ℕ → Type 0
-Listed text t out t₁ out₁ n = (t₁ ≡ tableAfter (wholeBeside text t out) t) × Wrote out 0 (listingOf (wholeBeside text t out)) out₁ n
-
--- What an output with room for every listing has after `write_listing`: its first n bytes are the listing of the text, whole.
-pub record ListedWhole (text t out₁ : List ℕ) (n : ℕ) : Type 0 where
-  pub size : n ≡ length (listingOf (wholeOf text t))
-  pub bytes : take n out₁ ≡ listingOf (wholeOf text t)
-
--- What is claimed of a text beside a table and an output, whatever they are: the three demands, of the very outcome that `run_text` answers and leaves.
+-- What is claimed of a text beside a table and an output, whatever they are: the three demands, of the very outcome that `run_text_by_value` answers and leaves.
 -- That it holds for all of them is `text-claim` in proofs/WholeText.antt.
 pub record TextClaim (text t out : List ℕ) : Type 0 where
   -- "output below 8,192 bytes" is 8 at line 0; beside any other output a text comes to what demand 1 speaks of

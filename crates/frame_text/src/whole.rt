@@ -1,7 +1,6 @@
-// The entries on a whole text: the head, its plan, then every line as an event, and the listing of it all.
+// A whole text, the presets by value: the head, its plan, then every line as an event, and the listing of it all.
 use crate::text::run_lines;
 use frame_listing::listing::granted_lines;
-use frame_listing::listing::refused_line;
 use frame_listing::listing::slot_lines;
 use placing_plan::plan::PlanAnswer;
 use placing_plan::plan::plan_by_value;
@@ -11,10 +10,8 @@ use station::types::Refusal;
 use station_heads::heads::ReadAnswer;
 use station_heads::heads::read_head;
 ghost use mathlib.Core.Path.{_≡_};
-ghost use Prim.Native.Nat.{_≤_};
-ghost use lib.ListN.{length};
 ghost use Rattle.frame.specs.Text.{wholeOf};
-ghost use Rattle.frame_text.specs.Whole.{refusedRun, HeadStart, Leaves, TextDone, TextClaim, Listed, ListedWhole};
+ghost use Rattle.frame_text.specs.Whole.{refusedRun, HeadStart, Leaves, TextDone, TextClaim};
 
 // How a text ends: the number of bytes of its listing in the output, or the line and the cause of the one refusal.
 pub enum Ended {
@@ -76,7 +73,7 @@ fn run_head(
 // Runs a whole text: 10 for more than 32,768 bytes, 8 for an output below 8,192 bytes or a table below 512 cells, then the head's causes, then 5; else every
 // line after the head is answered, and the listing stands at the start of the output, as far as it has room for it. A refusal leaves table, clock and output
 // as they were; the head is the one handed in, and with 5 the one read.
-pub fn run_text(
+pub fn run_text_by_value(
     text: &[u8],
     head: Head,
     presets: [Preset; 32],
@@ -112,31 +109,5 @@ pub fn run_text(
             clock,
             out,
         ),
-    }
-}
-
-// Writes the listing of a whole text at the start of the output, as far as it has room for it, the one line of a refusal too. Answers how many bytes it is.
-// An output of 655,360 bytes has room for every listing.
-pub fn write_listing(text: &[u8], table: &mut [u16], out: &mut [u8]) -> usize
-    ensures done { λ n. ⌜ Listed (now (text .entry)) (now (table .entry)) (now (out .entry)) (now (table .exit)) (now (out .exit)) n ⌝ }
-    ensures whole { λ n. ⌜ (655360 ≤ length (now (out .entry)) → ListedWhole (now (text .entry)) (now (table .entry)) (now (out .exit)) n) ⌝ }
-{
-    let head = Head {
-        slots: 0,
-        bridges: 0,
-        busy: [0; 8],
-        count: 0,
-    };
-    let presets = [Preset {
-        number: 0,
-        priority: 0,
-        mandatory: 0,
-        optional: 0,
-    }; 32];
-    let run = run_text(text, head, presets, table, 1, out);
-    let ended = run.ended;
-    match ended {
-        Ended::Ran(n) => n,
-        Ended::Refused(line, cause) => refused_line(out, 0, line, cause),
     }
 }

@@ -1,5 +1,33 @@
 // The program `plan`: reads a station file from standard input and writes its listing to standard output. What the listing is, is decided in the library.
-use frame_text::whole::write_listing;
+use frame::types::Answer;
+use frame_lines::listing_entries::write_answer;
+use frame_print::print::write_listing;
+use station_write::write::Writing;
+ghost use Prim.Native.Nat.{_≤_};
+ghost use mathlib.Core.Path.{_≡_};
+ghost use lib.ListN.{length, take};
+ghost use Rattle.frame.specs.Text.{wholeOf};
+ghost use Rattle.frame.specs.Listing.{listingOf};
+
+// Writes what the program prints of a text into an output with room for every listing: the listing, or where the text is too long to be taken, the one line of
+// this refusal. Answers how many bytes it is.
+fn listing(text: &[u8], table: &mut [u16], out: &mut [u8]) -> usize
+    requires { ⌜ 655360 ≤ length (now out) ⌝ }
+    ensures inside { λ n. ⌜ n ≤ length (now (out .exit)) ⌝ }
+    ensures bytes { λ n. ⌜ take n (now (out .exit)) ≡ listingOf (wholeOf (now (text .entry)) (now (table .entry))) ⌝ }
+{
+    let listed = write_listing(text, table, out);
+    match listed {
+        Writing::Written(n) => n,
+        Writing::Refused(cause) => {
+            let line = write_answer(out, 0, Answer::Refused(cause));
+            match line {
+                Writing::Written(n) => n,
+                Writing::Refused(_) => 0,
+            }
+        }
+    }
+}
 
 fn main() {
     // one byte more than a text may have, so that a longer one is seen to be too long
@@ -9,7 +37,7 @@ fn main() {
     let mut output = [0u8; 655360];
     let n = io::read_full(0, &mut input);
     let text = &input[0..n];
-    let k = write_listing(text, &mut table, &mut output);
-    let listing = &output[0..k];
-    io::write_all(1, listing);
+    let k = listing(text, &mut table, &mut output);
+    let printed = &output[0..k];
+    io::write_all(1, printed);
 }

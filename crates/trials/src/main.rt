@@ -2,7 +2,7 @@
 //
 // A line `(accepted n b)` gives the number of the head's lines and bytes, followed by the head written again; a line `(refused n c)` the line and the cause's number.
 // A listing follows a line `(listing)`. What this program writes is compared with the stored output.
-use frame_text::whole::write_listing;
+use frame_print::print::write_listing;
 use station::types::Head;
 use station::types::Preset;
 use station::types::Refusal;
@@ -151,9 +151,12 @@ fn long_texts() {
 fn run(text: &[u8]) {
     let mut table = [0u16; 512];
     let mut out = [0u8; 8192];
-    let n = write_listing(text, &mut table, &mut out);
+    let written = write_listing(text, &mut table, &mut out);
     io::write_all(1, b"(listing)\n");
-    write_first(&out, n);
+    match written {
+        Writing::Written(n) => write_first(&out, n),
+        Writing::Refused(cause) => line(b"refused", 0, number_of(cause)),
+    }
 }
 
 // The clock: the same again, back, past the end; a call when every slot has gone by.

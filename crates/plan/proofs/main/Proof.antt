@@ -1,6 +1,6 @@
--- `plan::main` is safe: the listing ends inside the output. Assumes nothing.
+-- `plan::main` is safe: the output has room for every listing, and what is printed is inside it. Assumes nothing.
 use borrow.Author.Needs.{needs}
-use Rattle.frame_text.proofs.WholeText.{listed-inside}
+use Rattle.plan.proofs.Printed.{array-long}
 use Rattle.plan.proofs.main.Statement.{statement}
 use Rattle.plan.proofs.main.Tie as tie
 
@@ -19,23 +19,23 @@ part-text-start c = search needs
 part-text-end : tie.Need-part-text-end
 part-text-end c = search needs
 
-slice-aggregate-write-listing : tie.Need-slice-aggregate-write-listing
-slice-aggregate-write-listing c = search needs
+slice-aggregate-listing : tie.Need-slice-aggregate-listing
+slice-aggregate-listing c = search needs
 
-slice-aggregate-write-listing-2 : tie.Need-slice-aggregate-write-listing-2
-slice-aggregate-write-listing-2 c = search needs
+slice-aggregate-listing-2 : tie.Need-slice-aggregate-listing-2
+slice-aggregate-listing-2 c = search needs
 
-write-listing-requires : tie.Need-write-listing-requires
-write-listing-requires c κs = search needs
+listing-requires : tie.Need-listing-requires
+listing-requires c κs = array-long 655360
 
-sub-listing : tie.Need-sub-listing
-sub-listing c = search needs
+sub-printed : tie.Need-sub-printed
+sub-printed c = search needs
 
-part-listing-start : tie.Need-part-listing-start
-part-listing-start c = search needs
+part-printed-start : tie.Need-part-printed-start
+part-printed-start c = search needs
 
-part-listing-end : tie.Need-part-listing-end
-part-listing-end c = listed-inside (c .before .before .before .write-listing .ensures .0 .1)
+part-printed-end : tie.Need-part-printed-end
+part-printed-end c = search needs
 
 write-all-requires : tie.Need-write-all-requires
 write-all-requires c κs = search needs
@@ -52,11 +52,11 @@ main-spec =
     sub-text
     part-text-start
     part-text-end
-    slice-aggregate-write-listing
-    slice-aggregate-write-listing-2
-    write-listing-requires
-    sub-listing
-    part-listing-start
-    part-listing-end
+    slice-aggregate-listing
+    slice-aggregate-listing-2
+    listing-requires
+    sub-printed
+    part-printed-start
+    part-printed-end
     write-all-requires
     returns)

@@ -1,4 +1,4 @@
--- `events::event` meets its contract: a law for each answer, the frame afterwards by `done-running`, and the claim by `demand-3`. Assumes nothing.
+-- `events::event_by_value` meets its contract: a law for each answer, the frame afterwards by `done-running`, and the claim by `demand-3`. Assumes nothing.
 use mathlib.Core.Path.{_≡_}
 use mathlib.Core.Option.{none}
 use mathlib.Core.List.{[], _∷_}
@@ -10,8 +10,8 @@ use Rattle.frame.specs.Event.{Event}
 use Rattle.frame_events.specs.Running.{stateOf}
 use Rattle.frame.proofs.Demands.{demand-3}
 use Rattle.frame_events.proofs.Running.{frame-free, line-done, frame-refused, event-done, done-running}
-use Rattle.frame_events.proofs.events.event.Statement.{statement}
-use Rattle.frame_events.proofs.events.event.Tie as tie
+use Rattle.frame_events.proofs.events.event_by_value.Statement.{statement}
+use Rattle.frame_events.proofs.events.event_by_value.Tie as tie
 
 -- no cause of the frame is met
 free : (c : tie.After-enum-told)
@@ -57,8 +57,8 @@ returns-2 c =
     (line-done (a .head) (a .presets) (a .clock) (a .table .now) (free n) (a .line .now) (c .before .before .asked-event .ensures)) in
     (done, (done-running (a .head) (a .presets) (a .clock) (a .table .now) e done, demand-3 (headIn (a .head) (a .presets)) (stateOf (a .table .now) (a .clock)) (e ∷ [])))
 
-pub event-spec : {M : Type 1} → statement M
-event-spec =
+pub event-by-value-spec : {M : Type 1} → statement M
+event-by-value-spec =
     tie.close
     (tie.spec
     frame-cause-requires

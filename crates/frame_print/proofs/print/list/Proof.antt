@@ -1,13 +1,12 @@
--- `whole::write_listing` meets its contract: the listing of a text that ran stands there already, and the one line of a refusal is written. Assumes nothing.
+-- `print::list` meets its contract: the listing of a text that ran stands there already, and the one line of a refusal is written. Assumes nothing.
 use borrow.Author.Needs.{needs}
 use Rattle.frame_text.specs.Whole.{wholeBeside}
-use Rattle.frame_text.proofs.WholeText.{listed-ran, listed-refused}
-use Rattle.frame_text.proofs.ListingSize.{listing-whole}
-use Rattle.frame_text.proofs.whole.write_listing.Statement.{statement}
-use Rattle.frame_text.proofs.whole.write_listing.Tie as tie
+use Rattle.frame_print.proofs.WriteListing.{lists-ran, lists-refused}
+use Rattle.frame_print.proofs.print.list.Statement.{statement}
+use Rattle.frame_print.proofs.print.list.Tie as tie
 
-run-text-requires : tie.Need-run-text-requires
-run-text-requires c κs = search needs
+run-text-by-value-requires : tie.Need-run-text-by-value-requires
+run-text-by-value-requires c κs = search needs
 
 enum-known-ended : tie.Need-enum-known-ended
 enum-known-ended c = search needs
@@ -29,8 +28,7 @@ returns c =
     let e = c .before in
     let t = e .before .before .before .before .before .before in
     let a = t .before .before .before .before .before .before .args in
-    let done = listed-ran (wholeBeside (a .text .now) (a .table .now) (a .out .now)) (t .run-text .ensures .0) (e .ended .given .1) in
-    (done, listing-whole (a .text .now) (a .table .now) (done .1))
+    lists-ran (wholeBeside (a .text .now) (a .table .now) (a .out .now)) (t .run-text-by-value .ensures .0) (e .ended .given .1)
 
 same-length-3 : tie.Need-same-length-3
 same-length-3 c = search needs
@@ -44,14 +42,13 @@ returns-2 c =
     let e = l .before .before .before in
     let t = e .before .before .before .before .before .before in
     let a = t .before .before .before .before .before .before .args in
-    let done = listed-refused (wholeBeside (a .text .now) (a .table .now) (a .out .now)) (t .run-text .ensures .0) (e .ended2 .given .1) (l .refused-line .ensures) in
-    (done, listing-whole (a .text .now) (a .table .now) (done .1))
+    lists-refused (wholeBeside (a .text .now) (a .table .now) (a .out .now)) (t .run-text-by-value .ensures .0) (e .ended2 .given .1) (l .refused-line .ensures)
 
-pub write-listing-spec : {M : Type 1} → statement M
-write-listing-spec =
+pub list-spec : {M : Type 1} → statement M
+list-spec =
     tie.close
     (tie.spec
-    run-text-requires
+    run-text-by-value-requires
     enum-known-ended
     enum-known-ended-2
     refused-line-requires

@@ -1,29 +1,25 @@
 -- How long the listing of a text can be: an output of 655,360 bytes has room for that of every text.
 --
--- In order: one line of each kind, granted lines and slot lines; the answers to a list of events (`answers-size`); the line of a refusal; `listing-fits` and
--- `listing-whole`.
+-- In order: one line of each kind, granted lines and slot lines; the answers to a list of events (`answers-size`); the line of a refusal; `listing-fits`.
 -- Assumes nothing.
 use Prim.Native.Nat.{ℕ, zero, suc, _+_, _*_, _≤_, _<_}
 use native.Mathlib.Nat.{mod-lt}
 use native.Mathlib.Omega.{arith}
-use mathlib.Core.Path.{_≡_, refl, sym, _∙_, ap, subst}
+use mathlib.Core.Path.{_≡_, refl, ap, subst}
 use mathlib.Core.Bool.{Bool, true, false, cond}
 use mathlib.Core.List.{List, [], _∷_, _++_, map}
-use lib.Dec.{eqb, ltb}
-use lib.Seq.{take-at}
-use lib.ListN.{length, getD, take, drop, length-append, length-map, length-drop}
+use lib.Dec.{eqb}
+use lib.ListN.{length, getD, drop, length-append, length-map, length-drop}
 use Rattle.laws.specs.Sums.{sum, count}
 use Rattle.laws.specs.Placement.{at}
-use Rattle.laws.proofs.Sums.{Is, is, is-true, is-false, lt-of, ge-of, sum-le, sum-const, count-le}
+use Rattle.laws.proofs.Sums.{sum-le, sum-const, count-le}
 use Rattle.station.specs.Head.{Head, Preset, noPreset, Valid}
 use Rattle.station.specs.Refusal.{Refusal, noForm, outOfLimits, outOfPlace, numberUsed, mandatoryNotFeasible, clockBack, callNotFeasible, tooShort, tooMany, textTooLong, notWellFormed, numberOf}
 use Rattle.station.specs.Text.{bytes, _then_, onto, lines}
 use Rattle.station.specs.Form.{print}
 use Rattle.station.specs.Reading.{Reading, SoFar, Stops, at-end, at-event, at-no-form, at-fault, Means, too-long, no-text, by-lines}
 use Rattle.station.specs.Decimal.{digits}
-use Rattle.station_output.specs.Wrote.{Wrote}
 use Rattle.station.proofs.Decimal.{digits-length}
-use Rattle.station_output.proofs.Wrote.{wrote-fits}
 use Rattle.placing.specs.Table.{cell, kindOf, numberIn, isOptional}
 use Rattle.placing.specs.Valid.{optionalCount}
 use Rattle.placing.specs.Entries.{PlanAnswer, planOf}
@@ -35,10 +31,8 @@ use Rattle.frame.specs.Demands.{Ends, EventIs, stopped, clockSet, placed, total
 use Rattle.frame.specs.Demands.{too-short, head-refused, is-not-planned, is-planned}
 use Rattle.frame.specs.Listing.{refusedLine, grantedLine, answerLine, cellText, cellTexts, slotLine, slotLines, grantedLines, answerLines, listingOf}
 use Rattle.frame.proofs.Event.{event-is, event-running}
-use Rattle.frame_text.specs.Whole.{wholeBeside, ListedWhole}
 use Rattle.frame.proofs.Kept.{run-counted}
 use Rattle.frame.proofs.Demands.{demand-1, planned-running}
-use Rattle.frame_text.proofs.WholeText.{beside-long, beside-short, beside-whole, beside-other}
 
 -- ---- one line
 
@@ -55,7 +49,7 @@ number-small tooMany = omega arith
 number-small textTooLong = omega arith
 number-small notWellFormed = omega arith
 
-pub refused-size : (n : ℕ) (r : Refusal) → n < 100000 → length (refusedLine n r) ≤ 19
+refused-size : (n : ℕ) (r : Refusal) → n < 100000 → length (refusedLine n r) ≤ 19
 unfolding refusedLine bytes
 refused-size n r l =
     omega (
@@ -276,26 +270,6 @@ ends-size text t _ (head-refused {n} {r} p s m) = not-read-size n r (means-line 
 ends-size text t _ (is-not-planned {h} {n} s m f) = not-planned-size h n mandatoryNotFeasible (means-line text (Reading.accepted h n) m)
 ends-size text t _ (is-planned {h} {n} {g} s m a v) = ran-size text t h n g m a
 
--- The listing of every text, beside every table and output, has at most 655,360 bytes.
-pub listing-fits : (text t out : List ℕ) → length (listingOf (wholeBeside text t out)) ≤ 655360
-listing-fits text t out = go (is (ltb 32768 (length text))) (is (ltb (length out) 8192))
-  where
-    go : Is (ltb 32768 (length text)) → Is (ltb (length out) 8192) → length (listingOf (wholeBeside text t out)) ≤ 655360
-    go (is-true l) s = rw (beside-long text t out (lt-of 32768 (length text) l)) (not-read-size 0 textTooLong (omega arith))
-    go (is-false l) (is-true s) =
-        rw (beside-short text t out (ge-of 32768 (length text) l) (lt-of (length out) 8192 s)) (not-read-size 0 tooShort (omega arith))
-    go (is-false l) (is-false s) =
-        rw (beside-whole text t out (ge-of 32768 (length text) l) (ge-of (length out) 8192 s)) (ends-size text t (wholeOf text t) (demand-1 text t .ends))
-
--- so an output of that size has all of it
-pub listing-whole : (text t : List ℕ) {out out₁ : List ℕ} {n : ℕ} → Wrote out 0 (listingOf (wholeBeside text t out)) out₁ n → 655360 ≤ length out
-    → ListedWhole text t out₁ n
-listing-whole text t {out} {out₁} {n} w long =
-    let same : wholeBeside text t out ≡ wholeOf text t = beside-other text t out (omega arith) in
-    let bs = listingOf (wholeBeside text t out) in
-    let is-listing : bs ≡ listingOf (wholeOf text t) = ap listingOf same in
-    let f = wrote-fits w (omega (arith, listing-fits text t out)) in
-    record {
-      size = f .1 ∙ ap length is-listing;
-      bytes = ap (take n) (f .0) ∙ take-at bs (drop (length bs) out) n (sym (f .1)) ∙ is-listing;
-    }
+-- The listing of every text, with every table, has at most 655,360 bytes.
+pub listing-fits : (text t : List ℕ) → length (listingOf (wholeOf text t)) ≤ 655360
+listing-fits text t = ends-size text t (wholeOf text t) (demand-1 text t .ends)

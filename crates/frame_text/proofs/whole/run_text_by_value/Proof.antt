@@ -1,11 +1,11 @@
--- `whole::run_text` meets its contract: a law for each answer, and the claim by `text-claim`. Assumes nothing.
+-- `whole::run_text_by_value` meets its contract: a law for each answer, and the claim by `text-claim`. Assumes nothing.
 use mathlib.Core.Path.{_∙_}
 use borrow.Author.Needs.{needs}
 use Rattle.station.specs.declared.types.Refusal.the-variants.{TooShort, TextTooLong}
 use Rattle.station_heads.proofs.HeadText.{read-accepted, read-refused}
 use Rattle.frame_text.proofs.WholeText.{beside-long, beside-short, beside-whole, whole-short, text-claim, leaves-refused, run-unread, head-start, run-accepted}
-use Rattle.frame_text.proofs.whole.run_text.Statement.{statement}
-use Rattle.frame_text.proofs.whole.run_text.Tie as tie
+use Rattle.frame_text.proofs.whole.run_text_by_value.Statement.{statement}
+use Rattle.frame_text.proofs.whole.run_text_by_value.Tie as tie
 
 refused-requires : tie.Need-refused-requires
 refused-requires c κs = search needs
@@ -93,8 +93,8 @@ returns-5 c =
       text-claim (a .text .now) (a .table .now) (a .out .now),
     )
 
-pub run-text-spec : {M : Type 1} → statement M
-run-text-spec =
+pub run-text-by-value-spec : {M : Type 1} → statement M
+run-text-by-value-spec =
     tie.close
     (tie.spec
     refused-requires

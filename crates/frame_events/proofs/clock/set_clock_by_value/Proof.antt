@@ -1,9 +1,9 @@
--- `clock::set_clock` meets its contract: a law for each answer. Assumes nothing.
+-- `clock::set_clock_by_value` meets its contract: a law for each answer. Assumes nothing.
 use borrow.Author.Needs.{needs}
 use Rattle.frame.specs.Event.{Event}
 use Rattle.frame_events.proofs.Running.{frame-free, clock-done, frame-refused, event-done}
-use Rattle.frame_events.proofs.clock.set_clock.Statement.{statement}
-use Rattle.frame_events.proofs.clock.set_clock.Tie as tie
+use Rattle.frame_events.proofs.clock.set_clock_by_value.Statement.{statement}
+use Rattle.frame_events.proofs.clock.set_clock_by_value.Tie as tie
 
 frame-cause-requires : tie.Need-frame-cause-requires
 frame-cause-requires c κs = search needs
@@ -31,7 +31,7 @@ returns-2 c =
     event-done (a .head) (a .presets) (a .clock) (a .table .now) (Event.clock (a .t)) free
     (clock-done (a .head) (a .presets) (a .clock) (a .table .now) free (a .t) (c .asked-clock .ensures))
 
-pub set-clock-spec : {M : Type 1} → statement M
-set-clock-spec =
+pub set-clock-by-value-spec : {M : Type 1} → statement M
+set-clock-by-value-spec =
     tie.close
     (tie.spec frame-cause-requires enum-known-r returns enum-told asked-clock-requires returns-2)

@@ -1,0 +1,2 @@
+-- What the entry write_listing is held to.
+pub mod WriteListing

@@ -1,0 +1,2 @@
+-- The laws that they cite.
+pub mod Printed
