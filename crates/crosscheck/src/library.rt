@@ -1,8 +1,8 @@
 // The library's planner, run on the small heads. Past the frame's cells its table is full of a mark that must stay.
+use placing_borrowing::call::call_borrowing;
+use placing_borrowing::plan::plan_borrowing;
 use placing_call::call::CallAnswer;
-use placing_call::call::call_by_value;
 use placing_plan::plan::PlanAnswer;
-use placing_plan::plan::plan_by_value;
 use second_planner::case::Call;
 use second_planner::case::Case;
 use second_planner::case::number_of_line;
@@ -230,7 +230,7 @@ fn grant_at(grants: [u8; 32], line: usize) -> usize {
 // The library's plan. Its table is all marks before.
 pub fn library_plan(case: Case) -> Left {
     let mut table = [MARK; 512];
-    let planned = plan_by_value(head_of(case), presets_of(case), &mut table);
+    let planned = plan_borrowing(head_of(case), presets_of(case), &mut table);
     let answer = planned.answer;
     let granted = planned.grants;
     let grants = [
@@ -265,7 +265,7 @@ fn call_evicted(answer: CallAnswer) -> usize {
 // What the library makes of a call on a table.
 pub fn library_call(case: Case, small: [usize; 6], wanted: Call) -> Left {
     let mut table = table_of(case.cells, small);
-    let answer = call_by_value(
+    let answer = call_borrowing(
         head_of(case),
         presets_of(case),
         &mut table,

@@ -2,9 +2,9 @@
 //
 // The first byte of standard input says what is done a thousand times: `p` plans a frame of 64 slots, 8 bridges and 32 presets; `c` plans it and then places
 // a call that evicts all of its 448 optional cells, so that the search looks through every one of them. What it writes is what the last one gave.
+use placing_borrowing::call::call_borrowing;
+use placing_borrowing::plan::plan_borrowing;
 use placing_call::call::CallAnswer;
-use placing_call::call::call_by_value;
-use placing_plan::plan::plan_by_value;
 use station::types::Head;
 use station::types::Job;
 use station::types::Preset;
@@ -57,11 +57,11 @@ fn jobs() -> [Job; 8] {
 // Plans, and places the call if it is asked for. Answers how many cells are evicted.
 fn once(head: Head, presets: [Preset; 32], calls: bool) -> u64 {
     let mut table = [0u16; 512];
-    plan_by_value(head, presets, &mut table);
+    plan_borrowing(head, presets, &mut table);
     if !calls {
         return 0;
     }
-    let answer = call_by_value(head, presets, &mut table, 1, jobs(), 8);
+    let answer = call_borrowing(head, presets, &mut table, 1, jobs(), 8);
     match answer {
         CallAnswer::Taken(n) => n as u64,
         CallAnswer::Refused(_) => 0,

@@ -1,0 +1,2 @@
+-- What the walks share that lend an array of preset records.
+pub mod Borrowed

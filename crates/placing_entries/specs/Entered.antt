@@ -1,0 +1,31 @@
+-- What the entries `plan` and `call` are held to, over a list of preset records of any length. Document 01, "The table": "Presets stand in a lent list
+-- of records, in file order"; "Causes": 8 for a "preset list below 32 records".
+-- Assumes nothing.
+use Prim.Native.Nat.{ℕ, _≤_, _<_}
+use mathlib.Core.Path.{_≡_}
+use mathlib.Core.List.{List}
+use lib.ListN.{replicate}
+use Rattle.station.specs.Head.{Job}
+use Rattle.station.specs.declared.types.Preset.{Preset}
+use Rattle.station.specs.declared.types.Head.{Head}
+use Rattle.station.specs.declared.types.Refusal.the-variants.{TooShort}
+use Rattle.placing_plan.specs.declared.plan.Planned.{Planned}
+use Rattle.placing_plan.specs.declared.plan.PlanAnswer.the-variants as plan-answer
+use Rattle.placing_plan.specs.Planning.{PlanDone}
+use Rattle.placing_call.specs.declared.call.CallAnswer.{CallAnswer}
+use Rattle.placing_call.specs.declared.call.CallAnswer.the-variants as call-answer
+use Rattle.placing_call.specs.Calling.{CallDone}
+
+-- 8, and no grants
+abbrev pub planTooShort : Planned
+planTooShort = record { answer = plan-answer.Refused TooShort; grants = replicate 32 0 }
+
+-- What a plan over n preset records answers and leaves. Fewer than 32: 8, and "every lent cell" is left as it was. Else what a plan over these records does.
+pub record PlanEntered (n : ℕ) (head : Head) (ps : List Preset) (t u : List ℕ) (r : Planned) : Type 0 where
+  pub short : n < 32 → (r ≡ planTooShort) × (u ≡ t)
+  pub done : 32 ≤ n → PlanDone head ps t u r
+
+-- What a call over n preset records answers and leaves. Fewer than 32: 8, and "every lent cell" is left as it was. Else what a call over these records does.
+pub record CallEntered (n : ℕ) (head : Head) (ps : List Preset) (clock : ℕ) (jobs : List Job) (t u : List ℕ) (r : CallAnswer) : Type 0 where
+  pub short : n < 32 → (r ≡ call-answer.Refused TooShort) × (u ≡ t)
+  pub done : 32 ≤ n → CallDone head ps clock jobs t u r

@@ -1,0 +1,2 @@
+-- What the entries plan and call are held to.
+pub mod Entered
