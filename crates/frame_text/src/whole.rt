@@ -8,7 +8,7 @@ use station::types::Head;
 use station::types::Preset;
 use station::types::Refusal;
 use station_heads::heads::ReadAnswer;
-use station_heads::heads::read_head;
+use station_heads::heads::read_head_by_value;
 ghost use mathlib.Core.Path.{_≡_};
 ghost use Rattle.frame.specs.Text.{wholeOf};
 ghost use Rattle.frame_text.specs.Whole.{refusedRun, HeadStart, Leaves, TextDone, TextClaim};
@@ -93,7 +93,7 @@ pub fn run_text_by_value(
     if table.len() < 512 {
         return refused(0, Refusal::TooShort, head, presets, clock);
     }
-    let read = read_head(text, head, presets);
+    let read = read_head_by_value(text, head, presets);
     let answer = read.answer;
     let found = read.head;
     let records = read.presets;

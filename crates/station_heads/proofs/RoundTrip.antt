@@ -1,4 +1,4 @@
--- The round trips of demand 2 as consequences of the two contracts, so that they speak of the code: `read_head` and `write_head` are inverse.
+-- The round trips of demand 2 as consequences of the two contracts, so that they speak of the code: `read_head_by_value` and `write_head_by_value` are inverse.
 --
 -- In order: what writing a valid record leaves; a head read and written has the same bytes; a head written and read is the same head.
 -- Assumes nothing.

@@ -1,4 +1,4 @@
--- One line more in the reading of a head, in the code's types: what the functions below `read_head` are held to. A line's numbers are as they are
+-- One line more in the reading of a head, in the code's types: what the functions below `read_head_by_value` are held to. A line's numbers are as they are
 -- read. Document 01, "The station text" and "Causes".
 --
 -- In order: the answers (`acceptedRead`, `refusedRead`); the state between two lines and what it stands for (`noState`, `soFarIn`); one line more, by

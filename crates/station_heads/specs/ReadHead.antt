@@ -1,4 +1,4 @@
--- What reading a head answers and leaves, in the code's types: what `read_head` is held to. Document 01, "The station text" and "Causes".
+-- What reading a head answers and leaves, in the code's types: what `read_head_by_value` is held to. Document 01, "The station text" and "Causes".
 --
 -- In order: the definitions' values as the code's records (`refusalOf`, `recordOf`, `headRecord`, `recordsOver`); what a reading answers and leaves
 -- (`headRead`).

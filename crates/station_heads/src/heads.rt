@@ -4,6 +4,7 @@ use station::types::Preset;
 use station::types::Refusal;
 use station_forms::forms::Line;
 use station_forms::forms::read_line;
+use station_presets::records::with_record;
 use station_scan::lines::line_at;
 ghost use mathlib.Core.Path.{_≡_};
 ghost use mathlib.Core.Bool.{true, not, _&&_};
@@ -118,17 +119,6 @@ fn number_used(presets: [Preset; 32], count: usize, number: u32) -> bool
         i += 1;
     }
     false
-}
-
-// The preset records with one of them replaced; past the end there is none, and they stay as they are.
-fn with_record(presets: [Preset; 32], at: usize, given: Preset) -> [Preset; 32]
-    ensures { λ r. ⌜ r ≡ set presets at given ⌝ }
-{
-    let mut after = presets;
-    if at < 32 {
-        after[at] = given;
-    }
-    after
 }
 
 // The masks with that of one bridge replaced; past the end there is no bridge, and they stay as they are.
@@ -388,7 +378,7 @@ fn read_lines(text: &[u8], head: Head, presets: [Preset; 32]) -> HeadRead
 // Reads the head of a text: its lines to the first line that has an event's form, or to the text's end. Answers the number of the head's
 // lines and bytes beside the head and its presets, whose records past the last preset are those handed in; or the line at fault, 0 where
 // the text has more than 32,768 bytes, and the cause, beside the head and the records handed in.
-pub fn read_head(text: &[u8], head: Head, presets: [Preset; 32]) -> HeadRead
+pub fn read_head_by_value(text: &[u8], head: Head, presets: [Preset; 32]) -> HeadRead
     ensures { λ r. ⌜ r ≡ headRead (headOf (now (text .entry))) head presets ⌝ }
 {
     if 32768 < text.len() {

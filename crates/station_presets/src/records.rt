@@ -1,4 +1,5 @@
-// The preset records of a borrowed slice: their number, one of them, and the first 32 by value.
+// The preset records of a borrowed slice: their number, one of them, and the first 32 by value. The functions that take the slice only copy records out of it or into
+// it: what works on records takes them by value.
 use station::types::Preset;
 ghost use mathlib.Core.Path.{_≡_};
 ghost use Prim.Native.Nat.{min};

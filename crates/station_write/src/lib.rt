@@ -1,2 +1,2 @@
-// Layer 1, reading: the entry write_head, the one text of a head.
+// Layer 1, reading: the one text of a head, its preset records by value.
 pub mod write; // write.rt: the one text of a head

@@ -1,6 +1,6 @@
 // Writing a head: the one text of a head record, at the start of the borrowed output.
 //
-// The writers are total, as those of output.rt are: none asks for room. That a valid head's text has it is shown once, for `write_head`.
+// The writers are total, as those of output.rt are: none asks for room. That a valid head's text has it is shown once, for `write_head_by_value`.
 use station::types::Head;
 use station::types::Preset;
 use station::types::Refusal;
@@ -171,7 +171,7 @@ fn head_text(head: Head, presets: [Preset; 32], out: &mut [u8]) -> usize
 
 // Writes the one text of a head at the start of the output and answers its length; the bytes past it stay. Refused with 8 for an output below
 // 8,192 bytes, whatever the frame, and with 2 for a head record that no text yields; the output then stays as it was.
-pub fn write_head(head: Head, presets: [Preset; 32], out: &mut [u8]) -> Writing
+pub fn write_head_by_value(head: Head, presets: [Preset; 32], out: &mut [u8]) -> Writing
     ensures { λ r. ⌜ WroteHead head presets (now (out .entry)) r (now (out .exit)) ⌝ }
 {
     if out.len() < 8192 {

@@ -43,8 +43,8 @@ returns-3 c =
       text-claim (a .text .now) (a .table .now) (a .out .now),
     )
 
-read-head-requires : tie.Need-read-head-requires
-read-head-requires c κs = search needs
+read-head-by-value-requires : tie.Need-read-head-by-value-requires
+read-head-by-value-requires c κs = search needs
 
 enum-known-answer : tie.Need-enum-known-answer
 enum-known-answer c = search needs
@@ -60,7 +60,7 @@ run-head-requires c κs =
     let r = c .before .before .before .before .before .before .before in
     let a = r .before .before .before .before .before .before .before .args in
     head-start
-    (read-accepted (a .text .now) (a .head) (a .presets) (r .read-head .result) _ _ (r .read-head .ensures) (c .before .before .before .answer2 .given .1))
+    (read-accepted (a .text .now) (a .head) (a .presets) (r .read-head-by-value .result) _ _ (r .read-head-by-value .ensures) (c .before .before .before .answer2 .given .1))
     (r .before .if3 .left)
 
 returns-4 : tie.Need-returns-4
@@ -69,7 +69,7 @@ returns-4 c =
     let e = r .before in
     let a = e .before .before .before .before .before .before .args in (
       run-unread
-          (read-refused (a .text .now) (a .head) (a .presets) (r .read-head .result) _ _ (r .read-head .ensures) (c .before .before .answer .given .1))
+          (read-refused (a .text .now) (a .head) (a .presets) (r .read-head-by-value .result) _ _ (r .read-head-by-value .ensures) (c .before .before .answer .given .1))
           (e .before .before .if1 .left) (e .if3 .left) (e .before .if2 .left) (c .refused4 .ensures),
       text-claim (a .text .now) (a .table .now) (a .out .now),
     )
@@ -88,7 +88,7 @@ returns-5 c =
     let e = r .before in
     let a = e .before .before .before .before .before .before .args in (
       run-accepted (a .head)
-          (read-accepted (a .text .now) (a .head) (a .presets) (r .read-head .result) _ _ (r .read-head .ensures) (n .answer2 .given .1))
+          (read-accepted (a .text .now) (a .head) (a .presets) (r .read-head-by-value .result) _ _ (r .read-head-by-value .ensures) (n .answer2 .given .1))
           (e .if3 .left) (e .before .if2 .left) (d .run-head .ensures),
       text-claim (a .text .now) (a .table .now) (a .out .now),
     )
@@ -103,7 +103,7 @@ run-text-by-value-spec =
     returns-2
     refused-requires-3
     returns-3
-    read-head-requires
+    read-head-by-value-requires
     enum-known-answer
     refused-requires-4
     enum-known-answer-2

@@ -1,4 +1,4 @@
--- `save` meets its contract: a walk of its MIR, by hand, with a loop. Each turn reads one record of the bank and stores it in the list, each by a call; for the second the slice is lent again, for a lifetime that is made for the call, and comes back.
+-- `save` meets its contract: a walk of its MIR, by hand, with a loop. Each turn reads one record of the bank and stores it in the list, each by a call; for the second the slice is reborrowed, for a lifetime that is made for the call, and comes back.
 -- The loop's variant is the place, which is at most the number of records to write.
 -- Assumes nothing.
 use mathlib.Core.Path.{_≡_, refl, sym, _∙_, ap, subst}
@@ -48,7 +48,7 @@ use Rattle.station.specs.declared.types.Preset.{Preset}
 use Rattle.station.proofs.types.Preset as T
 use Rattle.station.proofs.types.Preset.Laws as T′
 use Rattle.station_presets.specs.Records.{saved}
-use Rattle.station_presets.proofs.Again.{LentAgain, lends-again, comes-back}
+use Rattle.station_presets.proofs.Reborrow.{Reborrowed, reborrows, comes-back}
 use Rattle.station_presets.proofs.Row.{val, vals, tells, makes, typed, Bank, bank-mir, bank-val, bank-tells, bank-makes, bank-typed, bank-length}
 use Rattle.station_presets.proofs.Bank.{saved-none, saved-more, saved-all, length-saved}
 use Rattle.station_presets.proofs.Walk.{asks, hands, hands-one, tests, full, empty, _&_, none, leaves-fn, meets-by}
@@ -165,7 +165,7 @@ module _ {M : Type 1} (𝓤 : URA M) (H : Heap 𝓤) (A : Atoms 𝓤) (W : Given
     next-fits : i .0 + 1 < 2 ^ 64
     next-fits = omega (arith, i .1)
 
-  module _ (𝓣 : Tables 𝓤 H) (known-most : Triple 𝓤 (𝓣 .C #at-most-32) (AtMost32 𝓤 H A mem run)) (known-at : Triple 𝓤 (𝓣 .C #bank-at) (BankAt 𝓤 H A mem run)) (known-set : Triple 𝓤 (𝓣 .C #set-record) (SetRecord 𝓤 H A mem run)) (room : Room T.the-row (length ys)) where
+  module _ (𝓣 : Tables 𝓤 H) (known-most : Triple 𝓤 (𝓣 .C #at-most-32) (AtMost32 𝓤 H A mem run)) (known-at : Triple 𝓤 (𝓣 .C #bank-at) (BankAt 𝓤 H A mem run)) (known-set : Triple 𝓤 (𝓣 .C #set-record) (SetRecord 𝓤 H A mem run)) (sized : Room T.the-row (length ys)) where
     abbrev C : Calls 𝓤 H
     C = 𝓣 .C
 
@@ -179,15 +179,15 @@ module _ {M : Type 1} (𝓤 : URA M) (H : Heap 𝓤) (A : Atoms 𝓤) (W : Given
       abbrev slice : Ty
       slice = sliceTy (tyRef (named 0) mut (pointee (T.the-row .written)))
 
-      abbrev lent : Ty
-      lent = tyRef erased mut (pointee (T.the-row .written))
+      abbrev reborrow : Ty
+      reborrow = tyRef erased mut (pointee (T.the-row .written))
 
       abbrev En : Env 𝓤 H
-      En = (tyUnit, l₀) ∷ (slice, l₁) ∷ (bank-mir, l₂) ∷ (tyInt w64, l₃) ∷ (tyInt w64, l₄) ∷ (tyInt w64, l₅) ∷ (tyBool, l₆) ∷ (tyUnit, l₇) ∷ (lent, l₈) ∷ (sliceTy lent, l₉) ∷ (T′.mir, l₁₀) ∷ []
+      En = (tyUnit, l₀) ∷ (slice, l₁) ∷ (bank-mir, l₂) ∷ (tyInt w64, l₃) ∷ (tyInt w64, l₄) ∷ (tyInt w64, l₅) ∷ (tyBool, l₆) ∷ (tyUnit, l₇) ∷ (reborrow, l₈) ∷ (sliceTy reborrow, l₉) ∷ (T′.mir, l₁₀) ∷ []
 
       -- the loop's invariant
       abbrev At : Upto → List (Item 𝓤)
-      At i = ‵ (flft κ q) ∷ ‵ (Own κ γ (after (i .0))) ∷ ‵ (froom T′.mir l₁₀ 0) ∷ ‵ (fdies T′.mir l₁₀) ∷ ‵ (froom (sliceTy lent) l₉ 0) ∷ ‵ (fdies (sliceTy lent) l₉) ∷ ‵ (froom lent l₈ 0) ∷ ‵ (fdies lent l₈) ∷ ‵ (froom tyUnit l₇ 0) ∷ ‵ (fdies tyUnit l₇)
+      At i = ‵ (flft κ q) ∷ ‵ (Own κ γ (after (i .0))) ∷ ‵ (froom T′.mir l₁₀ 0) ∷ ‵ (fdies T′.mir l₁₀) ∷ ‵ (froom (sliceTy reborrow) l₉ 0) ∷ ‵ (fdies (sliceTy reborrow) l₉) ∷ ‵ (froom reborrow l₈ 0) ∷ ‵ (fdies reborrow l₈) ∷ ‵ (froom tyUnit l₇ 0) ∷ ‵ (fdies tyUnit l₇)
           ∷ ‵ (froom tyBool l₆ 0) ∷ ‵ (fdies tyBool l₆) ∷ ‵ (fat fullShare (tyInt w64) l₅ 0 (vint w64 (i .0))) ∷ ‵ (fdies (tyInt w64) l₅) ∷ ‵ (fat fullShare (tyInt w64) l₄ 0 (vint w64 (min n 32))) ∷ ‵ (fdies (tyInt w64) l₄)
           ∷ ‵ (fat fullShare (tyInt w64) l₃ 0 (vint w64 n)) ∷ ‵ (fdies (tyInt w64) l₃) ∷ ‵ (fat fullShare bank-mir l₂ 0 (bank-val bank)) ∷ ‵ (fdies bank-mir l₂) ∷ ‵ (fat fullShare slice l₁ 0 v) ∷ ‵ (fdies slice l₁) ∷ ‵ (froom tyUnit l₀ 0) ∷ ‵ (fdies tyUnit l₀) ∷ []
 
@@ -202,22 +202,22 @@ module _ {M : Type 1} (𝓤 : URA M) (H : Heap 𝓤) (A : Atoms 𝓤) (W : Given
           tests ! (load ! (from ! (stop !)) (look ! 10 refl))
           (λ less.
           assigns ! (addr ! (from ! (fld ! refl (hop ! (look-in ! 20 (sub ! 0 refl (whole !))) (stop !))))) (from ! (stop !)) (init ! 6 refl (tt, tt)) $
-          assigns ! (agg ! (and-then ! (load ! (from ! (stop !)) (look ! 6 refl)) (and-then ! (load ! (from ! (fld ! refl (stop !))) (look-in ! 20 (sub ! 1 refl (whole !)))) (no-more !)))) (from ! (stop !)) (init ! 4 refl (tt, (tt, (record { fits = room .0 }, tt)))) $
+          assigns ! (agg ! (and-then ! (load ! (from ! (stop !)) (look ! 6 refl)) (and-then ! (load ! (from ! (fld ! refl (stop !))) (look-in ! 20 (sub ! 1 refl (whole !)))) (no-more !)))) (from ! (stop !)) (init ! 4 refl (tt, (tt, (record { fits = sized .0 }, tt)))) $
           -- `bank_at`
           use0 W (raw (BankAt 𝓤 H A mem run .pre (to-at (i .0)))) (hands 𝓤 H A bank-at.ended (bank-at.clauses 𝓤 H A mem run) (to-at (i .0)) refl (bank-makes 𝓤 H A W, (uint-makes 𝓤 H A W w64, tt)) (is-bank, ((refl, place-fits i), tt))) $
           -- [what `bank_at` asks; the token; what the slice owns; _10; …; _9; …; _8; …; _7; …; _6; …; _5; …; _4; …; _3; …; _2; …; _1; …; _0; …]
           asks ! fm bank-at.ended (bank-at.clauses 𝓤 H A mem run) known-at (to-at (i .0)) (‵ ftrue) refl (λ r ws. r ≡ getD bank (i .0) noRecord) (λ r ws. refl) val tells
           (and-then ! (load ! (from ! (stop !)) (look ! 19 refl)) (and-then ! (load ! (from ! (stop !)) (look ! 13 refl)) (no-more !))) (λ r ws is e. land ! (from ! (stop !)) (init ! 4 refl (typed r is)) $
-          -- `set_record`: the slice is lent again, for a lifetime ν of the call
+          -- `set_record`: the slice is reborrowed, for a lifetime ν of the call
           lft-new ! tt (λ ν. move ! (4 ∷ 3 ∷ []) $
-          use2 W (later (some (λ (δ : GName). ‵ (Own (ν ∷ []) δ (after (i .0))) ⊛ ‵ (LentAgain T.the-row κ (ν ∷ []) q γ b o δ (after (i .0)))))) (lends-again T.the-row κ (ν ∷ []) q γ b o 𝓤 H A W (named 0) (named 0) (after (i .0)) v) $ await ! tt $ pick ! (λ δ. split ! $
+          use2 W (later (some (λ (δ : GName). ‵ (Own (ν ∷ []) δ (after (i .0))) ⊛ ‵ (Reborrowed T.the-row κ (ν ∷ []) q γ b o δ (after (i .0)))))) (reborrows T.the-row κ (ν ∷ []) q γ b o 𝓤 H A W (named 0) (named 0) (after (i .0)) v) $ await ! tt $ pick ! (λ δ. split ! $
           move ! (2 ∷ 0 ∷ []) $ use2 W (raw (SetRecord 𝓤 H A mem run .pre (to-set ν δ (i .0) r))) (goes-set ν δ (i .0) r (place-fits i) is) $
-          -- [what `set_record` asks; what the lender keeps; true; nothing said; _10; …; _9; …; _8; …; _7; …; _6; …; _5; …; _4; …; _3; …; _2; …; _1; …; _0; …]
+          -- [what `set_record` asks; what the holder keeps; true; nothing said; _10; …; _9; …; _8; …; _7; …; _6; …; _5; …; _4; …; _3; …; _2; …; _1; …; _0; …]
           asks ! fm set-record.ended (set-record.clauses 𝓤 H A mem run) known-set (to-set ν δ (i .0) r) (‵ (flft (ν ∷ []) fullShare) ⊛ ‵ ftrue) refl (λ _ zs. zs .0 ≡ set (after (i .0)) (i .0) r) (λ _ zs. refl) (λ _. vunit) nothing-tells
           (and-then ! (load ! (from ! (stop !)) (look ! 6 refl)) (and-then ! (load ! (from ! (stop !)) (look ! 14 refl)) (and-then ! (load ! (from ! (stop !)) (look ! 4 refl)) (no-more !)))) (λ _ zs _ e′. land ! (from ! (stop !)) (init ! 11 refl (tt, tt)) $
           -- the lifetime is ended, and the slice comes back at the last list
           move ! (1 ∷ []) $ fsplit ! $ fsplit ! $ move ! (3 ∷ []) $ split ! $ lft-end ! tt $ move ! (0 ∷ 5 ∷ 2 ∷ []) $
-          use3 W (later (‵ (Own κ γ (zs .0)) ⊛ ‵ (flft κ q))) (comes-back T.the-row κ (ν ∷ []) q γ b o 𝓤 H A W (named 0) (named 0) (after (i .0)) v δ (zs .0) (ap (sliceVal (b, o)) (sym (as-long (i .0)))) (subst (Room T.the-row) (sym (as-long (i .0))) room)
+          use3 W (later (‵ (Own κ γ (zs .0)) ⊛ ‵ (flft κ q))) (comes-back T.the-row κ (ν ∷ []) q γ b o 𝓤 H A W (named 0) (named 0) (after (i .0)) v δ (zs .0) (ap (sliceVal (b, o)) (sym (as-long (i .0)))) (subst (Room T.the-row) (sym (as-long (i .0))) sized)
           (ap length e′ ∙ length-set (after (i .0)) (i .0) r)) $ await ! tt $ split ! $
           rewrite ! 0 (λ (l : List Preset). ‵ (Own κ γ l)) (e′ ∙ ap (set (after (i .0)) (i .0)) e ∙ saved-more ys bank (bank-length bank is-bank) (i .0) (in-bank i less)) refl $
           -- [what the slice owns; the token; true; the lengths; …; true; nothing said; _10; …; _9; …; _8; …; _7; …; _6; …; _5; …; _4; …; _3; …; _2; …; _1; …; _0; …]
@@ -234,7 +234,7 @@ module _ {M : Type 1} (𝓤 : URA M) (H : Heap 𝓤) (A : Atoms 𝓤) (W : Given
     walk gn =
         qed W ((‵ (flft κ q) ⊛ ‵ ftrue) ∷ ‵ (owns (MutSlice (named 0) κ T.the-row ∷ Bank ∷ usize ∷ []) (x γ ys, (bank, (n, tt))) at) ∷ []) ∵ enter ! C Λ code.function (v ∷ bank-val bank ∷ vint w64 n ∷ []) _ $
         alloc1 ! (λ l₀. alloc1 ! (λ l₁. alloc1 ! (λ l₂. alloc1 ! (λ l₃. alloc1 ! (λ l₄. alloc1 ! (λ l₅. alloc1 ! (λ l₆. alloc1 ! (λ l₇. alloc1 ! (λ l₈. alloc1 ! (λ l₉. alloc1 ! (λ l₁₀. alloc0 ! $ params1 ! $
-        pass1 ! (init ! 18 refl (tt, (tt, (record { fits = room .0 }, tt)))) $ pass1 ! (init ! 16 refl (bank-typed 𝓤 H A W bank is-bank)) $ pass1 ! (init ! 14 refl (tt, record { fits = gn })) $ pass0 ! $
+        pass1 ! (init ! 18 refl (tt, (tt, (record { fits = sized .0 }, tt)))) $ pass1 ! (init ! 16 refl (bank-typed 𝓤 H A W bank is-bank)) $ pass1 ! (init ! 14 refl (tt, record { fits = gn })) $ pass0 ! $
         -- [_10; …; _9; …; _8; …; _7; …; _6; …; _5; …; _4; …; _3; …; _2; …; _1; …; _0; …; the token; what the parameters own]
         use0 W (raw (AtMost32 𝓤 H A mem run .pre to-most)) (hands 𝓤 H A at-most-32.ended (at-most-32.clauses 𝓤 H A mem run) to-most refl (uint-makes 𝓤 H A W w64, tt) ((refl, gn), tt)) $
         asks ! fm at-most-32.ended (at-most-32.clauses 𝓤 H A mem run) known-most to-most (‵ ftrue) refl (λ r ws. r ≡ min n 32) (λ r ws. refl) (vint w64) (uint-tells w64)

@@ -1,11 +1,11 @@
--- `read_head` meets its contract: a text that is too long is refused, any other is read line by line.
+-- `read_head_by_value` meets its contract: a text that is too long is refused, any other is read line by line.
 -- Assumes nothing.
 use native.Mathlib.Omega.{arith}
 use mathlib.Core.Path.{_∙_}
 use borrow.Author.Needs.{needs}
 use Rattle.station_heads.proofs.HeadText.{out-long}
-use Rattle.station_heads.proofs.heads.read_head.Statement.{statement}
-use Rattle.station_heads.proofs.heads.read_head.Tie as tie
+use Rattle.station_heads.proofs.heads.read_head_by_value.Statement.{statement}
+use Rattle.station_heads.proofs.heads.read_head_by_value.Tie as tie
 
 refuse-requires : tie.Need-refuse-requires
 refuse-requires c κs = search needs
@@ -21,5 +21,5 @@ read-lines-requires c κs = search needs
 returns-2 : tie.Need-returns-2
 returns-2 c = search needs
 
-pub read-head-spec : {M : Type 1} → statement M
-read-head-spec = tie.close (tie.spec refuse-requires returns read-lines-requires returns-2)
+pub read-head-by-value-spec : {M : Type 1} → statement M
+read-head-by-value-spec = tie.close (tie.spec refuse-requires returns read-lines-requires returns-2)

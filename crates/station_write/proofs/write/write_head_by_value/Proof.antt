@@ -1,11 +1,11 @@
--- `write::write_head` meets its contract. Assumes nothing.
+-- `write_head_by_value` meets its contract. Assumes nothing.
 use mathlib.Core.Path.{sym, _∙_}
 use denote.Ref.{now}
 use Rattle.laws.proofs.Every.{false-of-not, true-of-not}
 use Rattle.station_write.proofs.WriteHead.{too-short, out-of-limits, head-written}
 use borrow.Author.Needs.{needs}
-use Rattle.station_write.proofs.write.write_head.Statement.{statement}
-use Rattle.station_write.proofs.write.write_head.Tie as tie
+use Rattle.station_write.proofs.write.write_head_by_value.Statement.{statement}
+use Rattle.station_write.proofs.write.write_head_by_value.Tie as tie
 
 returns : tie.Need-returns
 returns c = let a = c .before .before .args in too-short (a .head) (a .presets) (now (a .out)) (c .if1 .taken)
@@ -31,7 +31,7 @@ returns-3 c = let a = c .before .before .before .before .before .before .before 
     head-written (a .head) (a .presets) (now (a .out)) (t .result) (t .last .1 .1 .0) (c .before .before .before .before .before .before .if1 .left)
     (sym (v .ensures) ∙ true-of-not (v .result) (c .before .before .before .before .if2 .left)) (t .ensures)
 
-pub write-head-spec : {M : Type 1} → statement M
-write-head-spec =
+pub write-head-by-value-spec : {M : Type 1} → statement M
+write-head-by-value-spec =
     tie.close
     (tie.spec returns valid-record-requires returns-2 head-text-requires same-length returns-3)
