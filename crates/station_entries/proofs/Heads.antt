@@ -1,8 +1,8 @@
 -- Laws of the entries read_head and write_head.
 --
--- In order: of writing, fewer than 32 records (`write-few`), enough of them (`write-enough`), and what was written of the first 32 records by value is what the list has
--- (`write-list`); of reading, a text that is too long (`read-long`), fewer than 32 records (`read-few`), enough of them (`read-enough`), and what is left of the first 32
--- by value, written back, is what the list is to be (`read-list`).
+-- In order: of writing, fewer than 32 records (`write-few`), enough of them (`write-enough`, and back, `enough-written`), and what was written of the first 32 records by
+-- value is what the list has (`write-list`); of reading, a text that is too long (`read-long`), fewer than 32 records (`read-few`), enough of them (`read-enough`), and what
+-- is left of the first 32 by value, written back, is what the list is to be (`read-list`).
 -- Assumes nothing.
 use Prim.Native.Nat.{ℕ, _≤_, _<_}
 use native.Mathlib.Omega.{arith}
@@ -42,6 +42,10 @@ module _ (records : ℕ) (h : Head) (ps : List Preset) (out : List ℕ) where
   pub write-enough : {r : Writing} {after : List ℕ} → 32 ≤ records → WroteHead h ps out r after → WroteEntry records h ps out r after
   unfolding writeAnswer writeOutput firstOf
   write-enough l w = let q = ltb-no records 32 l in record { answer = rw q (w .answer); output = rw q (w .output) }
+
+  pub enough-written : {r : Writing} {after : List ℕ} → 32 ≤ records → WroteEntry records h ps out r after → WroteHead h ps out r after
+  unfolding writeAnswer writeOutput firstOf
+  enough-written l w = let q = ltb-no records 32 l in record { answer = w .answer ∙ (rw q refl); output = w .output ∙ (rw q refl) }
 
 -- where the last cause holds there is a refusal, and no text is looked at
 refused-any : (a b : Bool) (t u out : List ℕ) → let c = firstOf (try tooShort a ∷ try tooShort b ∷ some outOfLimits ∷ []) in (answerOf c (length t) ≡ answerOf c (length u)) × (outputOf c t out ≡ outputOf c u out)

@@ -1,7 +1,6 @@
 -- The round trips of demand 2 as consequences of the entries' contracts: `read_head` and `write_head`, whose preset records stand in a borrowed list, are inverse.
 --
--- In order: an entry whose list has enough records is held to what works on the records by value (`enough-written`); a head read and written has the same bytes; a head written
--- and read is the same head.
+-- In order: a head read and written has the same bytes; a head written and read is the same head.
 -- Assumes nothing.
 use Prim.Native.Nat.{ℕ, _≤_}
 use native.Mathlib.Omega.{arith}
@@ -9,7 +8,6 @@ use mathlib.Core.Path.{_≡_, refl, sym, _∙_, ap}
 use mathlib.Core.Bool.{true}
 use mathlib.Core.List.{List, map}
 use lib.ListN.{length, take, drop, length-append, length-drop, length-map}
-use Rattle.laws.proofs.Sums.{ltb-no}
 use Rattle.station.specs.declared.types.Preset.{Preset}
 use Rattle.station.specs.declared.types.Head.{Head}
 use Rattle.station_heads.specs.declared.heads.ReadAnswer.the-variants.{Accepted}
@@ -17,20 +15,15 @@ use Rattle.station_heads.specs.declared.heads.HeadRead.{HeadRead}
 use Rattle.station_write.specs.declared.write.Writing.{Writing}
 use Rattle.station_entries.specs.declared.entries.HeadAnswer.{HeadAnswer}
 use Rattle.station.specs.Head as meant
-use Rattle.station.specs.Refusal.{firstOf}
 use Rattle.station.specs.Text.{lines, join}
 use Rattle.station.specs.Writing.{formsOf}
 use Rattle.station.specs.Reading.{Reading, accepted, refused, headOf}
 use Rattle.station.specs.Types.{headIn, validRecord}
 use Rattle.station_heads.specs.ReadHead.{recordOf, headRead}
 use Rattle.station_heads.proofs.RoundTrip as by-value
-use Rattle.station_write.specs.WriteHead.{written, answerIn, writeAnswer, writeOutput, WroteHead}
+use Rattle.station_write.specs.WriteHead.{written, answerIn}
 use Rattle.station_entries.specs.Entries.{WroteEntry, entryReading, entryRead, leftBy}
-use Rattle.station_entries.proofs.Heads.{reading-enough, entry-accepted}
-
-enough-written : (h : Head) (ps : List Preset) (out : List ℕ) {w : Writing} {after : List ℕ} → 32 ≤ length ps → WroteEntry (length ps) h ps out w after → WroteHead h ps out w after
-unfolding writeAnswer writeOutput firstOf
-enough-written h ps out l wrote = let q = ltb-no (length ps) 32 l in record { answer = wrote .answer ∙ (rw q refl); output = wrote .output ∙ (rw q refl) }
+use Rattle.station_entries.proofs.Heads.{enough-written, reading-enough, entry-accepted}
 
 -- a list of enough records, into which a head was read, has enough records after it too
 left-enough : (x : Reading) (head : Head) (ps : List Preset) {n k : ℕ} → ((h : meant.Head) (m : ℕ) → x ≡ accepted h m → (length (h .presets) ≤ 32) × (32 ≤ length ps))
@@ -51,7 +44,7 @@ read-then-written text head before ps r n k out after w e a long wrote =
     let enough = left-enough x head before (entry-accepted (length before) text) (sym (ap (λ (q : HeadRead). q .answer) e) ∙ a) in
     let whole : leftBy r ps ≡ headRead (headOf text) head before = e ∙ ap (λ (y : Reading). headRead y head before) (reading-enough (length before) text (enough .0)) in
     let still : 32 ≤ length ps = omega (arith, enough .1, ap (λ (q : HeadRead). length (q .presets)) e) in
-    by-value.read-then-written text head before (leftBy r ps) n k out after w whole a long (enough-written (r .head) ps out still wrote)
+    by-value.read-then-written text head before (leftBy r ps) n k out after w whole a long (enough-written (length ps) (r .head) ps out still wrote)
 
 -- A head record that some text yields, written from a list and read into one, is the same head, with as many lines and bytes as its text has.
 pub written-then-read : (h : Head) (ps : List Preset) (out after : List ℕ) (w : Writing) (k : ℕ) (head : Head) (before qs : List Preset) (r : HeadAnswer)
@@ -59,5 +52,5 @@ pub written-then-read : (h : Head) (ps : List Preset) (out after : List ℕ) (w 
     → leftBy r qs ≡ entryRead (length before) (take k after) head before
     → (r .answer ≡ Accepted (length (formsOf (headIn h ps))) k) × (headIn (r .head) qs ≡ headIn h ps)
 written-then-read h ps out after w k head before qs r long enough enough′ ok wrote answered e =
-    by-value.written-then-read h ps out after w k head before (leftBy r qs) long ok (enough-written h ps out enough wrote) answered
+    by-value.written-then-read h ps out after w k head before (leftBy r qs) long ok (enough-written (length ps) h ps out enough wrote) answered
     (e ∙ ap (λ (y : Reading). headRead y head before) (reading-enough (length before) (take k after) enough′))

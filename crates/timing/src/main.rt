@@ -8,8 +8,8 @@ use placing_call::call::CallAnswer;
 use station::types::Head;
 use station::types::Job;
 use station::types::Preset;
+use station_borrowing::heads::read_head_borrowing;
 use station_heads::heads::HeadRead;
-use station_heads::heads::read_head_by_value;
 
 // How often it is done.
 const TIMES: u32 = 1000;
@@ -28,7 +28,7 @@ fn largest() -> HeadRead {
         mandatory: 0,
         optional: 0,
     }; 32];
-    read_head_by_value(
+    read_head_borrowing(
         b"(frame 64 8)\n(preset 1 0 2 14)\n(preset 2 1 2 14)\n(preset 3 2 2 14)\n(preset 4 3 2 14)\n(preset 5 4 2 14)\n(preset 6 5 2 14)\n(preset 7 6 2 14)\n(preset 8 7 2 14)\n(preset 9 8 2 14)\n(preset 10 9 2 14)\n(preset 11 0 2 14)\n(preset 12 1 2 14)\n(preset 13 2 2 14)\n(preset 14 3 2 14)\n(preset 15 4 2 14)\n(preset 16 5 2 14)\n(preset 17 6 2 14)\n(preset 18 7 2 14)\n(preset 19 8 2 14)\n(preset 20 9 2 14)\n(preset 21 0 2 14)\n(preset 22 1 2 14)\n(preset 23 2 2 14)\n(preset 24 3 2 14)\n(preset 25 4 2 14)\n(preset 26 5 2 14)\n(preset 27 6 2 14)\n(preset 28 7 2 14)\n(preset 29 8 2 14)\n(preset 30 9 2 14)\n(preset 31 0 2 14)\n(preset 32 1 2 14)\n",
         head,
         presets,

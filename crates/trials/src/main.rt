@@ -6,10 +6,10 @@ use frame_print::print::write_listing;
 use station::types::Head;
 use station::types::Preset;
 use station::types::Refusal;
+use station_borrowing::heads::read_head_borrowing;
+use station_borrowing::heads::write_head_borrowing;
 use station_heads::heads::ReadAnswer;
-use station_heads::heads::read_head_by_value;
 use station_write::write::Writing;
-use station_write::write::write_head_by_value;
 
 // The number that document 01 gives a cause.
 fn number_of(cause: Refusal) -> u64 {
@@ -50,7 +50,7 @@ fn write_first(text: &[u8], n: usize) {
 // Writes a head again, which must give the bytes that were read.
 fn show_head(head: Head, presets: [Preset; 32]) {
     let mut out = [0u8; 8192];
-    let written = write_head_by_value(head, presets, &mut out);
+    let written = write_head_borrowing(head, presets, &mut out);
     match written {
         Writing::Written(n) => write_first(&out, n),
         Writing::Refused(cause) => line(b"not written", 0, number_of(cause)),
@@ -71,7 +71,7 @@ fn show(text: &[u8]) {
         mandatory: 0,
         optional: 0,
     }; 32];
-    let read = read_head_by_value(text, head, presets);
+    let read = read_head_borrowing(text, head, presets);
     let answer = read.answer;
     match answer {
         ReadAnswer::Accepted(lines, bytes) => {

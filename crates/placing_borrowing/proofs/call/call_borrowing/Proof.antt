@@ -44,6 +44,7 @@ use Rattle.station.specs.declared.types.Preset.{Preset}
 use Rattle.station.specs.declared.types.Head.{Head}
 use Rattle.station.specs.declared.types.Job.{Job}
 use Rattle.station.proofs.types.Head as hd
+use Rattle.station_presets.proofs.Borrowed.{slice, slice-val, Borrowed, Owner, borrows, comes-back}
 use Rattle.station_presets.proofs.Row.{Bank, bank-mir, bank-val, bank-tells, bank-typed, bank-length, head-val, head-tells, head-makes, head-typed}
 use Rattle.station_presets.proofs.Walk.{asks, full, _&_, none, leaves-fn, meets-by}
 use Rattle.placing.specs.Claims.{CallClaim}
@@ -59,7 +60,6 @@ use Rattle.placing_entries.proofs.call.call as call
 use Rattle.placing_entries.proofs.call.call.Symbol as call-def
 use Rattle.placing_entries.proofs.call.call.Symbol.{name as #call}
 use Rattle.placing_entries.proofs.call.call.Met as call-thm
-use Rattle.placing_borrowing.proofs.Borrowed.{slice, slice-val, Borrowed, Owner, borrows, comes-back}
 use Rattle.placing_borrowing.proofs.call.call_borrowing.Key.{name as #call-borrowing}
 use Rattle.placing_borrowing.proofs.call.call_borrowing as call-borrowing
 use Rattle.placing_borrowing.proofs.call.call_borrowing.Statement as stated
@@ -116,7 +116,7 @@ module _ {M : Type 1} (𝓤 : URA M) (H : Heap 𝓤) (A : Atoms 𝓤) (W : Given
   -- what the callee's triple binds outside, the records being borrowed for ν under δ from the block l, and that the caller has what it asks
   abbrev to-call : Lft → ℕ → GName → Entry 𝓤 H A mem run .Ghost
   to-call ν l δ =
-      (((ν, (κ, tt)), (fullShare, (q, tt)), tt, (head, (slice ν l ps δ, (t, (clock, (jobs, (n, tt)))))), (vh ∷ [], (slice-val ν l ps ∷ [], (vt ∷ [], (vint w64 clock ∷ [], (jobs-val jobs ∷ [], (vint w64 n ∷ [], tt))))))), tt)
+      (((ν, (κ, tt)), (fullShare, (q, tt)), tt, (head, (slice l ps δ, (t, (clock, (jobs, (n, tt)))))), (vh ∷ [], (slice-val l ∷ [], (vt ∷ [], (vint w64 clock ∷ [], (jobs-val jobs ∷ [], (vint w64 n ∷ [], tt))))))), tt)
 
   goes-call : (ν : Lft) (l : ℕ) (δ : GName) → Typed
       → ent 𝓤 (sep 𝓤 (A .lft ν fullShare) (sep 𝓤 (A .lft κ q) (sem 𝓤 H A (fsep (Borrowed ν l ps δ) Table)))) (Entry 𝓤 H A mem run .pre (to-call ν l δ))
@@ -168,7 +168,7 @@ module _ {M : Type 1} (𝓤 : URA M) (H : Heap 𝓤) (A : Atoms 𝓤) (W : Given
         (and-then ! (reads ! (from ! (stop !)) (look ! 15 refl)) (and-then ! (reads ! (from ! (stop !)) (look ! 13 refl)) (and-then ! (reads ! (from ! (stop !)) (look ! 11 refl)) (no-more !)))))))
         (λ r ws is-r e. land ! (from ! (stop !)) (init ! 24 refl (EL.lawful result.the-type result′.the-laws 𝓤 H A W tt .typed r _ is-r .0)) $
         -- [ν and κ; what says the last list; the owner's part; _11; …; _8; …; (_7's right to be freed); _6; …; _0; …]
-        split ! $ lft-end ! tt $ move ! (0 ∷ 3 ∷ []) $ use2 W (later (‵ (fat fullShare bank-mir l₇ 0 (bank-val ps)))) (comes-back 𝓤 H A W (ν ∷ []) l₇ ps is-b) $ await ! tt $
+        split ! $ lft-end ! tt $ move ! (0 ∷ 3 ∷ []) $ use2 W (later (‵ (fat fullShare bank-mir l₇ 0 (bank-val ps)))) (comes-back 𝓤 H A W (ν ∷ []) l₇ ps) $ await ! tt $
         keep ! (1 ∷ 2 ∷ 3 ∷ 4 ∷ 5 ∷ 6 ∷ 7 ∷ 8 ∷ 9 ∷ 10 ∷ 0 ∷ 11 ∷ 12 ∷ 13 ∷ 14 ∷ 15 ∷ 16 ∷ 17 ∷ 18 ∷ 19 ∷ 20 ∷ 21 ∷ 22 ∷ 23 ∷ 24 ∷ 25 ∷ []) $
         -- [κ; what says the last list; _11; …; _0; …]
         returns ! (look ! 24 refl) $

@@ -42,6 +42,7 @@ use Rattle.station.specs.Types.{headIn}
 use Rattle.station.specs.declared.types.Preset.{Preset}
 use Rattle.station.specs.declared.types.Head.{Head}
 use Rattle.station.proofs.types.Head as hd
+use Rattle.station_presets.proofs.Borrowed.{slice, slice-val, Borrowed, Owner, borrows, comes-back}
 use Rattle.station_presets.proofs.Row.{Bank, bank-mir, bank-val, bank-tells, bank-typed, bank-length, head-val, head-tells, head-makes, head-typed}
 use Rattle.station_presets.proofs.Walk.{asks, full, _&_, none, leaves-fn, meets-by}
 use Rattle.placing.specs.Claims.{PlanClaim}
@@ -55,7 +56,6 @@ use Rattle.placing_entries.proofs.plan.plan as plan
 use Rattle.placing_entries.proofs.plan.plan.Symbol as plan-def
 use Rattle.placing_entries.proofs.plan.plan.Symbol.{name as #plan}
 use Rattle.placing_entries.proofs.plan.plan.Met as plan-thm
-use Rattle.placing_borrowing.proofs.Borrowed.{slice, slice-val, Borrowed, Owner, borrows, comes-back}
 use Rattle.placing_borrowing.proofs.plan.plan_borrowing.Key.{name as #plan-borrowing}
 use Rattle.placing_borrowing.proofs.plan.plan_borrowing as plan-borrowing
 use Rattle.placing_borrowing.proofs.plan.plan_borrowing.Statement as stated
@@ -98,7 +98,7 @@ module _ {M : Type 1} (𝓤 : URA M) (H : Heap 𝓤) (A : Atoms 𝓤) (W : Given
 
   -- what the callee's triple binds outside, the records being borrowed for ν under δ from the block l, and that the caller has what it asks
   abbrev to-plan : Lft → ℕ → GName → Entry 𝓤 H A mem run .Ghost
-  to-plan ν l δ = (((ν, (κ, tt)), (fullShare, (q, tt)), tt, (head, (slice ν l ps δ, (t, tt))), (vh ∷ [], (slice-val ν l ps ∷ [], (vt ∷ [], tt)))), tt)
+  to-plan ν l δ = (((ν, (κ, tt)), (fullShare, (q, tt)), tt, (head, (slice l ps δ, (t, tt))), (vh ∷ [], (slice-val l ∷ [], (vt ∷ [], tt)))), tt)
 
   goes-plan : (ν : Lft) (l : ℕ) (δ : GName) → Is hd.the-row head (vh ∷ [])
       → ent 𝓤 (sep 𝓤 (A .lft ν fullShare) (sep 𝓤 (A .lft κ q) (sem 𝓤 H A (fsep (Borrowed ν l ps δ) Table)))) (Entry 𝓤 H A mem run .pre (to-plan ν l δ))
@@ -143,7 +143,7 @@ module _ {M : Type 1} (𝓤 : URA M) (H : Heap 𝓤) (A : Atoms 𝓤) (W : Given
         (and-then ! (reads ! (from ! (stop !)) (look ! 15 refl)) (and-then ! (reads ! (from ! (stop !)) (look ! 6 refl)) (and-then ! (reads ! (from ! (stop !)) (look ! 2 refl)) (no-more !))))
         (λ r ws is-r e. land ! (from ! (stop !)) (init ! 18 refl (LL.lawful result.the-type result′.the-laws 𝓤 H A W .typed r _ is-r .0)) $
         -- [ν and κ; what says the last list; the owner's part; _8; …; _5; …; (_4's right to be freed); _3; …; _0; …]
-        split ! $ lft-end ! tt $ move ! (0 ∷ 3 ∷ []) $ use2 W (later (‵ (fat fullShare bank-mir l₄ 0 (bank-val ps)))) (comes-back 𝓤 H A W (ν ∷ []) l₄ ps is-b) $ await ! tt $
+        split ! $ lft-end ! tt $ move ! (0 ∷ 3 ∷ []) $ use2 W (later (‵ (fat fullShare bank-mir l₄ 0 (bank-val ps)))) (comes-back 𝓤 H A W (ν ∷ []) l₄ ps) $ await ! tt $
         keep ! (1 ∷ 2 ∷ 3 ∷ 4 ∷ 5 ∷ 6 ∷ 7 ∷ 8 ∷ 9 ∷ 10 ∷ 0 ∷ 11 ∷ 12 ∷ 13 ∷ 14 ∷ 15 ∷ 16 ∷ 17 ∷ 18 ∷ 19 ∷ []) $
         -- [κ; what says the last list; _8; …; _0; …]
         returns ! (look ! 18 refl) $ leaves-fn ! 2 (full refl refl & full refl refl & full refl refl & full refl refl & full refl refl & full refl refl & full refl refl & full refl refl & full refl refl & none) $

@@ -1,0 +1,2 @@
+-- The steps of walks by hand that it cites.
+pub mod Steps

@@ -1,0 +1,2 @@
+-- What the entry run_text is held to.
+pub mod TextEntry
