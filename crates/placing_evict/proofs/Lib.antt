@@ -2,4 +2,5 @@
 pub mod Bridges
 pub mod Evicting
 pub mod Walk
+pub mod Chains
 pub mod Found

@@ -1,10 +1,10 @@
 -- The eviction search as the code goes through it: what it keeps, and what the walk over the refinement cells makes of that. That this is document 01's
 -- rule, "of the smallest sets with which the call fits .. the one whose list comes first", is proved of `evictedSet` of specs/Call.antt, with which it agrees.
 -- Assumes nothing.
-use Prim.Native.Nat.{ℕ, _+_, _*_, _-_, _^_, _≤_, _<_}
+use Prim.Native.Nat.{ℕ, _+_, _*_, _-_, _^_, _/_, _%_, _≤_, _<_}
 use mathlib.Core.Path.{_≡_}
 use mathlib.Core.Bool.{Bool, true, false, cond, _&&_}
-use mathlib.Core.List.{List, [], _∷_}
+use mathlib.Core.List.{List, [], _∷_, _++_}
 use lib.ListN.{length, getD, set, take, replicate}
 use lib.Bits.{bitOr}
 use lib.Dec.{ltb, leb, eqb}
@@ -16,6 +16,7 @@ use Rattle.station.specs.declared.types.Preset as record-of-preset
 use Rattle.station.specs.declared.types.Head as record-of-head
 use Rattle.station.specs.Types.{headIn}
 use Rattle.placing_evict.specs.declared.evict.Search.{Search}
+use Rattle.placing_evict.specs.declared.evict.Tally.{Tally}
 use Rattle.placing_evict.specs.declared.evict.Evicted.{Evicted}
 use Rattle.placing_evict.specs.declared.evict.Demand.{Demand}
 use Rattle.placing.specs.Limits.{inLimits}
@@ -105,15 +106,34 @@ walked short (z ∷ zs) k = walked short zs (stepped short z k)
 abbrev pub keptIn : Search → Kept
 keptIn s = record { free = s .free; counts = s .counts; evicted = s .evicted }
 
--- The numbers that the search keeps beside that are right: the capacities for 0 to 8, and the shortage. The bounds keep sums from overflowing: a cell
--- is taken only where the shortage falls.
+-- a search by its arrays and its numbers, as the parts of the walk pass them
+abbrev pub searchOf : List ℕ → List ℕ → List ℕ → Tally → Search
+searchOf free counts capacities t =
+    record { free = free; counts = counts; capacities = capacities; short = t .short; tight = t .tight; evicted = t .evicted }
+
+-- r is the least number up to k at which the sums cs exceed the capacities xs by `short`, or k where there is none below it
+pub record Tightest (cs xs : List ℕ) (k short r : ℕ) : Type 0 where
+  pub within : r ≤ k
+  pub before : (q : ℕ) → q < r → at cs q - at xs q < short
+  pub here : r < k → short ≤ at cs r - at xs r
+
+-- by how much what the r longest jobs demand exceeds the capacity for r of the free cells x
+abbrev pub overAt : Demand → (ℕ → ℕ) → ℕ → ℕ
+overAt d x r = at (d .sums) r - capacity (d .slots) x r
+
+-- The numbers that the search keeps beside that are right: the capacities for 0 to 8, the shortage, and the least r at which there is as much of it. The bounds
+-- keep sums from overflowing: a cell is taken only where the shortage falls.
 pub record Stands (d : Demand) (s : Search) : Type 0 where
   pub few-jobs : d .jobs ≤ 8
   pub few-slots : d .slots ≤ 64
   pub free-long : length (s .free) ≡ 64
   pub counts-long : length (s .counts) ≡ 64
+  pub capacities-long : length (s .capacities) ≡ 9
   pub capacities : (r : ℕ) → r < 9 → getD (s .capacities) r 0 ≡ capacity (d .slots) (at (s .counts)) r
   pub short : s .short ≡ shortFor d (at (s .counts))
+  pub tight-in : s .tight ≤ d .jobs
+  pub tight-at : overAt d (at (s .counts)) (s .tight) ≡ s .short
+  pub tight-first : (r : ℕ) → r < s .tight → overAt d (at (s .counts)) r < s .short
   pub few : s .evicted + s .short ≤ 4096
   pub low : (z : ℕ) → getD (s .counts) z 0 + s .short ≤ 4096
 
@@ -149,6 +169,32 @@ placesFrom t bridges clock ranks rank n =
 -- the cells of the first n ranks
 unfoldable pub placesOf : List ℕ → ℕ → ℕ → ℕ → List ℕ → ℕ → List Place
 placesOf t bridges slots clock ranks n = downward n (λ r. placesFrom t bridges clock ranks r slots)
+
+-- ---- The refinement cells as chains, one for each rank.
+
+-- the cell at a place of the chains, of which a slot has eight
+abbrev pub placeAt : ℕ → Place
+placeAt c = record { slot = c / 8; bridge = c % 8 }
+
+-- The cells zs are a chain from c on: c is one more than the first one's place, at a cell's place `next` has one more than the place of the cell after it, and 0 ends the chain.
+unfoldable pub Chain : List ℕ → ℕ → List Place → Type 0
+Chain next c [] = c ≡ 0
+Chain next c (z ∷ zs) = (0 < c) × (z ≡ placeAt (c - 1)) × Chain next (getD next (c - 1) 0) zs
+
+-- for each rank the cells `of` it are a chain
+abbrev pub Chains : List ℕ → List ℕ → (ℕ → List Place) → Type 0
+Chains first next of = (r : ℕ) → r < 32 → Chain next (getD first r 0) (of r)
+
+-- the cells of each rank with one cell of a rank before them
+abbrev pub preceded : ℕ → ℕ → (ℕ → List Place) → ℕ → List Place
+preceded rank place of r = cond (eqb rank r) (placeAt place ∷ []) [] ++ of r
+
+-- the chains go down, from below a place
+pub record Linked (first next : List ℕ) (bound : ℕ) : Type 0 where
+  pub first-long : length first ≡ 32
+  pub next-long : length next ≡ 512
+  pub below : (r : ℕ) → getD first r 0 ≤ bound
+  pub down : (c : ℕ) → getD next c 0 ≤ c
 
 -- ---- the answer
 

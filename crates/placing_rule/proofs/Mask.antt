@@ -1,10 +1,10 @@
 -- Laws of a slot's mask of free bridges.
 --
 -- In order: the bits of a number, lowest first (`taken-..`), and how many they are (`ones-taken`, `ones-low`); the mask of a test: its lowest bit apart
--- (`mask-first`), its bound (`mask-below`), its bits (`taken-mask`), their number (`ones-mask`); a number as the mask of its bits (`mask-taken`); the
--- lowest bit that is set (`lowest`, `none-below-lowest`, `some-lowest`), and what is left without it (`cleared`).
+-- (`mask-first`), its bits (`taken-mask`); the lowest bit that is set (`lowest`, `none-below-lowest`, `some-lowest`), and what is left without it
+-- (`cleared`).
 -- Assumes nothing.
-use Prim.Native.Nat.{ℕ, zero, suc, _+_, _-_, _*_, _/_, _%_, _^_, _≤_, _<_}
+use Prim.Native.Nat.{ℕ, zero, suc, _+_, _-_, _*_, _/_, _%_, _^_, _<_}
 use native.Mathlib.Nat.{pow-suc}
 use native.Mathlib.Numerals.{one-add, add-one}
 use native.Mathlib.Omega.{arith}
@@ -16,13 +16,13 @@ use lib.Bits.{bitAnd, and-step, and-self}
 use lib.Dec.{eqb, eqb·suc-zero, eqb·suc-suc}
 use lib.Pow.{shr-shr, field, mod-mod-pow}
 use Rattle.laws.specs.Sums.{bit, only, sum, count}
-use Rattle.laws.proofs.Sums.{Is, is-true, is-false, is, eq-of, ne-of, eqb-yes, eqb-no, sum-ext, sum-first, count-ext}
+use Rattle.laws.proofs.Sums.{Is, is-true, is-false, is, eq-of, ne-of, eqb-yes, eqb-no, sum-ext, sum-first}
 use Rattle.station.specs.Head.{taken}
 use Rattle.placing.specs.Mask.{bridgeMask}
 
 -- ---- the bits of a number
 
-pub bit-taken : (m : ℕ) → bit (taken m 0) ≡ m % 2
+bit-taken : (m : ℕ) → bit (taken m 0) ≡ m % 2
 bit-taken m = go (is (eqb (m / 2 ^ 0 % 2) 1))
   where
     go : Is (eqb (m / 2 ^ 0 % 2) 1) → bit (taken m 0) ≡ m % 2
@@ -81,7 +81,7 @@ only-pow : (b : Bool) (n : ℕ) → only b (2 ^ suc n) ≡ 2 * only b (2 ^ n)
 only-pow true n = omega (arith, pow-suc 2 n)
 only-pow false n = refl
 
-pub mask-first : (n : ℕ) (f : ℕ → Bool) → bridgeMask (suc n) f ≡ bit (f 0) + 2 * bridgeMask n (λ b. f (suc b))
+mask-first : (n : ℕ) (f : ℕ → Bool) → bridgeMask (suc n) f ≡ bit (f 0) + 2 * bridgeMask n (λ b. f (suc b))
 unfolding bridgeMask
 mask-first zero f = go (f 0)
   where
@@ -89,20 +89,6 @@ mask-first zero f = go (f 0)
     go true = refl
     go false = refl
 mask-first (suc n) f = omega (arith, mask-first n f, only-pow (f (suc n)) n)
-
-only-le : (b : Bool) (n : ℕ) → only b n ≤ n
-only-le true n = omega arith
-only-le false n = omega arith
-
-pub mask-below : (n : ℕ) (f : ℕ → Bool) → bridgeMask n f < 2 ^ n
-unfolding bridgeMask
-mask-below zero f = omega arith
-mask-below (suc n) f = omega (arith, mask-below n f, only-le (f n) (2 ^ n), pow-suc 2 n)
-
-pub mask-ext : (n : ℕ) (f g : ℕ → Bool) → ((b : ℕ) → b < n → f b ≡ g b) → bridgeMask n f ≡ bridgeMask n g
-unfolding bridgeMask
-mask-ext zero f g h = refl
-mask-ext (suc n) f g h = rw (mask-ext n f g (λ b l. h b (omega arith)), h n (omega arith)) refl
 
 pub taken-mask : (n : ℕ) (f : ℕ → Bool) (b : ℕ) → b < n → taken (bridgeMask n f) b ≡ f b
 taken-mask zero f b h = absurd (omega arith)
@@ -120,32 +106,16 @@ taken-mask (suc n) f (suc b) h =
     half true e = omega (arith, e)
     half false e = omega (arith, e)
 
-pub ones-mask : (n : ℕ) (f : ℕ → Bool) → ones (bridgeMask n f) ≡ count n f
-ones-mask n f = ones-taken n (bridgeMask n f) (mask-below n f) ∙ count-ext n (taken (bridgeMask n f)) f (taken-mask n f)
-
--- a number is the mask of its bits
-pub mask-taken : (n m : ℕ) → m < 2 ^ n → bridgeMask n (taken m) ≡ m
-unfolding bridgeMask
-mask-taken zero m h = omega arith
-mask-taken (suc n) m h =
-    omega (
-      arith,
-      mask-first n (taken m),
-      bit-taken m,
-      mask-ext n (λ b. taken m (suc b)) (taken (m / 2)) (λ b l. taken-half m b),
-      mask-taken n (m / 2) (omega (arith, pow-suc 2 n)),
-    )
-
 -- ---- the lowest bit that is set, and a number without it
 
-parity : (m : ℕ) → Is (eqb (m % 2) 1) → (m % 2 ≡ 1) ⊎ (m % 2 ≡ 0)
+pub parity : (m : ℕ) → Is (eqb (m % 2) 1) → (m % 2 ≡ 1) ⊎ (m % 2 ≡ 0)
 parity m (is-true e) = inl (eq-of (m % 2) 1 e)
 parity m (is-false e) = inr (let ne : m % 2 ≡ 1 → ⊥ = ne-of (m % 2) 1 e in omega arith)
 
 taken-odd : (m : ℕ) → m % 2 ≡ 1 → taken m 0 ≡ true
 taken-odd m e = eqb-yes (m / 2 ^ 0 % 2) 1 (omega (arith, e))
 
-taken-even : (m : ℕ) → m % 2 ≡ 0 → taken m 0 ≡ false
+pub taken-even : (m : ℕ) → m % 2 ≡ 0 → taken m 0 ≡ false
 taken-even m e = eqb-no (m / 2 ^ 0 % 2) 1 (λ q. omega (arith, e))
 
 -- of a number of n bits that is not 0: the bit at `trailingZeros` is set, and none below it
@@ -174,7 +144,7 @@ lowest (suc n) m p h = go (λ q. lowest n (m / 2) q (omega (arith, pow-suc 2 n))
         below i zero l = taken-even m e
         below i (suc b) l = taken-half m b ∙ i .none-below b (omega arith)
 
-taken-zero : (b : ℕ) → taken 0 b ≡ false
+pub taken-zero : (b : ℕ) → taken 0 b ≡ false
 taken-zero zero = refl
 taken-zero (suc b) = taken-half 0 b ∙ taken-zero b
 

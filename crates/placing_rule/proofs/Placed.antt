@@ -1,6 +1,6 @@
 -- Laws of the table slot by slot, as the code places the jobs.
 --
--- In order: the needs that are left (`left-..`); the first slots of the table placed (`SlotsPlaced`): none, one more, all; one turn of the loop
+-- In order: the first slots of the table placed (`SlotsPlaced`): none, one more, all; one turn of the loop
 -- (`progress-more`); within the limits and beyond them (`placed-within`, `placed-beyond`).
 -- Assumes nothing.
 use Prim.Native.Nat.{ℕ, zero, suc, _+_, _-_, _*_, _/_, _%_, _≤_, _<_}
@@ -8,43 +8,23 @@ use native.Mathlib.Nat.{suc-mul, mul-zero, mul-le-mul, mul-le-mul-right, mod-lt,
 use native.Mathlib.Numerals.{add-one}
 use native.Mathlib.Omega.{arith}
 use mathlib.Core.Path.{_≡_, refl, sym, _∙_, ap, ap₂}
-use mathlib.Core.Bool.{Bool, true, false}
+use mathlib.Core.Bool.{Bool, true, false, cond}
 use mathlib.Core.List.{List, _++_}
-use lib.ListN.{length, take, drop, length-append, length-drop, List·getD-append}
+use lib.ListN.{length, take, drop, length-take, length-append, length-drop, List·getD-append}
 use lib.Seq.{length-take-le, ext-getD, getD-append-add, getD-drop, getD-take}
 use lib.Dec.{ltb, eqb}
-use Rattle.laws.specs.Sums.{bit}
+use Rattle.laws.specs.Sums.{bit, only}
 use Rattle.laws.specs.Placement.{at, tabulate, chosen, left, lrtf}
-use Rattle.laws.specs.Cells.{slotCell}
+use Rattle.laws.specs.Cells.{takes, slotCell}
 use Rattle.laws.proofs.Sums.{Is, is-true, is-false, is, lt-of, ge-of, eq-of, ne-of}
-use Rattle.laws.proofs.Placement.{length-tabulate, at-tabulate, at-served, left-length}
+use Rattle.laws.proofs.Placement.{length-tabulate, at-tabulate, at-past, left-length, left-step}
 use Rattle.station.specs.Head.{taken}
 use Rattle.placing.specs.Plan.{placing, freeCount}
 use Rattle.placing.specs.Limits.{inLimits}
-use Rattle.placing_rule.specs.Code.{flag, jobCell, RowWritten, freeIn, cellIn, cellsIn, placedIn, placedWithin}
+use Rattle.placing_rule.specs.Code.{jobCell, jobCells, RowWritten, Levelled, freeIn, cellIn, cellsIn, placedIn, placedWithin}
 use Rattle.placing.proofs.Written.{place-below}
-use Rattle.placing_rule.proofs.Chosen.{chosen-ext}
-use Rattle.placing_rule.proofs.Rows.{slotCell-ext}
-
--- ---- the needs that are left: an array whose first k entries are those of the rule
-
--- at the start
-pub left-none : (k : ℕ) (l : List ℕ) (x : ℕ → ℕ) (i : ℕ) → i < k → at l i ≡ at (left (take k l) x 0) i
-unfolding left
-left-none k l x i h = sym (getD-take k l i 0 h)
-
-module _ (c : List ℕ) (x : ℕ → ℕ) (s : ℕ) (l : List ℕ) (same : (i : ℕ) → i < length c → at l i ≡ at (left c x s) i) where
-  -- the choice from such an array is that of the rule
-  pub left-chosen : (i : ℕ) → i < length c → chosen (length c) (at l) (x s) i ≡ lrtf c x i s
-  left-chosen = chosen-ext (length c) (at l) (at (left c x s)) same (x s)
-
-  -- after one slot more
-  pub left-more : (i : ℕ) → i < length c → at l i - bit (lrtf c x i s) ≡ at (left c x (s + 1)) i
-  unfolding left
-  left-more i h =
-      rw (add-one s, same i h)
-      (sym (at-served (left c x s) (x s) i
-      ∙ ap (λ (n : ℕ). at (left c x s) i - bit (chosen n (at (left c x s)) (x s) i)) (left-length c x s)))
+use Rattle.placing_rule.proofs.Chosen.{sum-past, chosen-past}
+use Rattle.placing_rule.proofs.Rows.{slotCell-ext, takes-not-chosen}
 
 -- ---- the table, slot by slot
 
@@ -117,20 +97,29 @@ module _ (B : ℕ) (w : ℕ → ℕ → ℕ) (t : List ℕ) where
           done .after i l
           ∙ sym (ap (at (front ++ rest)) over ∙ getD-append-add front rest (i - n * B) 0 ∙ getD-drop (n * B) t (i - n * B) 0 ∙ ap (at t) back)
 
--- the row that the code writes in slot s is the rule's
-pub row-rule : (B : ℕ) (masks c first early late t u : List ℕ) (s : ℕ) (chosen : List Bool) (values : List ℕ)
-    → ((i : ℕ) → i < length c → flag chosen i ≡ lrtf c (freeCount B (freeIn masks)) i s)
-    → ((i : ℕ) → i < length c → at values i ≡ cellIn c (freeCount B (freeIn masks)) first early late i s)
+-- The row that the code writes in slot s is the rule's. Of the 32 jobs of a mask only those of the list are chosen.
+pub row-rule : (B : ℕ) (masks c first early late t u : List ℕ) (s : ℕ) (a : ℕ → Bool) (v : ℕ → ℕ) → length c ≤ 32
+    → ((i : ℕ) → i < 32 → a i ≡ lrtf c (freeCount B (freeIn masks)) i s)
+    → ((i : ℕ) → i < length c → v i ≡ cellIn c (freeCount B (freeIn masks)) first early late i s)
     → SlotsPlaced B (cellOf B masks c first early late t) t u s
     → (b : ℕ) → b < B
-    → slotCell (length c) (flag chosen) (λ a. freeIn masks s a) (at values) (λ a. at u (s * B + a)) b ≡ cellOf B masks c first early late t s b
+    → slotCell 32 a (λ d. freeIn masks s d) v (λ d. at u (s * B + d)) b ≡ cellOf B masks c first early late t s b
 unfolding placing
-row-rule B masks c first early late t u s chosen values p q done b l =
-    slotCell-ext (length c) (flag chosen) (λ a. freeIn masks s a) (at values) (λ a. at u (s * B + a)) b
-    (λ i. lrtf c (freeCount B (freeIn masks)) i s)
-    (λ i. cellIn c (freeCount B (freeIn masks)) first early late i s)
-    (λ a. cellsIn B t s a)
-    p q (done .after (s * B + b) (omega arith))
+row-rule B masks c first early late t u s a v few p q done b l =
+    ap (λ (n : ℕ). cond (freeIn masks s b) n (at u (s * B + b)))
+    (sum-past (length c) 32 (λ i. only (takes a (λ d. freeIn masks s d) i b) (v i)) few (λ i h m.
+    ap (λ (x : Bool). only x (v i)) (takes-not-chosen a (λ d. freeIn masks s d) i b (p i m ∙ past i h))))
+    ∙ slotCell-ext (length c) a (λ d. freeIn masks s d) v (λ d. at u (s * B + d)) b
+    (λ i. lrtf c x i s)
+    (λ i. cellIn c x first early late i s)
+    (λ d. cellsIn B t s d)
+    (λ i h. p i (omega arith)) q (done .after (s * B + b) (omega arith))
+  where
+    x : ℕ → ℕ
+    x = freeCount B (freeIn masks)
+
+    past : (i : ℕ) → length c ≤ i → lrtf c x i s ≡ false
+    past i h = rw (at-past (left c x s) i (omega (arith, left-length c x s, h))) refl
 
 -- a row of a frame within the limits, and the frame, lie in 512 cells
 module _ (n B : ℕ) (few : n ≤ 64) (narrow : B ≤ 8) where
@@ -142,59 +131,75 @@ module _ (n B : ℕ) (few : n ≤ 64) (narrow : B ≤ 8) where
 
 -- ---- one turn of the code's loop
 
--- before slot s: the table so far, and the array of the needs that are left
-pub record Progress (B : ℕ) (masks c first early late t : List ℕ) (k s : ℕ) (u l : List ℕ) : Type 0 where
+-- Before slot s: the table so far, the array of the needs that are left, and the same needs by levels, none of them above `top`.
+pub record Progress (B : ℕ) (masks c first early late t : List ℕ) (k s : ℕ) (u l levels : List ℕ) (top : ℕ) : Type 0 where
   pub table : SlotsPlaced B (cellOf B masks c first early late t) t u s
   pub needs : (i : ℕ) → i < k → at l i ≡ at (left c (freeCount B (freeIn masks)) s) i
+  pub levelled : Levelled levels (at (left c (freeCount B (freeIn masks)) s))
+  pub most : (i : ℕ) → i < 32 → at (left c (freeCount B (freeIn masks)) s) i ≤ top
 
--- One slot: the choice, what the jobs write, the row and the needs after it, as the code's functions state them. Of the array of needs the first k count.
-module _ (B : ℕ) (masks array first early late t : List ℕ) (k : ℕ) (enough : k ≤ length array) (s : ℕ) (u l : List ℕ)
-    (so-far : Progress B masks (take k array) first early late t k s u l) (chosens : List Bool) (values : List ℕ)
-    (choice : (i : ℕ) → i < k → flag chosens i ≡ chosen k (at l) (freeCount B (freeIn masks) s) i)
-    (writes : (i : ℕ) → i < k → at values i ≡ jobCell (at array i) (at l i) (at first i) (at early i) (at late i)) where
+-- the jobs of an array of which the first k count
+module _ (B : ℕ) (masks array first early late t : List ℕ) (k : ℕ) where
   abbrev c : List ℕ
   c = take k array
-
-  long : length c ≡ k
-  long = length-take-le k array enough
 
   abbrev free : ℕ → ℕ
   free = freeCount B (freeIn masks)
 
-  same : (i : ℕ) → i < length c → at l i ≡ at (left c free s) i
-  same i h = so-far .needs i (omega (arith, long))
-
-  chooses : (i : ℕ) → i < length c → flag chosens i ≡ lrtf c free i s
-  chooses i h =
-      choice i (omega (arith, long))
-      ∙ ap (λ (n : ℕ). chosen n (at l) (free s) i) (sym long)
-      ∙ left-chosen c free s l same i h
-
-  wrote : (i : ℕ) → i < length c → at values i ≡ cellIn c free first early late i s
-  wrote i h =
-      let j : i < k = omega (arith, long) in
-      writes i j
-      ∙ ap₂ (λ (n m : ℕ). jobCell n m (at first i) (at early i) (at late i)) (sym (getD-take k array i 0 j)) (same i h)
-
-  pub progress-more : (v m : List ℕ)
-      → RowWritten u v (s * B) B (slotCell k (flag chosens) (taken (at masks s)) (at values) (λ b. at u (s * B + b)))
-      → ((i : ℕ) → i < k → at m i ≡ at l i - bit (flag chosens i))
-      → Progress B masks (take k array) first early late t k (s + 1) v m
-  progress-more v m row rest =
+  -- before the first slot
+  pub progress-none : ((i : ℕ) → at array i ≤ 255) → (levels : List ℕ) → Levelled levels (at c) → Progress B masks c first early late t k 0 t array levels 255
+  unfolding left
+  progress-none byte levels h =
       record {
-        table =
-            slots-more B (cellOf B masks c first early late t) t u v s
-            (slotCell k (flag chosens) (taken (at masks s)) (at values) (λ b. at u (s * B + b)))
-            (so-far .table) row
-            (λ b h.
-            ap (λ (n : ℕ). slotCell n (flag chosens) (taken (at masks s)) (at values) (λ a. at u (s * B + a)) b) (sym long)
-            ∙ row-rule B masks c first early late t u s chosens values chooses wrote (so-far .table) b h);
-        needs = λ i h.
-            let j : i < length c = omega (arith, long) in
-            rest i h
-            ∙ ap (λ (b : Bool). at l i - bit b) (chooses i j)
-            ∙ left-more c free s l same i j;
+        table = slots-none B (cellOf B masks c first early late t) t;
+        needs = λ i l. sym (getD-take k array i 0 l);
+        levelled = h;
+        most = λ i l. go i (is (ltb i k));
       }
+    where
+      go : (i : ℕ) → Is (ltb i k) → at c i ≤ 255
+      go i (is-true e) = omega (arith, getD-take k array i 0 (lt-of i k e), byte i)
+      go i (is-false e) = omega (arith, at-past c i (omega (arith, length-take k array, ge-of i k e)))
+
+  -- One slot: the choice, the row, the needs after it and their levels, as the code's functions state them.
+  module _ (enough : k ≤ length array) (few : k ≤ 32) (s : ℕ) (u l levels : List ℕ) (top : ℕ)
+      (so-far : Progress B masks c first early late t k s u l levels top) (a : ℕ → Bool)
+      (choice : (i : ℕ) → i < 32 → a i ≡ chosen 32 (at (left c free s)) (free s) i) where
+    long : length c ≡ k
+    long = length-take-le k array enough
+
+    chooses : (i : ℕ) → i < 32 → a i ≡ lrtf c free i s
+    chooses i h =
+        choice i h
+        ∙ chosen-past (length c) 32 (at (left c free s)) (omega (arith, long, few))
+        (λ j m. at-past (left c free s) j (omega (arith, left-length c free s, m))) (free s) i
+
+    after : (i : ℕ) → i < 32 → at (left c free s) i - bit (a i) ≡ at (left c free (s + 1)) i
+    after i h = rw (add-one s) (omega (arith, left-step c free i s, ap bit (chooses i h)))
+
+    wrote : (i : ℕ) → i < length c → jobCells array l first early late i ≡ cellIn c free first early late i s
+    wrote i h =
+        let j : i < k = omega (arith, long, h) in
+        ap₂ (λ (n m : ℕ). jobCell n m (at first i) (at early i) (at late i)) (sym (getD-take k array i 0 j)) (so-far .needs i j)
+
+    pub progress-more : (v m levels′ : List ℕ) (top′ : ℕ) → ((i : ℕ) → i < 32 → at (left c free s) i ≤ top′)
+        → RowWritten u v (s * B) B (slotCell 32 a (taken (at masks s)) (jobCells array l first early late) (λ b. at u (s * B + b)))
+        → ((i : ℕ) → at m i ≡ at l i - bit (a i))
+        → Levelled levels′ (λ i. at (left c free s) i - bit (a i))
+        → Progress B masks c first early late t k (s + 1) v m levels′ top′
+    progress-more v m levels′ top′ most row rest moved =
+        record {
+          table =
+              slots-more B (cellOf B masks c first early late t) t u v s
+              (slotCell 32 a (taken (at masks s)) (jobCells array l first early late) (λ b. at u (s * B + b)))
+              (so-far .table) row
+              (row-rule B masks c first early late t u s a (jobCells array l first early late) (omega (arith, long, few)) chooses wrote (so-far .table));
+          needs = λ i h.
+              let j : i < 32 = omega (arith, h, few) in
+              rest i ∙ ap (λ (n : ℕ). n - bit (a i)) (so-far .needs i h) ∙ after i j;
+          levelled = λ q i p r j. moved q i p r j ∙ ap (λ (n : ℕ). eqb n q) (after i j);
+          most = λ i h. omega (arith, after i h, most i h);
+        }
 
 -- ---- within the limits, and beyond them
 

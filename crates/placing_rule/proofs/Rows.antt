@@ -2,7 +2,7 @@
 --
 -- In order: what a job writes; a cell of the row, emptied (`emptied-..`) and with one job more (`slotCell-..`); a row of which cells are written (`row-..`);
 -- the free cells that are left after some were taken in order (`untaken-..`), and who takes one (`takes-..`); a row after some jobs took their cells:
--- none, one more, all (`filled-..`).
+-- none, one more, and all, with the cells that are left made empty (`filled-..`).
 -- Assumes nothing.
 use Prim.Native.Nat.{ℕ, _+_, _-_, _≤_, _<_, zero-le}
 use native.Mathlib.Nat.{add-zero, le-of-eq}
@@ -17,8 +17,8 @@ use lib.Dec.{ltb, leb, eqb}
 use Rattle.laws.specs.Sums.{bit, only, sum, count}
 use Rattle.laws.specs.Placement.{at}
 use Rattle.laws.specs.Cells.{takes, slotCell}
-use Rattle.laws.proofs.Sums.{Is, is-true, is-false, is, clash, lt-of, ge-of, le-of, gt-of, eq-of, ne-of, ltb-yes, ltb-no, leb-yes, leb-no, eqb-yes, eqb-no, both, left-of, right-of}
-use Rattle.laws.proofs.Sums.{sum-ext, sum-point, count-ext, count-none}
+use Rattle.laws.proofs.Sums.{Is, is-true, is-false, is, clash, lt-of, ge-of, le-of, gt-of, eq-of, ne-of, ltb-yes, ltb-no, leb-yes, leb-no, eqb-yes, eqb-no, eqb-self, both, left-of, right-of}
+use Rattle.laws.proofs.Sums.{sum-ext, sum-zero, sum-point, count-ext, count-none}
 use Rattle.laws.proofs.Cells.{count-below, nth-count}
 use Rattle.placing_rule.specs.Code.{jobCell, RowWritten, emptied}
 use Rattle.placing_rule.proofs.Chosen.{count-more}
@@ -82,8 +82,12 @@ module _ (i : ℕ) (a f : ℕ → Bool) (v t : ℕ → ℕ) (b : ℕ) where
 -- ---- a row, cell by cell
 
 module _ (t : List ℕ) (start : ℕ) (w : ℕ → ℕ) where
+  -- every cell keeps what it held
+  pub row-as-it-was : (n : ℕ) → ((b : ℕ) → b < n → at t (start + b) ≡ w b) → RowWritten t t start n w
+  row-as-it-was n h = record { long = refl; inside = h; before = λ i l. refl; after = λ i l. refl }
+
   pub row-none : RowWritten t t start 0 w
-  row-none = record { long = refl; inside = λ b h. absurd (omega arith); before = λ i h. refl; after = λ i h. refl }
+  row-none = row-as-it-was 0 (λ b h. absurd (omega arith))
 
   module _ (u : List ℕ) (n : ℕ) (done : RowWritten t u start n w) where
     -- the next cell keeps what it held
@@ -225,41 +229,74 @@ module _ (a f : ℕ → Bool) (i b : ℕ) where
       go (is-true q) = rw (q, eqb-no (count i a) (count b f) (λ d. apart f z b p q ne (sym d ∙ sym e))) (and-false (a i))
       go (is-false q) = rw q refl
 
+-- a cell that is left after all k jobs: nobody takes it
+slotCell-left : (k : ℕ) (a f : ℕ → Bool) (v t : ℕ → ℕ) (b : ℕ) → untaken f (count k a) b ≡ true → slotCell k a f v t b ≡ 0
+slotCell-left k a f v t b u =
+    ap (λ (x : Bool). cond x (sum k (λ i. only (takes a f i b) (v i))) (t b)) (left-of (f b) (leb (count k a) (count b f)) u)
+    ∙ sum-zero k (λ i. only (takes a f i b) (v i)) (λ i l. ap (λ (x : Bool). only x (v i)) (off i l (is (a i))))
+  where
+    off : (i : ℕ) → i < k → Is (a i) → takes a f i b ≡ false
+    off i l (is-true e) =
+        let enough : count k a ≤ count b f = le-of (count k a) (count b f) (right-of (f b) (leb (count k a) (count b f)) u) in
+        rw (eqb-no (count i a) (count b f) (λ z. omega (arith, z, enough, count-below k a i l, ap bit e))) (and-false (f b && a i))
+    off i l (is-false e) = takes-not-chosen a f i b e
+
 -- ---- a row after some jobs took their cells
+
+-- what cell b holds after the jobs before i took theirs: a free cell that is left still what it held
+abbrev cellSoFar : ℕ → (ℕ → Bool) → (ℕ → Bool) → (ℕ → ℕ) → (ℕ → ℕ) → ℕ → ℕ
+cellSoFar i a f v t b = cond (untaken f (count i a) b) (t b) (slotCell i a f v t b)
 
 -- u is t with the n cells from `start` on written by the jobs before i, and g is the test of the free cells that are left
 pub record RowFilled (t : List ℕ) (start n : ℕ) (a f : ℕ → Bool) (v : ℕ → ℕ) (u : List ℕ) (g : ℕ → Bool) (i : ℕ) : Type 0 where
-  pub row : RowWritten t u start n (slotCell i a f v (λ b. at t (start + b)))
+  pub row : RowWritten t u start n (cellSoFar i a f v (λ b. at t (start + b)))
   pub rest : (b : ℕ) → b < n → g b ≡ untaken f (count i a) b
 
 module _ (t : List ℕ) (start n : ℕ) (a f : ℕ → Bool) (v : ℕ → ℕ) where
   abbrev held : ℕ → ℕ
   held b = at t (start + b)
 
+  -- no job has written yet
+  pub filled-none : RowFilled t start n a f v t f 0
+  unfolding sum
+  filled-none =
+      record {
+        row = row-as-it-was t start (cellSoFar 0 a f v held) n (λ b h. go b (is (f b)));
+        rest = λ b h. untaken-none f b;
+      }
+    where
+      go : (b : ℕ) → Is (f b) → held b ≡ cellSoFar 0 a f v held b
+      go b (is-true e) = sym (ap (λ (x : Bool). cond x (held b) (slotCell 0 a f v held b)) (sym (untaken-none f b) ∙ e))
+      go b (is-false e) = rw e refl
+
   module _ (u : List ℕ) (g : ℕ → Bool) (i : ℕ) (done : RowFilled t start n a f v u g i) where
+    -- a cell that job i does not take
+    passed : (b : ℕ) → untaken f (count i a) b ≡ untaken f (count (i + 1) a) b → takes a f i b ≡ false
+        → cellSoFar i a f v held b ≡ cellSoFar (i + 1) a f v held b
+    passed b e off = ap₂ (λ (x : Bool) (y : ℕ). cond x (held b) y) e (slotCell-passed i a f v held b off)
+
     -- job i takes no cell
-    same : ((b : ℕ) → b < n → takes a f i b ≡ false) → RowWritten t u start n (slotCell (i + 1) a f v held)
-    same off =
-        row-same t start (slotCell i a f v held) u n (slotCell (i + 1) a f v held) (done .row)
-        (λ b h. slotCell-passed i a f v held b (off b h))
+    same : ((b : ℕ) → b < n → untaken f (count i a) b ≡ untaken f (count (i + 1) a) b) → ((b : ℕ) → b < n → takes a f i b ≡ false)
+        → RowWritten t u start n (cellSoFar (i + 1) a f v held)
+    same stay off =
+        row-same t start (cellSoFar i a f v held) u n (cellSoFar (i + 1) a f v held) (done .row) (λ b h. passed b (stay b h) (off b h))
 
     -- it is not chosen
     pub filled-not-chosen : a i ≡ false → RowFilled t start n a f v u g (i + 1)
     filled-not-chosen e =
-        record {
-          row = same (λ b h. takes-not-chosen a f i b e);
-          rest = λ b h. done .rest b h ∙ ap (λ (m : ℕ). untaken f m b) (omega (arith, count-more i a, ap bit e));
-        }
+        let stay : (b : ℕ) → untaken f (count i a) b ≡ untaken f (count (i + 1) a) b =
+        λ b. ap (λ (m : ℕ). untaken f m b) (omega (arith, count-more i a, ap bit e)) in
+        record { row = same (λ b h. stay b) (λ b h. takes-not-chosen a f i b e); rest = λ b h. done .rest b h ∙ stay b }
 
     -- it is, and no cell is left
     pub filled-full : a i ≡ true → ((b : ℕ) → b < n → g b ≡ false) → RowFilled t start n a f v u g (i + 1)
     filled-full e none =
         let gone : (b : ℕ) → b < n → untaken f (count i a) b ≡ false = λ b h. sym (done .rest b h) ∙ none b h in
+        let still : (b : ℕ) → b < n → untaken f (count (i + 1) a) b ≡ false =
+        λ b h. ap (λ (m : ℕ). untaken f m b) (omega (arith, count-more i a, ap bit e)) ∙ untaken-stays f (count i a) b (gone b h) in
         record {
-          row = same (λ b h. takes-not-left a f i b (gone b h));
-          rest = λ b h.
-              none b h
-              ∙ sym (ap (λ (m : ℕ). untaken f m b) (omega (arith, count-more i a, ap bit e)) ∙ untaken-stays f (count i a) b (gone b h));
+          row = same (λ b h. gone b h ∙ sym (still b h)) (λ b h. takes-not-left a f i b (gone b h));
+          rest = λ b h. none b h ∙ sym (still b h);
         }
 
     -- it is, and z is the first cell that is left
@@ -270,43 +307,35 @@ module _ (t : List ℕ) (start n : ℕ) (a f : ℕ → Bool) (v : ℕ → ℕ) w
         let left : untaken f m z ≡ true = sym (done .rest z l) ∙ here in
         let free : f z ≡ true = left-of (f z) (leb m (count z f)) left in
         let order : count z f ≡ m = untaken-first f m z left (λ b h. sym (done .rest b (omega arith)) ∙ below b h) in
+        let next : m + 1 ≡ count (i + 1) a = omega (arith, count-more i a, ap bit e) in
+        let fewer : (b : ℕ) → (untaken f m b && not (eqb b z)) ≡ untaken f (count (i + 1) a) b =
+        λ b. untaken-more f m z free order b ∙ ap (λ (k : ℕ). untaken f k b) next in
+        let gone : untaken f (count (i + 1) a) z ≡ false = sym (fewer z) ∙ (rw (eqb-self z) (and-false (untaken f m z))) in
         record {
           row =
-              row-set t start (slotCell i a f v held) u n z (v i) (slotCell (i + 1) a f v held) (done .row) l short
-              (slotCell-taken i a f v held z free e (sym order))
-              (λ b h ne. slotCell-passed i a f v held b (takes-other a f i b z free order ne));
-          rest = λ b h.
-              without b
-              ∙ ap (λ (x : Bool). x && not (eqb b z)) (done .rest b h)
-              ∙ untaken-more f m z free order b
-              ∙ ap (λ (k : ℕ). untaken f k b) (omega (arith, count-more i a, ap bit e));
+              row-set t start (cellSoFar i a f v held) u n z (v i) (cellSoFar (i + 1) a f v held) (done .row) l short
+              (slotCell-taken i a f v held z free e (sym order)
+              ∙ sym (ap (λ (x : Bool). cond x (held z) (slotCell (i + 1) a f v held z)) gone))
+              (λ b h ne.
+              passed b (sym (ap (λ (x : Bool). untaken f m b && not x) (eqb-no b z ne) ∙ and-true (untaken f m b)) ∙ fewer b) (takes-other a f i b z free order ne));
+          rest = λ b h. without b ∙ ap (λ (x : Bool). x && not (eqb b z)) (done .rest b h) ∙ fewer b;
         }
 
--- From a table t over one whose free cells were made empty, t′, to the row that all k jobs have written.
-module _ (t t′ : List ℕ) (start n : ℕ) (a f : ℕ → Bool) (v : ℕ → ℕ) (begun : RowWritten t t′ start n (emptied f (λ b. at t (start + b)))) where
-  -- no job has written yet
-  pub filled-none : RowFilled t′ start n a f v t′ f 0
-  unfolding sum
-  filled-none =
+  -- all k jobs have written, and the free cells that are left are made empty
+  pub filled-all : (k : ℕ) (u : List ℕ) (g : ℕ → Bool) → RowFilled t start n a f v u g k
+      → (u′ : List ℕ) → RowWritten u u′ start n (emptied g (λ b. at u (start + b))) → RowWritten t u′ start n (slotCell k a f v held)
+  filled-all k u g done u′ end =
       record {
-        row = record { long = refl; inside = λ b h. go b h (is (f b)); before = λ i h. refl; after = λ i h. refl };
-        rest = λ b h. untaken-none f b;
+        long = end .long ∙ done .row .long;
+        inside = λ b h. end .inside b h ∙ go b h (is (g b));
+        before = λ i h. end .before i h ∙ done .row .before i h;
+        after = λ i h. end .after i h ∙ done .row .after i h;
       }
     where
-      go : (b : ℕ) → b < n → Is (f b) → at t′ (start + b) ≡ slotCell 0 a f v (λ d. at t′ (start + d)) b
-      go b h (is-true e) = begun .inside b h ∙ (rw e refl)
-      go b h (is-false e) = rw e refl
-
-  pub filled-all : (k : ℕ) (u : List ℕ) (g : ℕ → Bool) → RowFilled t′ start n a f v u g k
-      → RowWritten t u start n (slotCell k a f v (λ b. at t (start + b)))
-  filled-all k u g done =
-      record {
-        long = done .row .long ∙ begun .long;
-        inside = λ b h. done .row .inside b h ∙ go b h (is (f b));
-        before = λ i h. done .row .before i h ∙ begun .before i h;
-        after = λ i h. done .row .after i h ∙ begun .after i h;
-      }
-    where
-      go : (b : ℕ) → b < n → Is (f b) → slotCell k a f v (λ d. at t′ (start + d)) b ≡ slotCell k a f v (λ d. at t (start + d)) b
-      go b h (is-true e) = rw e refl
-      go b h (is-false e) = rw e (begun .inside b h ∙ (rw e refl))
+      go : (b : ℕ) → b < n → Is (g b) → emptied g (λ d. at u (start + d)) b ≡ slotCell k a f v held b
+      go b h (is-true e) =
+          emptied-free g (λ d. at u (start + d)) b e ∙ sym (slotCell-left k a f v held b (sym (done .rest b h) ∙ e))
+      go b h (is-false e) =
+          emptied-kept g (λ d. at u (start + d)) b e
+          ∙ done .row .inside b h
+          ∙ ap (λ (x : Bool). cond x (held b) (slotCell k a f v held b)) (sym (done .rest b h) ∙ e)

@@ -2,24 +2,40 @@
 -- Assumes nothing.
 use Prim.Native.Nat.{ℕ, _+_, _-_, _*_, _/_, _%_, _≤_, _<_}
 use mathlib.Core.Path.{_≡_}
-use mathlib.Core.Bool.{Bool, false, cond}
+use mathlib.Core.Bool.{Bool, _&&_, cond}
 use mathlib.Core.List.{List, _++_}
-use lib.ListN.{length, getD, take, drop}
-use lib.Dec.{ltb}
-use Rattle.laws.specs.Placement.{at, left, tabulate}
+use lib.ListN.{length, take, drop}
+use lib.Dec.{ltb, eqb}
+use Rattle.laws.specs.Sums.{bit, count}
+use Rattle.laws.specs.Placement.{at, chosen, left, tabulate}
 use Rattle.station.specs.Head.{taken}
 use Rattle.placing.specs.Limits.{inLimits}
 use Rattle.placing.specs.Table.{Cells}
 use Rattle.placing.specs.Plan.{placing, freeCount}
 
--- a list of flags as a test: past the end nothing is set
-abbrev pub flag : List Bool → ℕ → Bool
-flag l i = getD l i false
+-- the first d of those that pass a test: of jobs that need the same, "the earlier line first"
+abbrev pub firstOf : (ℕ → Bool) → ℕ → ℕ → Bool
+firstOf f d i = f i && ltb (count i f) d
+
+-- The jobs by levels, a mask a level: job i stands in level l if it still needs l slots. Jobs that need none stand nowhere.
+-- "those with the most slots still to get, never one with none left": whoever goes down the levels meets the jobs in that order.
+abbrev pub Levelled : List ℕ → (ℕ → ℕ) → Type 0
+Levelled t c = (l i : ℕ) → 0 < l → l < 256 → i < 32 → taken (at t l) i ≡ eqb (c i) l
+
+-- One slot with d free cells: the mask r has the jobs that get one, of those with the needs c, and each of them stands one level lower in t.
+-- "as many presets as there are free bridges, those with the most slots still to get, never one with none left".
+pub record Served (t : List ℕ) (c : ℕ → ℕ) (d r : ℕ) : Type 0 where
+  pub picks : (i : ℕ) → i < 32 → taken r i ≡ chosen 32 c d i
+  pub levels : Levelled t (λ i. c i - bit (taken r i))
 
 -- What a job writes that needs `need` slots in all and `rest` of them still: `early` in its first `first` slots, `late` in the others.
 -- "A preset's first m cells in time are required, the rest refinement."
 abbrev pub jobCell : ℕ → ℕ → ℕ → ℕ → ℕ → ℕ
 jobCell need rest first early late = cond (ltb (need - rest) first) early late
+
+-- what job i writes, where arrays say all of that of each job
+abbrev pub jobCells : List ℕ → List ℕ → List ℕ → List ℕ → List ℕ → ℕ → ℕ
+jobCells c rest first early late i = jobCell (at c i) (at rest i) (at first i) (at early i) (at late i)
 
 -- u is t with the n cells from `start` on written: cell b of them is w b.
 pub record RowWritten (t u : List ℕ) (start n : ℕ) (w : ℕ → ℕ) : Type 0 where

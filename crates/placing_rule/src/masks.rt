@@ -1,4 +1,4 @@
-// A slot's free bridges as one bit each: bridge b is the bit of worth 2^b.
+// A slot's free bridges as one bit each, bridge b being the bit of worth 2^b, and jobs in the same way.
 ghost use mathlib.Core.Path.{_≡_};
 ghost use Prim.Native.Nat.{_-_, _<_, _≤_};
 ghost use lib.Bits.{bitAnd};
@@ -45,6 +45,23 @@ pub fn next_free(mask: u8) -> usize
 
 // The mask without its next free bridge, or 0 if none is free.
 pub fn without_next(mask: u8) -> u8
+    ensures { λ r. ⌜ r ≡ bitAnd mask (mask - 1) ⌝ }
+{
+    if mask == 0 {
+        return 0;
+    }
+    mask & (mask - 1)
+}
+
+// The earliest job of a mask, or 32 if there is none.
+pub fn next_job(mask: u32) -> usize
+    ensures { λ r. ⌜ r ≡ trailingZeros 32 mask ⌝ }
+{
+    index(u32::trailing_zeros(mask))
+}
+
+// A mask without its lowest bit, or 0.
+pub fn without_lowest(mask: u32) -> u32
     ensures { λ r. ⌜ r ≡ bitAnd mask (mask - 1) ⌝ }
 {
     if mask == 0 {

@@ -1,8 +1,8 @@
 // The placing rule over the whole frame, for plans and calls alike.
-use crate::choice::chosen_in;
-use crate::choice::served;
+use crate::levels::choose;
+use crate::levels::highest;
+use crate::levels::levels_of;
 use crate::masks::count_free;
-use crate::row::values_in;
 use crate::row::write_row;
 use placing::limits::in_limits;
 ghost use mathlib.Core.Path.{_≡_};
@@ -28,13 +28,24 @@ pub fn place(
         return;
     }
     let mut left = needs;
+    let mut levels = levels_of(&needs, k);
+    // Nobody stands above it: it only goes down.
+    let mut top: usize = 255;
     for s in 0..slots {
         let mask = free[s];
-        let chosen = chosen_in(left, k, count_free(mask, bridges));
-        let values = values_in(needs, left, k, first, early, late);
-        write_row(table, s * bridges, bridges, mask, chosen, values, k);
-        // By a local of its own: a call's result cannot be laid into an array that is in use.
-        let next = served(left, k, chosen);
-        left = next;
+        top = highest(&levels, top);
+        let chosen = choose(&mut levels, top, count_free(mask, bridges));
+        write_row(
+            table,
+            s * bridges,
+            bridges,
+            mask,
+            chosen,
+            &mut left,
+            &needs,
+            &first,
+            &early,
+            &late,
+        );
     }
 }

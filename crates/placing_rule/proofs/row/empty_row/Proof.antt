@@ -1,13 +1,14 @@
 -- `empty_row` meets its contract. The loop's invariant: the free ones of the row's first b cells are empty. Assumes nothing.
 use Prim.Native.Nat.{ℕ, _≤_, _-_, _+_}
 use native.Mathlib.Omega.{arith}
-use mathlib.Core.Path.{_≡_, sym, _∙_}
+use mathlib.Core.Path.{_≡_, sym, _∙_, ap}
 use mathlib.Core.Logic.{⊎-elim}
 use mathlib.Core.Bool.{true, false}
 use Rattle.laws.specs.Placement.{at}
 use Rattle.station.specs.Head.{taken}
 use Rattle.placing_rule.specs.Code.{RowWritten, emptied}
-use Rattle.placing_rule.proofs.Rows.{emptied-free, emptied-kept, row-none, row-kept, row-stored}
+use Rattle.placing_rule.proofs.Mask.{taken-zero}
+use Rattle.placing_rule.proofs.Rows.{emptied-free, emptied-kept, row-as-it-was, row-none, row-kept, row-stored}
 use Rattle.placing_rule.proofs.row.empty_row.Statement.{statement}
 use Rattle.placing_rule.proofs.row.empty_row.Tie as tie
 
@@ -17,8 +18,14 @@ Inv-loop table₀ start bridges mask b₀ table b = (b ≤ bridges) × RowWritte
 abbrev μ-loop : tie.MeasureT-loop
 μ-loop table₀ start bridges mask b₀ table b = bridges - b
 
+returns : tie.Need-returns Inv-loop μ-loop
+returns c =
+    let a = c .before .before .args in
+    row-as-it-was (a .table .now) (a .start) (emptied (taken (a .mask)) (λ d. at (a .table .now) (a .start + d))) (a .bridges)
+    (λ b h. sym (emptied-kept (taken (a .mask)) (λ d. at (a .table .now) (a .start + d)) b (ap (λ (m : ℕ). taken m b) (c .if1 .taken) ∙ taken-zero b)))
+
 loop-holds : tie.Need-loop-holds Inv-loop μ-loop
-loop-holds c = let a = c .before .args in (omega arith, row-none (a .table .now) (a .start) (emptied (taken (a .mask)) (λ d. at (a .table .now) (a .start + d))))
+loop-holds c = let a = c .before .before .args in (omega arith, row-none (a .table .now) (a .start) (emptied (taken (a .mask)) (λ d. at (a .table .now) (a .start + d))))
 
 is-free-requires : tie.Need-is-free-requires Inv-loop μ-loop
 is-free-requires c κs = omega arith
@@ -41,7 +48,7 @@ loop-less c = omega arith
 loop-again : tie.Need-loop-again Inv-loop μ-loop
 loop-again c =
     let l = c .before .before .before .loop in
-    let a = c .before .before .before .before .before .args in
+    let a = c .before .before .before .before .before .before .args in
     let t = a .table .now in
     let row : ℕ → ℕ = emptied (taken (a .mask)) (λ d. at t (a .start + d)) in
     ⊎-elim
@@ -55,14 +62,14 @@ loop-again c =
       omega arith,
       rw (w .1) (row-kept t (a .start) row (l .table) (l .b) (l .inv .1) (sym (emptied-kept (taken (a .mask)) (λ d. at t (a .start + d)) (l .b) kept))),
     ))
-    (c .if1 .came)
+    (c .if2 .came)
 
 same-length : tie.Need-same-length Inv-loop μ-loop
 same-length c = c .before .loop .inv .1 .long
 
-returns : tie.Need-returns Inv-loop μ-loop
-returns c =
-    let end : c .before .loop .b ≡ c .before .before .before .args .bridges = omega arith in
+returns-2 : tie.Need-returns-2 Inv-loop μ-loop
+returns-2 c =
+    let end : c .before .loop .b ≡ c .before .before .before .before .args .bridges = omega arith in
     rw end at (c .before .loop .inv .1)
 
 pub empty-row-spec : {M : Type 1} → statement M
@@ -71,6 +78,7 @@ empty-row-spec =
     (tie.spec
     Inv-loop
     μ-loop
+    returns
     loop-holds
     is-free-requires
     add-table
@@ -80,4 +88,4 @@ empty-row-spec =
     loop-less
     loop-again
     same-length
-    returns)
+    returns-2)

@@ -1,113 +1,153 @@
--- `write_row` meets its contract. The loop's invariant: the jobs before i have written their cells, and `free` has the bridges that are left. Assumes nothing.
-use Prim.Native.Nat.{ℕ, _≤_, _<_, _-_, _^_}
+-- `write_row` meets its contract. The loop's invariant: the jobs before those in `jobs` have written their cells and need one slot less, and `free` has the
+-- bridges that are left. Assumes nothing.
+use Prim.Native.Nat.{ℕ, _<_, _-_}
 use native.Mathlib.Omega.{arith}
 use mathlib.Core.Path.{_≡_, _∙_}
 use mathlib.Core.Logic.{⊎-elim}
-use lib.Bits.{and-le-l}
+use lib.Bits.{and-le-l, and-le-r}
 use lib.Count.{trailingZeros}
-use borrow.Author.Needs.{needs}
-use Rattle.laws.specs.Placement.{at}
+use borrow.Author.Needs as author
 use Rattle.station.specs.Head.{taken}
-use Rattle.placing_rule.specs.Code.{flag}
-use Rattle.placing_rule.proofs.Mask.{lowest, none-below-lowest, some-lowest, cleared}
-use Rattle.placing_rule.proofs.Rows.{RowFilled, filled-none, filled-not-chosen, filled-full, filled-next, filled-all}
+use Rattle.placing_rule.specs.Code.{jobCells}
+use Rattle.placing_rule.proofs.Mask.{none-below-lowest}
+use Rattle.placing_rule.proofs.Rows.{filled-none, filled-all}
+use Rattle.placing_rule.proofs.Serving.{Serving, earliest, value-of, serving-none, serving-next, serving-full, serving-all}
 use Rattle.placing_rule.proofs.row.write_row.Statement.{statement}
 use Rattle.placing_rule.proofs.row.write_row.Tie as tie
 
 abbrev Inv-loop : tie.InvT-loop
-Inv-loop table₀ start bridges mask k chosen values free₀ i₀ table free i =
-    (i ≤ k) × (free < 256) × RowFilled table₀ start bridges (flag chosen) (taken mask) (at values) table (taken free) i
+Inv-loop table₀ start bridges mask chosen left₀ needs first early late free₀ jobs₀ table left free jobs =
+    (free < 256) × Serving table₀ start bridges chosen (taken mask) (jobCells needs left₀ first early late) left₀ table free jobs left
 
 abbrev μ-loop : tie.MeasureT-loop
-μ-loop table₀ start bridges mask k chosen values free₀ i₀ table free i = k - i
+μ-loop table₀ start bridges mask chosen left₀ needs first early late free₀ jobs₀ table left free jobs = jobs
 
-empty-row-requires : tie.Need-empty-row-requires Inv-loop μ-loop
-empty-row-requires c κs = omega arith
+-- the next job is one of the 32
+job : (c : tie.After-next-job Inv-loop μ-loop) → c .next-job .result < 32
+job c =
+    let l = c .before .before .loop in
+    omega (arith, c .next-job .ensures, earliest (c .before .before .before .before .args .chosen) (l .jobs) (l .inv .1 .pending) (c .before .loop-test .taken))
 
 loop-holds : tie.Need-loop-holds Inv-loop μ-loop
 loop-holds c =
-    let emptied = c .before .before in
-    let a = emptied .before .before .before .args in (
+    let a = c .before .args in
+    let t = a .table .now in
+    let v = jobCells (a .needs .now) (a .left .now) (a .first .now) (a .early .now) (a .late .now) in (
       omega arith,
-      omega arith,
-      filled-none (a .table .now) (emptied .empty-row .last .0) (a .start) (a .bridges) (flag (a .t5)) (taken (a .mask)) (at (a .t6)) (emptied .empty-row .ensures),
+      serving-none t (a .start) (a .bridges) (a .chosen) (taken (a .mask)) v (a .left .now) (search author.needs) (c .before .pre .2) t (a .mask)
+          (filled-none t (a .start) (a .bridges) (taken (a .chosen)) (taken (a .mask)) v),
     )
 
-array-read-if1 : tie.Need-array-read-if1 Inv-loop μ-loop
-array-read-if1 c = omega arith
+next-job-requires : tie.Need-next-job-requires Inv-loop μ-loop
+next-job-requires c κs = search author.needs
+
+element-copy-out-job-cell : tie.Need-element-copy-out-job-cell Inv-loop μ-loop
+element-copy-out-job-cell c = omega (arith, job c)
+
+element-copy-out-job-cell-2 : tie.Need-element-copy-out-job-cell-2 Inv-loop μ-loop
+element-copy-out-job-cell-2 c = omega (arith, job (c .before))
+
+element-copy-out-job-cell-3 : tie.Need-element-copy-out-job-cell-3 Inv-loop μ-loop
+element-copy-out-job-cell-3 c = omega (arith, job (c .before .before))
+
+mul-job-cell : tie.Need-mul-job-cell Inv-loop μ-loop
+mul-job-cell c = omega (arith, job (c .before .before .before))
+
+element-copy-out-job-cell-4 : tie.Need-element-copy-out-job-cell-4 Inv-loop μ-loop
+element-copy-out-job-cell-4 c = omega (arith, job (c .before .before .before))
+
+mul-job-cell-2 : tie.Need-mul-job-cell-2 Inv-loop μ-loop
+mul-job-cell-2 c = omega (arith, job (c .before .before .before .before))
+
+element-copy-out-job-cell-5 : tie.Need-element-copy-out-job-cell-5 Inv-loop μ-loop
+element-copy-out-job-cell-5 c = omega (arith, job (c .before .before .before .before))
+
+job-cell-requires : tie.Need-job-cell-requires Inv-loop μ-loop
+job-cell-requires c κs = search author.needs
 
 next-free-requires : tie.Need-next-free-requires Inv-loop μ-loop
-next-free-requires c κs = search needs
-
-mul-table : tie.Need-mul-table Inv-loop μ-loop
-mul-table c = omega arith
-
-array-read-table : tie.Need-array-read-table Inv-loop μ-loop
-array-read-table c = omega arith
+next-free-requires c κs = search author.needs
 
 add-table : tie.Need-add-table Inv-loop μ-loop
 add-table c = omega arith
 
-mul-table-2 : tie.Need-mul-table-2 Inv-loop μ-loop
-mul-table-2 c = omega arith
+mul-table : tie.Need-mul-table Inv-loop μ-loop
+mul-table c = omega arith
 
 slice-write-table : tie.Need-slice-write-table Inv-loop μ-loop
 slice-write-table c = omega arith
 
 without-next-requires : tie.Need-without-next-requires Inv-loop μ-loop
-without-next-requires c κs = search needs
+without-next-requires c κs = search author.needs
 
-add-i : tie.Need-add-i Inv-loop μ-loop
-add-i c = omega arith
+element-copy-out-less : tie.Need-element-copy-out-less Inv-loop μ-loop
+element-copy-out-less c = omega (arith, job (c .before .before .before .before .before .before .before .before))
+
+less-requires : tie.Need-less-requires Inv-loop μ-loop
+less-requires c κs = search author.needs
+
+element-write-left : tie.Need-element-write-left Inv-loop μ-loop
+element-write-left c = omega (arith, job (c .before .before .before .before .before .before .before .before .before .before))
+
+without-lowest-requires : tie.Need-without-lowest-requires Inv-loop μ-loop
+without-lowest-requires c κs = search author.needs
 
 loop-less : tie.Need-loop-less Inv-loop μ-loop
-loop-less c = omega arith
+loop-less c =
+    let l = c .before .before .before .before .before .before .before .before .before .before .before .before .before .loop in
+    omega (arith, c .without-lowest .ensures, and-le-r (l .jobs) (l .jobs - 1))
 
 loop-again : tie.Need-loop-again Inv-loop μ-loop
 loop-again c =
-    let l = c .before .before .loop in
-    let emptied = c .before .before .before .before .before in
-    let a = emptied .before .before .before .args in
-    let t = emptied .empty-row .last .0 in
-    let v : ℕ → ℕ = at (a .t6) in
-    let byte : l .free < 2 ^ 8 = l .inv .1 in
+    let lessened = c .before in
+    let joined = lessened .before .before in
+    let free = joined .before in
+    let cell = free .before in
+    let next = cell .before .before .before .before .before .before in
+    let l = next .before .before .loop in
+    let a = next .before .before .before .before .args in
+    let t = a .table .now in
+    let v : ℕ → ℕ = jobCells (a .needs .now) (a .left .now) (a .first .now) (a .early .now) (a .late .now) in
+    let some = next .before .loop-test .taken in
+    let here : next .next-job .result ≡ trailingZeros 32 (l .jobs) = next .next-job .ensures in
+    let value : cell .job-cell .result ≡ v (trailingZeros 32 (l .jobs)) =
+    value-of t (a .start) (a .bridges) (a .chosen) (taken (a .mask)) v (a .left .now) (l .table) (l .free) (l .jobs) (l .left) (l .inv .1) some
+    (a .needs .now) (a .first .now) (a .early .now) (a .late .now) (next .next-job .result) here (cell .job-cell .result) (cell .job-cell .ensures) in
     ⊎-elim
-    (λ w.
-    let next : w .1 .result ≡ trailingZeros 8 (l .free) = w .1 .ensures in
-    let some : 0 < l .free = some-lowest 8 (l .free) (omega arith) in
-    let low = lowest 8 (l .free) some byte in (
-      omega arith,
-      omega (arith, w .5, w .3 .ensures, and-le-l (l .free) (l .free - 1)),
-      rw (w .4, w .5) (filled-next t (a .start) (a .bridges) (flag (a .t5)) (taken (a .mask)) v (l .table) (taken (l .free)) (l .i) (l .inv .2) (w .0 .taken)
-          (w .1 .result) (w .2 .taken) (omega arith) (rw next (low .set)) (rw next (low .none-below))
-          (taken (w .3 .result)) (rw (next, w .3 .ensures) (cleared 8 (l .free) some byte))),
-    ))
-    (⊎-elim
-    (λ w.
-    let next : w .1 .result ≡ trailingZeros 8 (l .free) = w .1 .ensures in (
-      omega arith,
-      omega (arith, w .4),
-      rw (w .3, w .4) (filled-full t (a .start) (a .bridges) (flag (a .t5)) (taken (a .mask)) v (l .table) (taken (l .free)) (l .i) (l .inv .2) (w .0 .taken)
-          (λ b h. none-below-lowest 8 (l .free) byte b (let over = w .2 .left in omega arith))),
+    (λ w. (
+      omega (arith, w .3, w .1 .ensures, and-le-l (l .free) (l .free - 1)),
+      rw (w .2, w .3, w .1 .ensures, c .without-lowest .ensures, lessened .less .ensures, here)
+          (serving-next t (a .start) (a .bridges) (a .chosen) (taken (a .mask)) v (a .left .now) (l .table) (l .free) (l .jobs) (l .left) (l .inv .1) some
+          (l .inv .0) (free .next-free .result) (free .next-free .ensures) (w .0 .taken) (omega arith) (omega arith) (cell .job-cell .result) value),
     ))
     (λ w. (
-      omega arith,
       omega (arith, w .2),
-      rw (w .1, w .2) (filled-not-chosen t (a .start) (a .bridges) (flag (a .t5)) (taken (a .mask)) v (l .table) (taken (l .free)) (l .i) (l .inv .2) (w .0 .left)),
-    )))
-    (c .if1 .came)
+      rw (w .1, w .2, c .without-lowest .ensures, lessened .less .ensures, here)
+          (serving-full t (a .start) (a .bridges) (a .chosen) (taken (a .mask)) v (a .left .now) (l .table) (l .free) (l .jobs) (l .left) (l .inv .1) some
+          (λ b h. none-below-lowest 8 (l .free) (l .inv .0) b (let over = w .0 .left in omega (arith, h, over, free .next-free .ensures)))),
+    ))
+    (joined .if1 .came)
+
+empty-row-requires : tie.Need-empty-row-requires Inv-loop μ-loop
+empty-row-requires c κs = let l = c .before .before .loop in (omega arith, omega (arith, l .inv .1 .row .row .long))
 
 same-length : tie.Need-same-length Inv-loop μ-loop
-same-length c = c .before .loop .inv .2 .row .long ∙ c .before .before .before .before .empty-row .ensures .long
+same-length c = c .before .before .empty-row .ensures .long ∙ c .before .before .before .before .before .loop .inv .1 .row .row .long
 
 returns : tie.Need-returns Inv-loop μ-loop
 returns c =
-    let emptied = c .before .before .before .before in
-    let a = emptied .before .before .before .args in
-    let l = c .before .loop in
-    let end : l .i ≡ a .k = omega arith in
-    filled-all (a .table .now) (emptied .empty-row .last .0) (a .start) (a .bridges) (flag (a .t5)) (taken (a .mask)) (at (a .t6)) (emptied .empty-row .ensures)
-    (a .k) (l .table) (taken (l .free)) (rw end at (l .inv .2))
+    let emptied = c .before .before in
+    let l = emptied .before .before .before .loop in
+    let a = emptied .before .before .before .before .before .args in
+    let t = a .table .now in
+    let v : ℕ → ℕ = jobCells (a .needs .now) (a .left .now) (a .first .now) (a .early .now) (a .late .now) in
+    let end : l .jobs ≡ 0 = omega arith in
+    let all = serving-all t (a .start) (a .bridges) (a .chosen) (taken (a .mask)) v (a .left .now) (l .table) (l .free) (l .left) (rw end at (l .inv .1)) in (
+      filled-all t (a .start) (a .bridges) (taken (a .chosen)) (taken (a .mask)) v 32 (l .table) (taken (l .free)) (all .0)
+          (emptied .empty-row .last .0) (emptied .empty-row .ensures),
+      l .inv .1 .long,
+      all .1,
+    )
 
 pub write-row-spec : {M : Type 1} → statement M
 write-row-spec =
@@ -115,18 +155,27 @@ write-row-spec =
     (tie.spec
     Inv-loop
     μ-loop
-    empty-row-requires
     loop-holds
-    array-read-if1
+    next-job-requires
+    element-copy-out-job-cell
+    element-copy-out-job-cell-2
+    element-copy-out-job-cell-3
+    mul-job-cell
+    element-copy-out-job-cell-4
+    mul-job-cell-2
+    element-copy-out-job-cell-5
+    job-cell-requires
     next-free-requires
-    mul-table
-    array-read-table
     add-table
-    mul-table-2
+    mul-table
     slice-write-table
     without-next-requires
-    add-i
+    element-copy-out-less
+    less-requires
+    element-write-left
+    without-lowest-requires
     loop-less
     loop-again
+    empty-row-requires
     same-length
     returns)
