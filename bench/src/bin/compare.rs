@@ -1,0 +1,134 @@
+//! Compares the two planners on texts made by seed, every byte of what they print.
+//!
+//! `compare [texts] [first seed]`: 100,000 texts from seed 0 unless told otherwise. Exit status 1 on any difference.
+
+use std::process::ExitCode;
+
+use bench::frame::CELLS;
+use bench::texts::{kinds, text, Text};
+use bench::{planner, proved};
+
+/// Differences shown in full.
+const SHOWN: usize = 3;
+const CAUSES: usize = 12;
+
+#[derive(Default)]
+struct Tally {
+    texts: u64,
+    bytes: u64,
+    different: u64,
+    accepted_heads: u64,
+    lines: u64,
+    heads: [u64; CAUSES],
+    events: [u64; CAUSES],
+    clocks: u64,
+    calls: u64,
+    evicting_calls: u64,
+}
+
+fn main() -> ExitCode {
+    let mut arguments = std::env::args().skip(1).map(|word| word.parse::<u64>().expect("a number"));
+    let count = arguments.next().unwrap_or(100_000);
+    let first = arguments.next().unwrap_or(0);
+    let mut tallies: Vec<(&str, Tally)> = kinds().map(|name| (name, Tally::default())).collect();
+    let mut comparison = Comparison::new();
+    for seed in first..first + count {
+        let text = text(seed);
+        let same = comparison.same(&text.bytes);
+        let (_, tally) = tallies.iter_mut().find(|(name, _)| *name == text.kind).expect("one of the kinds");
+        tally.add(&text, &comparison.independent, same);
+        if !same && comparison.shown < SHOWN {
+            comparison.show(seed, &text);
+        }
+    }
+    report(&tallies)
+}
+
+struct Comparison {
+    independent: Vec<u8>,
+    table: Vec<u16>,
+    proved: Vec<u8>,
+    proved_length: usize,
+    shown: usize,
+}
+
+impl Comparison {
+    fn new() -> Self {
+        let (table, proved) = (vec![0; CELLS], vec![0; proved::OUT]);
+        Comparison { independent: Vec::new(), table, proved, proved_length: 0, shown: 0 }
+    }
+
+    fn same(&mut self, text: &[u8]) -> bool {
+        self.independent.clear();
+        planner::listing(text, &mut self.independent);
+        self.proved_length = proved::listing(text, &mut self.table, &mut self.proved);
+        self.independent == self.proved[..self.proved_length]
+    }
+
+    fn show(&mut self, seed: u64, text: &Text) {
+        self.shown += 1;
+        println!("DIFFERENCE at seed {seed}, {}", text.kind);
+        println!("text:\n{}", escaped(&text.bytes));
+        println!("independent:\n{}", escaped(&self.independent));
+        println!("proved:\n{}\n", escaped(&self.proved[..self.proved_length]));
+    }
+}
+
+/// As it stands, with bytes that do not print written out and line ends kept.
+fn escaped(bytes: &[u8]) -> String {
+    bytes.escape_ascii().to_string().replace("\\n", "\\n\n")
+}
+
+impl Tally {
+    fn add(&mut self, text: &Text, listing: &[u8], same: bool) {
+        self.texts += 1;
+        self.bytes += text.bytes.len() as u64;
+        self.different += u64::from(!same);
+        // A refused head prints one line and no slots.
+        let refused_head = listing.split(|&byte| byte == b'\n').count() == 2 && listing.starts_with(b"(refused");
+        self.accepted_heads += u64::from(!refused_head);
+        let causes = if refused_head { &mut self.heads } else { &mut self.events };
+        for line in listing.split(|&byte| byte == b'\n') {
+            self.lines += 1;
+            if line.starts_with(b"(refused ") {
+                causes[last_number(line)] += 1;
+            }
+            self.clocks += u64::from(line.starts_with(b"(now "));
+            let call = line.starts_with(b"(taken ");
+            self.calls += u64::from(call);
+            self.evicting_calls += u64::from(call && last_number(line) > 0);
+        }
+        // What follows the last byte 10 is no line.
+        self.lines -= 1;
+    }
+}
+
+/// The cause of a refused line, the cells of a taken one.
+fn last_number(line: &[u8]) -> usize {
+    let word = line.rsplit(|&byte| byte == b' ').next().unwrap_or(&[]);
+    word.iter().filter(|byte| byte.is_ascii_digit()).fold(0, |value, digit| 10 * value + usize::from(digit - b'0'))
+}
+
+fn report(tallies: &[(&str, Tally)]) -> ExitCode {
+    let total = |field: fn(&Tally) -> u64| tallies.iter().map(|(_, tally)| field(tally)).sum::<u64>();
+    println!("{:<18}{:>9}{:>14}{:>12}{:>10}", "kind of text", "texts", "heads taken", "lines out", "differ");
+    for (name, tally) in tallies {
+        let Tally { texts, accepted_heads, lines, different, .. } = tally;
+        println!("{name:<18}{texts:>9}{accepted_heads:>14}{lines:>12}{different:>10}");
+    }
+    println!("\n{:<18}{:>9}{:>14}", "cause met", "heads", "events");
+    for cause in [1, 2, 3, 4, 5, 6, 7, 9, 10] {
+        let heads: u64 = tallies.iter().map(|(_, tally)| tally.heads[cause]).sum();
+        let events: u64 = tallies.iter().map(|(_, tally)| tally.events[cause]).sum();
+        println!("{cause:<18}{heads:>9}{events:>14}");
+    }
+    let (clocks, calls, evicting) = (total(|t| t.clocks), total(|t| t.calls), total(|t| t.evicting_calls));
+    println!("\naccepted: {clocks} clocks, {calls} calls, {evicting} of them evicting");
+    let (texts, bytes, lines) = (total(|t| t.texts), total(|t| t.bytes), total(|t| t.lines));
+    let different = total(|t| t.different);
+    println!("{texts} texts of {bytes} bytes, {lines} lines of output: {different} differ");
+    if different > 0 {
+        return ExitCode::FAILURE;
+    }
+    ExitCode::SUCCESS
+}

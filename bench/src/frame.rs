@@ -1,0 +1,220 @@
+//! A planned frame: its table, its clock, and the events that it takes.
+//!
+//! Beside the table it keeps what a call asks for: the empty bridges of each slot, their numbers as a supply, and
+//! the optional cells of each preset. A refused event changes nothing.
+
+mod resume;
+
+use crate::bits::{columns, ones, Numbers};
+use crate::head::{Head, Preset, BRIDGES, PRESETS, SLOTS};
+use crate::placing::{evict, grants, Evicted, Lrtf, Supply};
+use crate::refusal::Refusal;
+use crate::text::{Call, Form};
+
+pub const CELLS: usize = SLOTS * BRIDGES;
+pub const JOBS: usize = 64;
+
+/// Slot by slot, in each slot bridge by bridge: kind x 256 + number.
+pub type Table = [u16; CELLS];
+
+const EMPTY: u16 = 0;
+const BUSY: u16 = 1 << 8;
+const MANDATORY: u16 = 2 << 8;
+const OPTIONAL: u16 = 3 << 8;
+const CALL: u16 = 4 << 8;
+
+/// What an accepted event answers.
+#[derive(Clone, Copy, Debug, PartialEq, Eq)]
+pub enum Answer {
+    Now(usize),
+    /// How many optional cells were evicted.
+    Taken(u32),
+}
+
+#[derive(Clone, Debug, PartialEq, Eq)]
+pub struct Frame {
+    slots: usize,
+    bridges: usize,
+    presets: Vec<Preset>,
+    ranking: Vec<usize>,
+    clock: usize,
+    table: Table,
+    /// The empty bridges of each slot.
+    empty: [u8; SLOTS],
+    supply: Supply,
+    /// The slots of each preset's optional cells.
+    optional: [u64; PRESETS],
+    /// The numbers of presets and jobs.
+    used: Numbers,
+    jobs: usize,
+}
+
+impl Frame {
+    /// Plans a head; yields the frame at clock 1 and the grants in file order. Refused: the mandatory slots are not
+    /// feasible.
+    pub fn plan(head: &Head) -> Result<(Self, [u8; PRESETS]), Refusal> {
+        let mut frame = Frame::unplanned(head);
+        let grants = grants(head, &frame.ranking, &frame.supply).ok_or(Refusal::HeadInfeasible)?;
+        frame.place_presets(&grants);
+        Ok((frame, grants))
+    }
+
+    pub fn slots(&self) -> usize {
+        self.slots
+    }
+
+    /// The cells of a slot, which counts from 0.
+    pub fn row(&self, slot: usize) -> &[u16] {
+        &self.table[slot * self.bridges..][..self.bridges]
+    }
+
+    pub fn table(&self) -> &Table {
+        &self.table
+    }
+
+    /// Takes one line after the head.
+    pub fn event(&mut self, form: Option<Form>) -> Result<Answer, Refusal> {
+        match form.ok_or(Refusal::Malformed)? {
+            Form::Clock(clock) => self.clock(usize::from(clock)).map(Answer::Now),
+            Form::Call(call) => self.call(&call.ok_or(Refusal::OutOfLimits)?).map(Answer::Taken),
+            Form::Frame { .. } | Form::Busy { .. } | Form::Preset { .. } => Err(Refusal::Misplaced),
+        }
+    }
+
+    pub fn clock(&mut self, clock: usize) -> Result<usize, Refusal> {
+        if !(1..=self.slots + 1).contains(&clock) {
+            return Err(Refusal::OutOfLimits);
+        }
+        if clock < self.clock {
+            return Err(Refusal::ClockBack);
+        }
+        self.clock = clock;
+        Ok(clock)
+    }
+
+    /// Places a call from the clock on; yields how many optional cells it evicts.
+    pub fn call(&mut self, call: &Call) -> Result<u32, Refusal> {
+        let jobs = call.jobs();
+        let mut used = self.used;
+        if !jobs.iter().all(|job| used.insert(job.number)) {
+            return Err(Refusal::NumberUsed);
+        }
+        if self.jobs + jobs.len() > JOBS {
+            return Err(Refusal::TooMany);
+        }
+        let mut lengths = [0; BRIDGES];
+        lengths.iter_mut().zip(jobs).for_each(|(length, job)| *length = job.length);
+        let evicted = self.evicted(&lengths[..jobs.len()]).ok_or(Refusal::CallInfeasible)?;
+        self.used = used;
+        self.jobs += jobs.len();
+        let count = self.clear(&evicted);
+        self.place_jobs(call);
+        Ok(count)
+    }
+
+    /// The head's frame before anything is placed.
+    fn unplanned(head: &Head) -> Self {
+        let free = head.free();
+        let mut supply = Supply::default();
+        free.iter().for_each(|&slots| supply.add(slots));
+        let mut frame = Frame {
+            slots: head.slots,
+            bridges: head.bridges,
+            presets: head.presets.clone(),
+            ranking: head.ranking(),
+            clock: 1,
+            table: [EMPTY; CELLS],
+            empty: columns(&free),
+            supply,
+            optional: [0; PRESETS],
+            used: head.used,
+            jobs: 0,
+        };
+        for (bridge, &busy) in head.busy.iter().enumerate() {
+            ones(busy).for_each(|slot| frame.table[slot * frame.bridges + bridge] = BUSY);
+        }
+        frame
+    }
+
+    fn place_presets(&mut self, grants: &[u8; PRESETS]) {
+        let needs = self.presets.iter().zip(grants).map(|(preset, grant)| preset.mandatory + grant);
+        let mut lrtf = Lrtf::new(needs);
+        let mut mandatory: [u8; PRESETS] = [0; PRESETS];
+        mandatory.iter_mut().zip(&self.presets).for_each(|(left, preset)| *left = preset.mandatory);
+        for slot in ones(self.supply.at_least(1)) {
+            if lrtf.finished() {
+                break;
+            }
+            let chosen = lrtf.choose(self.empty[slot].count_ones());
+            let presets = &self.presets;
+            let optional = &mut self.optional;
+            fill(&mut self.table[slot * self.bridges..], &mut self.empty[slot], chosen, |place| {
+                let number = u16::from(presets[place].number);
+                if mandatory[place] > 0 {
+                    mandatory[place] -= 1;
+                    return MANDATORY + number;
+                }
+                optional[place] |= 1 << slot;
+                OPTIONAL + number
+            });
+            self.supply.set(slot, self.empty[slot].count_ones());
+        }
+    }
+
+    /// The cells that jobs of these lengths evict, if the call is feasible.
+    fn evicted(&self, lengths: &[u8]) -> Option<Evicted> {
+        let ahead = self.ahead();
+        let optional = self.optional.map(|slots| slots & ahead);
+        evict(lengths, self.supply.only_in(ahead), &optional, &self.ranking)
+    }
+
+    /// The slots from the clock on.
+    fn ahead(&self) -> u64 {
+        let to_end = u64::MAX >> (SLOTS - self.slots);
+        to_end & u64::MAX.checked_shl(self.clock as u32 - 1).unwrap_or(0)
+    }
+
+    /// Makes the evicted cells empty and counts them.
+    fn clear(&mut self, evicted: &Evicted) -> u32 {
+        let mut count = 0;
+        for (place, &slots) in evicted.iter().enumerate().take(self.presets.len()) {
+            self.optional[place] &= !slots;
+            self.supply.add(slots);
+            count += slots.count_ones();
+            for slot in ones(slots) {
+                self.clear_cell(slot, OPTIONAL + u16::from(self.presets[place].number));
+            }
+        }
+        count
+    }
+
+    fn clear_cell(&mut self, slot: usize, content: u16) {
+        let row = &mut self.table[slot * self.bridges..][..self.bridges];
+        if let Some(bridge) = row.iter().position(|&cell| cell == content) {
+            row[bridge] = EMPTY;
+            self.empty[slot] |= 1 << bridge;
+        }
+    }
+
+    fn place_jobs(&mut self, call: &Call) {
+        let mut lrtf = Lrtf::new(call.jobs().iter().map(|job| job.length));
+        for slot in ones(self.supply.at_least(1) & self.ahead()) {
+            if lrtf.finished() {
+                break;
+            }
+            let chosen = lrtf.choose(self.empty[slot].count_ones());
+            fill(&mut self.table[slot * self.bridges..], &mut self.empty[slot], chosen, |job| {
+                CALL + u16::from(call.jobs()[job].number)
+            });
+            self.supply.set(slot, self.empty[slot].count_ones());
+        }
+    }
+}
+
+/// The chosen tasks, in their list's order, take the empty bridges of a row in ascending order.
+fn fill(row: &mut [u16], empty: &mut u8, chosen: u32, mut content: impl FnMut(usize) -> u16) {
+    for task in ones(u64::from(chosen)) {
+        row[empty.trailing_zeros() as usize] = content(task);
+        *empty &= *empty - 1;
+    }
+}

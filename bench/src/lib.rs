@@ -1,0 +1,27 @@
+//! A bridge planner for the shared tuner, written from the scope document alone and without a look at the
+//! proved one, so that the two can be held against each other.
+//!
+//! From the bottom up:
+//! - [`bits`]: sets of small numbers as words of bits;
+//! - [`text`]: lines and their forms;
+//! - [`head`]: the head of a text, line by line;
+//! - [`placing`]: capacity, grants, the LRTF rule, and which cells a call evicts;
+//! - [`frame`]: a planned frame and the events that it takes;
+//! - [`listing`]: the output's lines;
+//! - [`planner`]: all of it, from a text to its listing.
+//!
+//! Beside them: [`texts`] makes station texts by seed, [`proved`] calls the proved planner, [`loads`] holds the
+//! benchmark's inputs and [`sides`] gives both planners one shape for it.
+
+pub mod bits;
+pub mod frame;
+pub mod head;
+pub mod listing;
+pub mod loads;
+pub mod placing;
+pub mod planner;
+pub mod proved;
+pub mod refusal;
+pub mod sides;
+pub mod text;
+pub mod texts;

@@ -1,0 +1,132 @@
+//! The two planners as the benchmark sees them: one function each, from a load to something that runs it n times.
+//! Both are timed by the same two functions below, and what they compute is used.
+
+use std::hint::black_box;
+use std::time::{Duration, Instant};
+
+use crate::frame::{Frame, Table, CELLS};
+use crate::head::{self, Head};
+use crate::loads::Load;
+use crate::text::{lines, Call, Job};
+use crate::{planner, proved};
+
+/// Runs a load so many times; yields the time and a number that tells the result (lines with an event's form, slots
+/// granted, cells evicted, bytes printed), the same for both sides.
+pub type Run<'a> = Box<dyn FnMut(usize) -> (Duration, u64) + 'a>;
+
+/// Stands for a refused call in a result.
+const REFUSED: u64 = 1 << 32;
+
+/// The independent planner; it can run every load.
+pub fn independent(load: &Load) -> Option<Run<'_>> {
+    Some(match load {
+        Load::Read(text) => repeated(move || event_lines(black_box(text))),
+        Load::Plan(text) => {
+            let head = read_head(text);
+            let mut table = [0; CELLS];
+            repeated(move || plan(black_box(&head), &mut table))
+        }
+        Load::Call(text, jobs) => {
+            let (frame, _) = Frame::plan(&read_head(text)).expect("the loads are feasible");
+            each(frame, move |frame| running_call(frame, black_box(jobs)))
+        }
+        Load::CheckedCall(text, jobs) => {
+            let head = read_head(text);
+            let (frame, _) = Frame::plan(&head).expect("the loads are feasible");
+            each(*frame.table(), move |table| checked_call(black_box(&head), table, black_box(jobs)))
+        }
+        Load::Listing(text) => {
+            let mut out = Vec::with_capacity(proved::OUT);
+            repeated(move || {
+                out.clear();
+                planner::listing(black_box(text), &mut out);
+                black_box(&out).len() as u64
+            })
+        }
+    })
+}
+
+/// The proved planner: the loads that its interface has, once it is in this process.
+pub fn proved(load: &Load) -> Option<Run<'_>> {
+    match load {
+        Load::Listing(text) if proved::IN_PROCESS => {
+            let (mut table, mut out) = (vec![0; CELLS], vec![0; proved::OUT]);
+            Some(repeated(move || {
+                let length = proved::listing(black_box(text), &mut table, &mut out);
+                black_box(&table);
+                black_box(&out[..length]).len() as u64
+            }))
+        }
+        _ => None,
+    }
+}
+
+/// Whether both print the same for a listing's load. Other loads are not asked, nor is a proved planner elsewhere.
+pub fn agree(load: &Load) -> bool {
+    let Load::Listing(text) = load else {
+        return true;
+    };
+    if !proved::IN_PROCESS {
+        return true;
+    }
+    let (mut ours, mut table, mut theirs) = (Vec::new(), vec![0; CELLS], vec![0; proved::OUT]);
+    planner::listing(text, &mut ours);
+    let length = proved::listing(text, &mut table, &mut theirs);
+    ours == theirs[..length]
+}
+
+/// Times n runs on the same state.
+fn repeated<'a>(mut run: impl FnMut() -> u64 + 'a) -> Run<'a> {
+    Box::new(move |n| {
+        let mut result = 0;
+        let start = Instant::now();
+        for _ in 0..n {
+            result = black_box(run());
+        }
+        (start.elapsed(), result)
+    })
+}
+
+/// Times n runs, each on its own copy of a state. The copies are made before the clock starts.
+fn each<'a, State: Clone + 'a>(state: State, mut run: impl FnMut(&mut State) -> u64 + 'a) -> Run<'a> {
+    let mut copies = Vec::new();
+    Box::new(move |n| {
+        copies.clear();
+        copies.resize(n, state.clone());
+        let mut result = 0;
+        let start = Instant::now();
+        for copy in &mut copies {
+            result = black_box(run(copy));
+        }
+        let time = start.elapsed();
+        black_box(&copies);
+        (time, result)
+    })
+}
+
+fn event_lines(text: &[u8]) -> u64 {
+    lines(text).filter(|line| black_box(line).form.is_some_and(|form| form.is_event())).count() as u64
+}
+
+fn read_head(text: &[u8]) -> Head {
+    head::read(&mut lines(text)).expect("the loads are good")
+}
+
+fn plan(head: &Head, table: &mut Table) -> u64 {
+    let (frame, grants) = Frame::plan(head).expect("the loads are feasible");
+    table.copy_from_slice(frame.table());
+    black_box(table);
+    grants.iter().map(|&grant| u64::from(grant)).sum()
+}
+
+fn running_call(frame: &mut Frame, jobs: &[Job]) -> u64 {
+    let call = Call::new(jobs).expect("the loads are within limits");
+    frame.call(&call).map_or(REFUSED, u64::from)
+}
+
+fn checked_call(head: &Head, table: &mut Table, jobs: &[Job]) -> u64 {
+    let mut frame = Frame::resume(head, table, 1).expect("the loads are well-formed");
+    let result = running_call(&mut frame, jobs);
+    table.copy_from_slice(frame.table());
+    result
+}

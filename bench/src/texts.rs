@@ -1,0 +1,86 @@
+//! Station texts by seed: good ones of all sizes, and ones at fault in every way that a text can be.
+//!
+//! Each text has a kind, so that it can be told what a comparison has tried.
+
+mod damage;
+mod limits;
+mod numbers;
+mod places;
+pub mod rng;
+pub mod station;
+
+use rng::Rng;
+use station::{Size, Station, LARGE, LARGEST, MEDIUM, SMALL, TEXT_LIMIT, TINY};
+
+pub struct Text {
+    pub kind: &'static str,
+    pub bytes: Vec<u8>,
+}
+
+struct Kind {
+    name: &'static str,
+    /// Out of all weights together, how often it is drawn. Small texts meet more faults in the same time.
+    weight: usize,
+    make: fn(&mut Rng) -> Vec<u8>,
+}
+
+const KINDS: &[Kind] = &[
+    Kind { name: "tiny frame", weight: 14, make: |rng| sized(rng, TINY) },
+    Kind { name: "small frame", weight: 20, make: |rng| sized(rng, SMALL) },
+    Kind { name: "medium frame", weight: 14, make: |rng| sized(rng, MEDIUM) },
+    Kind { name: "large frame", weight: 8, make: |rng| sized(rng, LARGE) },
+    Kind { name: "largest frame", weight: 4, make: |rng| sized(rng, LARGEST) },
+    Kind { name: "full day", weight: 2, make: full_day },
+    Kind { name: "near full", weight: 6, make: limits::near_full },
+    Kind { name: "head limit", weight: 8, make: limits::head_limit },
+    Kind { name: "many presets", weight: 3, make: limits::many_presets },
+    Kind { name: "event limit", weight: 8, make: limits::event_limit },
+    Kind { name: "many jobs", weight: 3, make: limits::many_jobs },
+    Kind { name: "used number", weight: 6, make: places::used_number },
+    Kind { name: "misplaced line", weight: 6, make: places::misplaced },
+    Kind { name: "huge number", weight: 5, make: numbers::huge_number },
+    Kind { name: "bad number", weight: 4, make: numbers::bad_number },
+    Kind { name: "length limit", weight: 1, make: limits::length_limit },
+    Kind { name: "byte missing", weight: 5, make: damage::byte_missing },
+    Kind { name: "byte doubled", weight: 5, make: damage::byte_doubled },
+    Kind { name: "byte changed", weight: 5, make: damage::byte_changed },
+    Kind { name: "byte inserted", weight: 5, make: damage::byte_inserted },
+    Kind { name: "byte flipped", weight: 5, make: damage::byte_flipped },
+    Kind { name: "line damaged", weight: 5, make: damage::line_damaged },
+    Kind { name: "lacking form", weight: 5, make: damage::lacking_form },
+    Kind { name: "cut short", weight: 3, make: damage::cut_short },
+    Kind { name: "next to nothing", weight: 1, make: damage::next_to_nothing },
+    Kind { name: "empty lines", weight: 1, make: damage::empty_lines },
+    Kind { name: "noise", weight: 2, make: damage::noise },
+];
+
+/// The text of a seed.
+pub fn text(seed: u64) -> Text {
+    let mut rng = Rng::new(seed);
+    let mut draw = rng.below(KINDS.iter().map(|kind| kind.weight).sum());
+    for kind in KINDS {
+        if draw < kind.weight {
+            return Text { kind: kind.name, bytes: (kind.make)(&mut rng) };
+        }
+        draw -= kind.weight;
+    }
+    unreachable!("the draw is below the sum of all weights")
+}
+
+/// The kinds' names, in the order of the table above.
+pub fn kinds() -> impl Iterator<Item = &'static str> {
+    KINDS.iter().map(|kind| kind.name)
+}
+
+fn sized(rng: &mut Rng, size: Size) -> Vec<u8> {
+    Station::new(rng, size).bytes()
+}
+
+/// A frame of any size with events up to the text's limit, or to some length below it.
+fn full_day(rng: &mut Rng) -> Vec<u8> {
+    let size = *rng.pick(&[SMALL, MEDIUM, LARGE, LARGEST]);
+    let mut station = Station::head_only(rng, size);
+    let length = if rng.chance(50) { TEXT_LIMIT } else { rng.within(4_000..=TEXT_LIMIT) };
+    station.fill(rng, length);
+    station.bytes()
+}
