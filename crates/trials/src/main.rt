@@ -1,7 +1,7 @@
-// The frames to try, run: texts of heads, good and damaged, and what the reader says of each; then whole texts and their listings.
+// The frames to try, run: texts, good and damaged. Of each first what the reader says of its head, then its listing.
 //
 // A line `(accepted n b)` gives the number of the head's lines and bytes, followed by the head written again; a line `(refused n c)` the line and the cause's number.
-// A listing follows a line `(listing)`. What this program writes is compared with the stored output.
+// The listing follows a line `(listing)`. The texts stand in standard input, and what this program writes is compared with the stored output.
 use frame_print::print::write_listing;
 use station::types::Head;
 use station::types::Preset;
@@ -10,6 +10,11 @@ use station_borrowing::heads::read_head_borrowing;
 use station_borrowing::heads::write_head_borrowing;
 use station_heads::heads::ReadAnswer;
 use station_write::write::Writing;
+ghost use Prim.Native.Nat.{_≤_};
+ghost use lib.ListN.{length};
+
+// The byte between two texts, which no text among them has.
+const BETWEEN: u8 = 35;
 
 // The number that document 01 gives a cause.
 fn number_of(cause: Refusal) -> u64 {
@@ -84,69 +89,6 @@ fn show(text: &[u8]) {
     }
 }
 
-// Heads that are read.
-fn good() {
-    show(
-        b"(frame 4 2)\n(busy 2 (2 3))\n(preset 1 0 2 1)\n(preset 2 1 1 2)\n(clock 2)\n(call (9 2))\n",
-    );
-    show(b"(frame 64 8)\n(busy 1 (1 64))\n(busy 8 (1 1) (3 3) (64 64))\n(preset 255 9 64 64)\n");
-    show(b"(frame 1 1)\n");
-    show(b"(frame 1 1)\n(clock 0)\n");
-}
-
-// Line 1.
-fn first_lines() {
-    show(b"");
-    show(b"\n");
-    show(b"(frame 4 2)");
-    show(b"(clock 1)\n");
-    show(b"(preset 1 0 2 1)\n");
-    show(b"(busy 1 (1 1))\n");
-    show(b"(frame 18446744073709551618 2)\n");
-    show(b"(frame 65 2)\n");
-    show(b"(frame 0 2)\n");
-    show(b"(frame 4 9)\n");
-    show(b"(frame 04 2)\n");
-    show(b"(frame  4 2)\n");
-    show(b"(frame 4 2)\r\n");
-    show(b"(Frame 4 2)\n");
-}
-
-// Later lines.
-fn later_lines() {
-    show(b"(frame 4 2)\n\n");
-    show(b"(frame 4 2)\n(frame 4 2)\n");
-    show(b"(frame 4 2)\n(busy 1)\n");
-    show(b"(frame 4 2)\n(busy 0 (1 1))\n");
-    show(b"(frame 4 2)\n(busy 3 (1 1))\n");
-    show(b"(frame 4 2)\n(busy 1 (3 2))\n");
-    show(b"(frame 4 2)\n(busy 1 (1 2) (3 4))\n");
-    show(b"(frame 4 2)\n(busy 1 (1 5))\n");
-    show(b"(frame 4 2)\n(busy 2 (1 1))\n(busy 2 (3 3))\n");
-    show(b"(frame 4 2)\n(preset 1 0 1 1)\n(busy 1 (1 1))\n");
-    show(b"(frame 4 2)\n(preset 1 0 1 1)\n(preset 1 0 1 1)\n");
-    show(b"(frame 4 2)\n(preset 1 10 1 1)\n(preset 1 0 1 1)\n");
-    show(b"(frame 4 2)\n(preset 256 0 1 1)\n");
-    show(b"(frame 4 2)\n(preset 1 0 65 1)\n");
-    show(b"(frame 4 2)\n(preset 1 0 1 1)\n(clock 1");
-}
-
-// A 33rd preset.
-fn many_presets() {
-    show(
-        b"(frame 1 1)\n(preset 1 0 0 0)\n(preset 2 0 0 0)\n(preset 3 0 0 0)\n(preset 4 0 0 0)\n(preset 5 0 0 0)\n(preset 6 0 0 0)\n(preset 7 0 0 0)\n(preset 8 0 0 0)\n(preset 9 0 0 0)\n(preset 10 0 0 0)\n(preset 11 0 0 0)\n(preset 12 0 0 0)\n(preset 13 0 0 0)\n(preset 14 0 0 0)\n(preset 15 0 0 0)\n(preset 16 0 0 0)\n(preset 17 0 0 0)\n(preset 18 0 0 0)\n(preset 19 0 0 0)\n(preset 20 0 0 0)\n(preset 21 0 0 0)\n(preset 22 0 0 0)\n(preset 23 0 0 0)\n(preset 24 0 0 0)\n(preset 25 0 0 0)\n(preset 26 0 0 0)\n(preset 27 0 0 0)\n(preset 28 0 0 0)\n(preset 29 0 0 0)\n(preset 30 0 0 0)\n(preset 31 0 0 0)\n(preset 32 0 0 0)\n(preset 33 0 0 0)\n",
-    );
-}
-
-// The longest text that is read, and one byte more; a text of zeros.
-fn long_texts() {
-    let ends = [10u8; 32769];
-    show(&ends[..32768]);
-    show(&ends);
-    let zeros = [0u8; 64];
-    show(&zeros);
-}
-
 // Runs a whole text and writes its listing.
 fn run(text: &[u8]) {
     let mut table = [0u16; 512];
@@ -159,46 +101,50 @@ fn run(text: &[u8]) {
     }
 }
 
-// The clock: the same again, back, past the end; a call when every slot has gone by.
-fn clocks() {
-    run(
-        b"(frame 4 1)\n(clock 3)\n(clock 3)\n(clock 2)\n(clock 0)\n(clock 5)\n(clock 6)\n(call (1 1))\n",
-    );
+// Tries a text: its head, then the whole.
+fn try_text(text: &[u8]) {
+    show(text);
+    run(text);
 }
 
-// No text, no presets, and a call with a number twice.
-fn small_texts() {
-    run(b"");
-    run(b"(frame 2 1)\n");
-    run(b"(frame 4 1)\n(call (5 1) (5 1))\n");
+// The longest text that is read, and one byte more; a text of zeros.
+fn long_texts() {
+    let ends = [10u8; 32769];
+    try_text(&ends[..32768]);
+    try_text(&ends);
+    let zeros = [0u8; 64];
+    try_text(&zeros);
 }
 
-// Lines at fault after an event: no form, a head's line, limits, no byte 10. Each is answered, and the next one is heard.
-fn faulty_lines() {
-    run(
-        b"(frame 2 2)\n(preset 7 0 1 1)\n(clock 1)\n\n(frame 2 2)\n(busy 1 (1 1))\n(call)\n(call (1 0))\n(call (256 1))\n(call (1 65))\n(call (1 1) (2 1) (3 1) (4 1) (5 1) (6 1) (7 1) (8 1) (9 1))\n(call (7 1))\n(call (1 2))\n(call (1 1))\n(call (2 1)",
-    );
+// Where the text that begins at a place of the input ends: before the next byte between two texts, or with the input.
+fn text_end(input: &[u8], from: usize) -> usize
+    requires { ⌜ from ≤ length (now input) ⌝ }
+    ensures { λ r. ⌜ (from ≤ r) × (r ≤ length (now (input .entry))) ⌝ }
+{
+    let mut end = from;
+    while end < input.len() {
+        if input[end] == BETWEEN {
+            return end;
+        }
+        end += 1;
+    }
+    end
 }
 
-// Whom a call costs: the worse preset, and the latest slot of one preset.
-fn costs() {
-    run(
-        b"(frame 3 1)\n(preset 1 0 0 1)\n(preset 2 9 0 2)\n(call (3 1))\n(call (4 1))\n(call (5 1))\n(call (6 1))\n",
-    );
-    run(
-        b"(frame 4 2)\n(busy 2 (2 3))\n(preset 1 0 2 1)\n(preset 2 1 1 2)\n(clock 2)\n(call (9 2))\n(call (10 1))\n(call (11 1))\n",
-    );
-    run(b"(frame 2 2)\n(preset 1 0 3 0)\n(clock 1)\n");
+// Tries each text of the input.
+fn try_texts(input: &[u8]) {
+    let mut from = 0;
+    while from <= input.len() {
+        let end = text_end(input, from);
+        try_text(&input[from..end]);
+        from = end + 1;
+    }
 }
 
 fn main() {
-    good();
-    first_lines();
-    later_lines();
-    many_presets();
     long_texts();
-    clocks();
-    small_texts();
-    faulty_lines();
-    costs();
+    let mut input = [0u8; 8192];
+    let n = io::read_full(0, &mut input);
+    let texts = &input[0..n];
+    try_texts(texts);
 }
