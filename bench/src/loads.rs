@@ -83,11 +83,16 @@ pub fn jobs(count: usize, length: usize) -> Vec<Job> {
     (0..count).map(|place| Job { number: 200 + place as u8, length: length as u8 }).collect()
 }
 
+/// The line of a call.
+pub fn call_line(jobs: &[Job]) -> Vec<u8> {
+    let list: Vec<String> = jobs.iter().map(|job| format!("({} {})", job.number, job.length)).collect();
+    format!("(call {})\n", list.join(" ")).into_bytes()
+}
+
 /// A head, and the same call after it so many times.
 pub fn repeated_call(head: Vec<u8>, jobs: &[Job], times: usize) -> Vec<u8> {
-    let list: Vec<String> = jobs.iter().map(|job| format!("({} {})", job.number, job.length)).collect();
     let mut text = head;
-    text.extend_from_slice(format!("(call {})\n", list.join(" ")).repeat(times).as_bytes());
+    text.extend_from_slice(&call_line(jobs).repeat(times));
     assert!(text.len() <= TEXT_LIMIT, "the text would be refused whole");
     text
 }

@@ -1,11 +1,11 @@
-//! The proved planner. All of the foreign interface is here.
+//! The proved planner. All of the foreign interface is here: what include/planner.h promises, over slices.
 
 /// Output bytes that every text's listing fits in: a text of 32,768 bytes has at most that many lines, and a refused
 /// line takes 18 bytes.
 pub const OUT: usize = 1 << 20;
 
 #[cfg(feature = "archive")]
-pub use archive::listing;
+pub use archive::{event, listing, plan, run_text, Running, GRANTS};
 #[cfg(not(feature = "archive"))]
 pub use program::listing;
 
@@ -14,22 +14,157 @@ pub const IN_PROCESS: bool = cfg!(feature = "archive");
 
 #[cfg(feature = "archive")]
 mod archive {
+    use crate::frame::{Table, CELLS};
+
+    use super::OUT;
+
+    const FRAME: usize = 12;
+    const PRESETS: usize = 128;
+    pub const GRANTS: usize = 32;
+
+    /// "Text above 32,768 bytes": refused before anything is written.
+    const TEXT_TOO_LONG: u32 = 10;
+
     extern "C" {
-        fn plan_listing(
+        fn planner_listing(
             text: *const u8,
             text_len: usize,
             table: *mut u16,
             table_len: usize,
             out: *mut u8,
             out_len: usize,
-        ) -> usize;
+            bytes: *mut u64,
+        ) -> u32;
+
+        fn planner_run_text(
+            text: *const u8,
+            text_len: usize,
+            frame: *mut u64,
+            frame_len: usize,
+            presets: *mut u8,
+            presets_len: usize,
+            table: *mut u16,
+            table_len: usize,
+            out: *mut u8,
+            out_len: usize,
+            end: *mut u64,
+        ) -> u32;
+
+        fn planner_plan(
+            frame: *const u64,
+            frame_len: usize,
+            presets: *const u8,
+            presets_len: usize,
+            table: *mut u16,
+            table_len: usize,
+            grants: *mut u8,
+            grants_len: usize,
+        ) -> u32;
+
+        fn planner_event(
+            frame: *mut u64,
+            frame_len: usize,
+            presets: *const u8,
+            presets_len: usize,
+            table: *mut u16,
+            table_len: usize,
+            line: *const u8,
+            line_len: usize,
+            number: *mut u64,
+        ) -> u32;
     }
 
-    /// Writes the listing of a text to the front of `out` and yields its length.
+    // SAFETY, of all four: each pointer comes with the length of the slice that it was taken from, no two overlap, and
+    // none is kept after the call.
+
+    /// Writes the listing of a text to the front of `out` and yields its length. Of a text that is too long the program
+    /// prints the one line of its refusal.
     pub fn listing(text: &[u8], table: &mut [u16], out: &mut [u8]) -> usize {
-        // SAFETY: each pointer comes with the length of the slice that it was taken from, the three do not overlap,
-        // and none is kept after the call.
-        unsafe { plan_listing(text.as_ptr(), text.len(), table.as_mut_ptr(), table.len(), out.as_mut_ptr(), out.len()) }
+        let mut bytes = 0;
+        let cause = unsafe {
+            planner_listing(
+                text.as_ptr(),
+                text.len(),
+                table.as_mut_ptr(),
+                table.len(),
+                out.as_mut_ptr(),
+                out.len(),
+                &mut bytes,
+            )
+        };
+        if cause == TEXT_TOO_LONG {
+            let line = b"(refused 0 10)\n";
+            out[..line.len()].copy_from_slice(line);
+            return line.len();
+        }
+        assert_eq!(cause, 0, "the buffers are long enough");
+        bytes as usize
+    }
+
+    /// A frame as it crosses the boundary: the head's numbers with the clock, the preset records, the table.
+    #[derive(Clone)]
+    pub struct Running {
+        frame: [u64; FRAME],
+        presets: [u8; PRESETS],
+        pub table: Table,
+    }
+
+    /// Runs a text, which must be a good one, and yields the frame that it leaves.
+    pub fn run_text(text: &[u8]) -> Running {
+        let mut running = Running { frame: [0; FRAME], presets: [0; PRESETS], table: [0; CELLS] };
+        let (mut out, mut end) = (vec![0; OUT], 0);
+        let cause = unsafe {
+            planner_run_text(
+                text.as_ptr(),
+                text.len(),
+                running.frame.as_mut_ptr(),
+                FRAME,
+                running.presets.as_mut_ptr(),
+                PRESETS,
+                running.table.as_mut_ptr(),
+                CELLS,
+                out.as_mut_ptr(),
+                OUT,
+                &mut end,
+            )
+        };
+        assert_eq!(cause, 0, "the text is good");
+        running
+    }
+
+    /// Plans the head of a frame into its table; the grants are in file order.
+    pub fn plan(running: &mut Running, grants: &mut [u8; GRANTS]) -> u32 {
+        unsafe {
+            planner_plan(
+                running.frame.as_ptr(),
+                FRAME,
+                running.presets.as_ptr(),
+                PRESETS,
+                running.table.as_mut_ptr(),
+                CELLS,
+                grants.as_mut_ptr(),
+                GRANTS,
+            )
+        }
+    }
+
+    /// One event line on a frame, which is checked first: how many cells it evicts or the new clock, or the refusal.
+    pub fn event(running: &mut Running, line: &[u8]) -> Result<u64, u32> {
+        let mut number = 0;
+        let cause = unsafe {
+            planner_event(
+                running.frame.as_mut_ptr(),
+                FRAME,
+                running.presets.as_ptr(),
+                PRESETS,
+                running.table.as_mut_ptr(),
+                CELLS,
+                line.as_ptr(),
+                line.len(),
+                &mut number,
+            )
+        };
+        if cause == 0 { Ok(number) } else { Err(cause) }
     }
 }
 

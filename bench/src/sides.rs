@@ -46,10 +46,12 @@ pub fn independent(load: &Load) -> Option<Run<'_>> {
     })
 }
 
-/// The proved planner: the loads that its interface has, once it is in this process.
+/// The proved planner, once it is in this process: the loads that its interface has. It reads no line by itself, and
+/// every event that is handed over alone is a checked one.
+#[cfg(feature = "archive")]
 pub fn proved(load: &Load) -> Option<Run<'_>> {
     match load {
-        Load::Listing(text) if proved::IN_PROCESS => {
+        Load::Listing(text) => {
             let (mut table, mut out) = (vec![0; CELLS], vec![0; proved::OUT]);
             Some(repeated(move || {
                 let length = proved::listing(black_box(text), &mut table, &mut out);
@@ -57,8 +59,27 @@ pub fn proved(load: &Load) -> Option<Run<'_>> {
                 black_box(&out[..length]).len() as u64
             }))
         }
-        _ => None,
+        Load::Plan(text) => {
+            let (mut running, mut grants) = (proved::run_text(text), [0; proved::GRANTS]);
+            Some(repeated(move || {
+                assert_eq!(proved::plan(black_box(&mut running), &mut grants), 0, "the loads are feasible");
+                black_box(&running.table);
+                grants.iter().map(|&grant| u64::from(grant)).sum()
+            }))
+        }
+        Load::CheckedCall(text, jobs) => {
+            let line = crate::loads::call_line(jobs);
+            Some(each(proved::run_text(text), move |running| {
+                proved::event(running, black_box(&line)).unwrap_or(REFUSED)
+            }))
+        }
+        Load::Read(_) | Load::Call(..) => None,
     }
+}
+
+#[cfg(not(feature = "archive"))]
+pub fn proved(_load: &Load) -> Option<Run<'_>> {
+    None
 }
 
 /// Whether both print the same for a listing's load. Other loads are not asked, nor is a proved planner elsewhere.

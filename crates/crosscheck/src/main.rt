@@ -1,63 +1,59 @@
 // The planner of crates/placing beside a second one, which is written from document 01 and tries every placement of small frames.
 //
-// Each line that begins `(differs` names a case in which the two differ, or in which the library's table is not valid or not the best one. What this program writes
-// is compared with the stored output, which ends with no difference.
+// Each line that begins `(differs` gives a case in which the two differ, or in which their answer is not the best one. What this program writes is compared with the
+// stored output, which ends with no difference.
 mod library; // library.rt: the library's planner on small heads
 mod compare; // compare.rt: both planners, and what differs
 mod family; // family.rt: the heads, tables and calls that are tried
 
-use compare::CALLS;
-use compare::DIFFERENCES;
-use compare::EVICTED;
-use compare::LISTS;
-use compare::NOT_FEASIBLE;
-use compare::NUMBER_USED;
-use compare::PLANS;
-use compare::PLANS_REFUSED;
-use compare::TABLES;
-use compare::TAKEN;
-use compare::counted_at;
-use family::try_frame;
+use family::try_code;
+use small_frames::packed::field;
+use std::num::wrapping_add_u64;
 
-// Writes a word, a count and the end of the line.
-fn line(word: &[u8], n: u64) {
-    io::write_all(1, word);
-    io::write_all(1, b" ");
-    io::print_decimal(1, n);
-    io::write_all(1, b"\n");
+// Adds a tally, field by field, to what is counted.
+fn add(counts: &mut [u64; 8], tally: usize) {
+    let mut i = 0;
+    while i < 8 {
+        counts[i] = wrapping_add_u64(counts[i], field(tally, i) as u64);
+        i += 1;
+    }
 }
 
-// Writes the counts of plans.
-fn write_plans(counts: [u64; 10]) {
-    line(b"plans", counted_at(counts, PLANS));
-    line(b"plans refused", counted_at(counts, PLANS_REFUSED));
-    line(b"tables", counted_at(counts, TABLES));
-    line(b"lists", counted_at(counts, LISTS));
+// Tries all, and counts.
+fn try_all(counts: &mut [u64; 8]) {
+    let mut code = 0;
+    while code < 133056 {
+        add(counts, try_code(code));
+        code += 1;
+    }
 }
 
-// Writes the counts of calls.
-fn write_calls(counts: [u64; 10]) {
-    line(b"calls", counted_at(counts, CALLS));
-    line(b"calls taken", counted_at(counts, TAKEN));
-    line(b"calls refused by 7", counted_at(counts, NOT_FEASIBLE));
-    line(b"calls refused by 4", counted_at(counts, NUMBER_USED));
-    line(b"cells evicted", counted_at(counts, EVICTED));
+// Writes the words of a count, 16 bytes each.
+fn write_words(words: &[u8], i: usize) {
+    let from = i % 8 * 16;
+    let to = from + 16;
+    if to <= words.len() {
+        io::write_all(1, &words[from..to]);
+    }
+}
+
+// Writes each count after its words. The first is the third, so that the differences stand last.
+fn write_counts(words: &[u8], counts: [u64; 8]) {
+    let mut i = 0;
+    while i < 8 {
+        let at = (i + 2) % 8;
+        write_words(words, i);
+        io::print_decimal(1, counts[at]);
+        io::write_all(1, b"\n");
+        i += 1;
+    }
 }
 
 fn main() {
-    let mut counts = [0u64; 10];
-    try_frame(&mut counts, 1, 1, 1);
-    try_frame(&mut counts, 1, 2, 2);
-    try_frame(&mut counts, 1, 3, 3);
-    try_frame(&mut counts, 2, 1, 2);
-    try_frame(&mut counts, 2, 2, 4);
-    try_frame(&mut counts, 2, 3, 6);
-    try_frame(&mut counts, 3, 1, 3);
-    try_frame(&mut counts, 3, 2, 6);
-    try_frame(&mut counts, 4, 1, 4);
-    try_frame(&mut counts, 5, 1, 5);
-    try_frame(&mut counts, 6, 1, 6);
-    write_plans(counts);
-    write_calls(counts);
-    line(b"differences", counted_at(counts, DIFFERENCES));
+    let mut counts = [0u64; 8];
+    try_all(&mut counts);
+    write_counts(
+        b"lists of calls  cells evicted   calls refused 4 plans refused 5 plans granted   calls refused 7 calls taken     differences     ",
+        counts,
+    );
 }

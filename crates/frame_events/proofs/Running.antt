@@ -2,7 +2,7 @@
 --
 -- In order: what is asked for on a frame that meets no cause (`asked-stopped`, `asked-carried`); a clock, a law for each answer; an event line as it was read,
 -- a law for what each asks (`line-clock`, `line-place`, `line-fault`), and that it is what the line asks for (`asked-read`); the causes of the frame
--- (`frame-passes`, `frame-of-running`); where none is met, a line and a clock come to what the event does (`line-event`, `line-done`, `clock-done`); a law for
+-- (`frame-passes`); where none is met, a line and a clock come to what the event does (`line-event`, `line-done`, `clock-done`); a law for
 -- each answer of an entry; the frame afterwards (`done-running`).
 -- Assumes nothing.
 use Prim.Native.Nat.{ℕ, zero, suc, _-_, _≤_, _<_}
@@ -13,16 +13,16 @@ use mathlib.Core.Option.{Option, none, some}
 use mathlib.Core.List.{List, [], _∷_, _++_}
 use lib.ListN.{length}
 use lib.Dec.{ltb, leb}
-use Rattle.laws.proofs.Sums.{Is, is, is-true, is-false, clash, ge-of, gt-of, le-of, leb-no, ltb-yes, ltb-no, both, left-of, right-of}
-use Rattle.laws.proofs.Every.{not-is-true, not-is-false, true-of-not}
+use Rattle.laws.proofs.Sums.{Is, is, is-true, is-false, clash, gt-of, le-of, leb-no, ltb-yes, ltb-no, both, left-of, right-of}
+use Rattle.laws.proofs.Every.{not-is-true, not-is-false}
 use Rattle.laws.proofs.Loops.{fails-left, fails-right}
 use Rattle.station.specs.Head.{Head, Job, within}
-use Rattle.station.specs.Refusal.{Refusal, outOfLimits, clockBack, tooShort, notWellFormed, try, firstOf}
+use Rattle.station.specs.Refusal.{Refusal, outOfLimits, clockBack, firstOf}
 use Rattle.station.specs.Form.{Form, frameLine, busyLine, presetLine, clockLine, callLine, jobsOf, form}
 use Rattle.station_scan.specs.Numeral.{seen}
 use Rattle.station_scan.specs.Jobs.{padded}
 use Rattle.station_forms.specs.Event.{jobInLimits, jobsInLimits, callInLimits, eventIn}
-use Rattle.station.specs.Types.{headIn, validRecord, refusalIn}
+use Rattle.station.specs.Types.{headIn, refusalIn}
 use Rattle.station.specs.declared.types.Preset as record-of-preset
 use Rattle.station.specs.declared.types.Head as record-of-head
 use Rattle.station.specs.declared.types.Refusal as refusal
@@ -30,22 +30,22 @@ use Rattle.station.specs.declared.types.Refusal.the-variants.{OutOfLimits, Cloc
 use Rattle.station_forms.specs.declared.events.Event as read
 use Rattle.station_forms.specs.declared.events.Event.the-variants.{SetClock, Place, Fault}
 use Rattle.station_forms.specs.declared.events.EventRead.{EventRead}
-use Rattle.station.proofs.Refusal.{passed, first-of-none, first-none, append-none, append-some, left-none}
+use Rattle.station.proofs.Refusal.{passed, first-of-none, append-none, append-some, left-none}
 use Rattle.station.proofs.Head.{within-high, of-within}
 use Rattle.placing_check.specs.declared.cause.Cause as cause
 use Rattle.placing_check.specs.declared.cause.Cause.the-variants.{Met, Passed}
 use Rattle.placing_call.specs.declared.call.CallAnswer as reply
 use Rattle.placing.specs.Valid.{jobAt}
 use Rattle.placing.specs.CallJobs.{jobsIn}
-use Rattle.placing.specs.Entries.{frameAtFault, frameCauses, jobsOutside, CallOutcome, callOf}
+use Rattle.placing.specs.Entries.{frameCauses, jobsOutside, CallOutcome, callOf}
 use Rattle.placing_check.specs.Causes.{causesOf}
 use Rattle.placing_check.specs.Causes.{causeIn, frameCausesOf, callJobs}
 use Rattle.placing_call.specs.Calling.{takenIn, callMeant, CallDone}
 use Rattle.placing.specs.Claims.{Running}
-use Rattle.placing.proofs.Causes.{met, recordCauses, no-record-cause, of-running, jobs-inside}
-use Rattle.placing_grants.proofs.Granted.{record-valid}
-use Rattle.placing_check.proofs.Tried.{causes-none}
-use Rattle.placing_check.proofs.Tried.{call-jobs, frame-known}
+use Rattle.placing.proofs.Causes.{met, jobs-inside}
+use Rattle.placing_check.proofs.Checking.{record-valid}
+use Rattle.placing_check.proofs.Tried.{eleven, frame-known, same-frame}
+use Rattle.placing_counts.proofs.Tried.{call-jobs}
 use Rattle.frame.specs.declared.types.Answer.the-variants.{Now, Refused}
 use Rattle.frame.specs.declared.types.Outcome as result
 use Rattle.frame.specs.Event.{Event, line, clock, call, Asked, setClock, place, fault, askedByForm, asked, now, refused, State, Outcome}
@@ -266,27 +266,11 @@ module _ (h : Head) (st : State) (free : firstOf (frameCauses h (st .clock) (st 
 -- ---- the causes of the frame
 
 module _ (head : record-of-head.Head) (ps : List record-of-preset.Preset) (c : ℕ) (t : List ℕ) where
-  abbrev eleven : List (Option Refusal)
-  eleven = try notWellFormed (frameAtFault (headIn head ps) c t) ∷ []
-
-  -- where the table and the head record meet no cause, the causes of the frame are those of the head
-  same-frame : firstOf (causesOf head ps t) ≡ none → firstOf (frameCausesOf head ps c t) ≡ firstOf (frameCauses (headIn head ps) c t)
-  same-frame e =
-      let eight = first-none tooShort (ltb (length t) 512) _ e in
-      let two = first-none outOfLimits (not (validRecord head ps)) [] (eight .1) in
-      append-none (causesOf head ps t) eleven e
-      ∙ sym (append-none (recordCauses (headIn head ps) t) eleven
-      (no-record-cause (headIn head ps) t (ge-of (length t) 512 (eight .0)) (record-valid head ps (true-of-not _ (two .0)))))
-
   record-passes : firstOf (frameCausesOf head ps c t) ≡ none → firstOf (causesOf head ps t) ≡ none
-  record-passes e = left-none (causesOf head ps t) eleven e
+  record-passes e = left-none (causesOf head ps t) (eleven head ps c t) e
 
   frame-passes : firstOf (frameCausesOf head ps c t) ≡ none → firstOf (frameCauses (headIn head ps) c t) ≡ none
-  frame-passes e = sym (same-frame (record-passes e)) ∙ e
-
-  -- a running frame meets none
-  pub frame-of-running : validRecord head ps ≡ true → Running (headIn head ps) c t → firstOf (frameCausesOf head ps c t) ≡ none
-  frame-of-running v run = same-frame (causes-none head ps t (run .long) v) ∙ of-running (headIn head ps) c t run
+  frame-passes e = sym (same-frame head ps c t (record-passes e)) ∙ e
 
   pub frame-free : {w : cause.Cause} → causeIn w ≡ firstOf (frameCausesOf head ps c t) → w ≡ Passed → firstOf (frameCausesOf head ps c t) ≡ none
   frame-free e p = sym e ∙ ap causeIn p

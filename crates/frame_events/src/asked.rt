@@ -2,13 +2,19 @@
 use frame::types::Answer;
 use frame::types::Outcome;
 use placing_call::call::CallAnswer;
-use placing_call::call::call_by_value;
+use placing_call::call::call_by_counts;
+use placing_counts::counts::Counts;
 use station::types::Head;
 use station::types::Preset;
 use station::types::Refusal;
 use station_forms::events::Event;
 use station_forms::events::read_event;
 ghost use mathlib.Core.Path.{_≡_};
+ghost use mathlib.Core.Bool.{true};
+ghost use Rattle.station.specs.Types.{headIn, validRecord};
+ghost use Rattle.placing.specs.Table.{cell};
+ghost use Rattle.placing.specs.Claims.{Running};
+ghost use Rattle.placing_counts.specs.Counts.{CountsOf};
 ghost use Rattle.placing_call.specs.Calling.{takenIn};
 ghost use Rattle.frame.specs.Types.{answerIn};
 ghost use Rattle.frame.specs.Event.{answerOf};
@@ -58,17 +64,19 @@ fn call_outcome(answer: CallAnswer, clock: usize) -> Outcome
     }
 }
 
-// An event line by what it asks for alone: its clock is set, its call placed, or its fault handed back. Of the frame a clock looks at the number of slots only and
-// a faulty line at nothing; a call tries the frame's own causes itself. It is a part of `event_by_value` and of the loop over a text's lines, which have tried these causes,
-// so that it comes to what the event does.
-pub fn asked_event(
+// An event line on a running frame, by what it asks for alone: its clock is set, its call placed by the counts of the table and the clock, or its fault handed back. It is a
+// part of `event_by_value` and of the loop over a text's lines: they have tried the frame's own causes, and the loop keeps the counts between events.
+pub fn event_by_counts(
     head: Head,
     presets: [Preset; 32],
     table: &mut [u16],
     clock: usize,
+    counts: Counts,
     line: &[u8],
 ) -> Outcome
-    ensures { λ r. ⌜ Yields (lineMeant head presets (stateOf (now (table .entry)) clock) (now (line .entry))) (now (table .exit)) r ⌝ }
+    ensures { λ r. ⌜ (validRecord head presets ≡ true → Running (headIn head presets) clock (now (table .entry))
+        → CountsOf (headIn head presets) clock (cell (headIn head presets) (now (table .entry))) counts
+        → Yields (lineMeant head presets (stateOf (now (table .entry)) clock) (now (line .entry))) (now (table .exit)) r) ⌝ }
 {
     let read = read_event(line);
     let event = read.event;
@@ -76,7 +84,7 @@ pub fn asked_event(
     match event {
         Event::SetClock(t) => asked_clock(head.slots, clock, t as usize),
         Event::Place(n) => {
-            let answer = call_by_value(head, presets, table, clock, jobs, n);
+            let answer = call_by_counts(head, presets, table, clock, jobs, n, counts);
             call_outcome(answer, clock)
         }
         Event::Fault(cause) => Outcome {

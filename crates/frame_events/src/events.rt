@@ -1,9 +1,10 @@
 // One event line on the running frame, the presets by value.
-use crate::asked::asked_event;
+use crate::asked::event_by_counts;
 use frame::types::Answer;
 use frame::types::Outcome;
 use placing_check::cause::Cause;
 use placing_check::cause::frame_cause;
+use placing_counts::counts::counts_of;
 use station::types::Head;
 use station::types::Preset;
 ghost use mathlib.Core.List.{[], _∷_};
@@ -33,5 +34,6 @@ pub fn event_by_value(
             clock,
         };
     }
-    asked_event(head, presets, table, clock, line)
+    let counts = counts_of(head, presets, table, clock);
+    event_by_counts(head, presets, table, clock, counts, line)
 }

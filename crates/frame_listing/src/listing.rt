@@ -23,7 +23,7 @@ ghost use Rattle.frame.specs.Listing.{refusedLine, grantedLine, answerLine, gra
 ghost use Rattle.frame_listing.specs.SlotLines.{ofBridges, letterOf, lineOfSlot, linesOfSlots};
 
 // The paper's number of a cause.
-fn cause_number(cause: Refusal) -> usize
+pub fn cause_number(cause: Refusal) -> usize
     ensures { λ r. ⌜ r ≡ numberOf (refusalIn cause) ⌝ }
 {
     match cause {

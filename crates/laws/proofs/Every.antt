@@ -266,7 +266,10 @@ sum-split m (suc n) f = rw (add-suc m n) (omega (arith, sum-split m n f))
 sum-from : (m n : ℕ) (f : ℕ → ℕ) → m ≤ n → sum n f ≡ sum m f + sum (n - m) (λ i. f (m + i))
 sum-from m n f h = let q : n ≡ m + (n - m) = omega arith in ap (λ (k : ℕ). sum k f) q ∙ sum-split m (n - m) f
 
--- a sum whose terms from m on are 0, and a term from m on beside the terms below m
+-- fewer terms; a sum whose terms from m on are 0; and a term from m on beside the terms below m
+pub sum-mono : (m n : ℕ) (f : ℕ → ℕ) → m ≤ n → sum m f ≤ sum n f
+sum-mono m n f h = omega (arith, sum-from m n f h)
+
 pub sum-below : (m n : ℕ) (f : ℕ → ℕ) → m ≤ n → ((i : ℕ) → m ≤ i → i < n → f i ≡ 0) → sum m f ≡ sum n f
 sum-below m n f h z = omega (arith, sum-from m n f h, sum-zero (n - m) (λ i. f (m + i)) (λ i l. z (m + i) (omega arith) (omega arith)))
 

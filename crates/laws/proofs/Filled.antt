@@ -54,6 +54,14 @@ FilledBelow f n m = (q : ℕ) → getD m q 0 ≡ only (ltb q n) (f q)
 pub filled-none : (k : ℕ) (f : ℕ → ℕ) → FilledBelow f 0 (replicate k 0)
 filled-none k f q = rw (ltb-no q 0 (omega arith)) (zeros k q)
 
+-- nor where there is nothing to fill in below n
+pub filled-from : (k : ℕ) (f : ℕ → ℕ) (n : ℕ) → ((q : ℕ) → q < n → f q ≡ 0) → FilledBelow f n (replicate k 0)
+filled-from k f n h q = zeros k q ∙ sym (go (is (ltb q n)))
+  where
+    go : Is (ltb q n) → only (ltb q n) (f q) ≡ 0
+    go (is-true e) = rw e (h q (lt-of q n e))
+    go (is-false e) = rw e
+
 pub filled-more : (m : List ℕ) (f : ℕ → ℕ) (n v : ℕ) → n < length m → FilledBelow f n m → v ≡ f n → FilledBelow f (n + 1) (set m n v)
 filled-more m f n v inside h e q = go (is (eqb q n))
   where

@@ -110,33 +110,40 @@ exchange true false c t f g = omega (arith, g refl)
 exchange false true c t f g = omega (arith, f refl)
 exchange false false c t f g = le-refl 0
 
--- no selection needs more than as many of the largest
-pub largest-bounds : (k : ℕ) (c : ℕ → ℕ) (p : ℕ → Bool) → sum k (λ i. only (p i) (c i)) ≤ largest k c (count k p)
-largest-bounds k c p =
-    omega (
-      arith,
-      sum-le k (λ i. only (p i) (c i) + only (q i) t) (λ i. only (q i) (c i) + only (p i) t) term,
-      sum-add k (λ i. only (p i) (c i)) (λ i. only (q i) t),
-      sum-add k (λ i. only (q i) (c i)) (λ i. only (p i) t),
-      sum-only-const k p t,
-      sum-only-const k q t,
-      ap (λ (r : ℕ). r * t) (position-count (before-total c) k (count k p) (count-le k p)),
-    )
+-- a need t by which the r largest bound every selection: t for each job more, and t less for each job fewer
+pub largest-slope : (k : ℕ) (c : ℕ → ℕ) (r : ℕ) → r ≤ k
+    → (t : ℕ) × ((p : ℕ → Bool) → sum k (λ i. only (p i) (c i)) + r * t ≤ largest k c r + count k p * t)
+largest-slope k c r h = (w .0, λ p. bounds p)
   where
-    w : (t : ℕ) × ((i : ℕ) → i < k → position k (before c) i < count k p → t ≤ c i) ×
-        ((i : ℕ) → i < k → count k p ≤ position k (before c) i → c i ≤ t)
-    w = threshold k c (count k p) (count-le k p)
+    w : (t : ℕ) × ((i : ℕ) → i < k → position k (before c) i < r → t ≤ c i) × ((i : ℕ) → i < k → r ≤ position k (before c) i → c i ≤ t)
+    w = threshold k c r h
 
     t : ℕ
     t = w .0
 
     q : ℕ → Bool
-    q i = ltb (position k (before c) i) (count k p)
+    q i = ltb (position k (before c) i) r
 
-    term : (i : ℕ) → i < k → only (p i) (c i) + only (q i) t ≤ only (q i) (c i) + only (p i) t
-    term i l =
-        exchange (p i) (q i) (c i) t (λ e. w .1 i l (lt-of (position k (before c) i) (count k p) e))
-        (λ e. w .2 i l (ge-of (position k (before c) i) (count k p) e))
+    term : (p : ℕ → Bool) (i : ℕ) → i < k → only (p i) (c i) + only (q i) t ≤ only (q i) (c i) + only (p i) t
+    term p i l =
+        exchange (p i) (q i) (c i) t (λ e. w .1 i l (lt-of (position k (before c) i) r e))
+        (λ e. w .2 i l (ge-of (position k (before c) i) r e))
+
+    bounds : (p : ℕ → Bool) → sum k (λ i. only (p i) (c i)) + r * t ≤ largest k c r + count k p * t
+    bounds p =
+        omega (
+          arith,
+          sum-le k (λ i. only (p i) (c i) + only (q i) t) (λ i. only (q i) (c i) + only (p i) t) (term p),
+          sum-add k (λ i. only (p i) (c i)) (λ i. only (q i) t),
+          sum-add k (λ i. only (q i) (c i)) (λ i. only (p i) t),
+          sum-only-const k p t,
+          sum-only-const k q t,
+          ap (λ (m : ℕ). m * t) (position-count (before-total c) k r h),
+        )
+
+-- no selection needs more than as many of the largest
+pub largest-bounds : (k : ℕ) (c : ℕ → ℕ) (p : ℕ → Bool) → sum k (λ i. only (p i) (c i)) ≤ largest k c (count k p)
+largest-bounds k c p = omega (arith, largest-slope k c (count k p) (count-le k p) .1 p)
 
 -- and the r largest are a selection of size r
 pub largest-attained : (k : ℕ) (c : ℕ → ℕ) (r : ℕ) → r ≤ k → (p : ℕ → Bool) × (count k p ≡ r) × (sum k (λ i. only (p i) (c i)) ≡ largest k c r)

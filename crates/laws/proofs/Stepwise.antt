@@ -1,7 +1,7 @@
 -- Capacities and the search, one cell at a time.
 --
--- In order: the greatest of equal numbers (`greatest-ext`); the capacity with one slot more and with one cell more (`capacity-more`, `capacity-put`); the
--- search at its first cell (`searched-true`, `searched-false`); from counts that agree below n it finds the same (`searched-same`, `added-same`).
+-- In order: the greatest of equal numbers (`greatest-ext`); the capacity with one slot more, with one cell more and for one job more (`capacity-more`, `capacity-put`,
+-- `capacity-next`); a sum with one more (`sum-put`); the search at its first cell (`searched-true`, `searched-false`); from counts that agree below n it finds the same (`searched-same`, `added-same`).
 -- Assumes nothing.
 use Prim.Native.Nat.{ℕ, zero, suc, _+_, _*_, _-_, _≤_, _<_, min}
 use native.Mathlib.Numerals.{add-one}
@@ -9,11 +9,11 @@ use native.Mathlib.Omega.{arith}
 use mathlib.Core.Path.{_≡_, refl, sym, _∙_, ap}
 use mathlib.Core.Bool.{Bool, true, false}
 use mathlib.Core.List.{List, [], _∷_}
-use lib.Dec.{ltb}
-use Rattle.laws.specs.Sums.{bit, sum, only, greatest}
+use lib.Dec.{ltb, leb, eqb}
+use Rattle.laws.specs.Sums.{bit, sum, count, only, greatest}
 use Rattle.laws.specs.Placement.{capacity}
 use Rattle.laws.specs.Eviction.{put, added, searched, Shortage}
-use Rattle.laws.proofs.Sums.{Is, is, is-true, is-false, lt-of, ge-of, eqb-no, eqb-self, sum-but}
+use Rattle.laws.proofs.Sums.{Is, is, is-true, is-false, lt-of, ge-of, le-of, gt-of, eq-of, ne-of, leb-yes, leb-no, eqb-no, eqb-self, sum-ext, sum-add, sum-zero, sum-but}
 use Rattle.laws.proofs.Eviction.{lowers, searched-cons}
 
 -- ---- capacities
@@ -48,6 +48,37 @@ capacity-put n x z r low = go (is (ltb (x z) r))
     go : Is (ltb (x z) r) → capacity n (put x z) r ≡ capacity n x r + only (ltb (x z) r) 1
     go (is-true e) = rw e (omega (arith, but, ap bit (eqb-self z), lt-of (x z) r e))
     go (is-false e) = rw e (omega (arith, but, ap bit (eqb-self z), ge-of (x z) r e))
+
+pub sum-put : (n : ℕ) (x : ℕ → ℕ) (z : ℕ) → z < n → sum n (put x z) ≡ sum n x + 1
+sum-put n x z low =
+    omega (arith, sum-but n (put x z) x z low (λ s m ne. omega (arith, ap bit (eqb-no s z ne))), ap bit (eqb-self z))
+
+-- The capacity for one job more: one cell more of each slot that has so many. Those slots are the ones with r free cells or more, without those that have just r.
+pub capacity-zero : (n : ℕ) (x : ℕ → ℕ) → capacity n x 0 ≡ 0
+capacity-zero n x = sum-zero n (λ s. min 0 (x s)) (λ s l. omega arith)
+
+pub capacity-next : (n : ℕ) (x : ℕ → ℕ) (r : ℕ) → capacity n x (r + 1) ≡ capacity n x r + count n (λ s. leb (r + 1) (x s))
+capacity-next n x r =
+    sum-ext n (λ s. min (r + 1) (x s)) (λ s. min r (x s) + bit (leb (r + 1) (x s))) (λ s l. one (x s) (is (leb (r + 1) (x s))))
+    ∙ sum-add n (λ s. min r (x s)) (λ s. bit (leb (r + 1) (x s)))
+  where
+    one : (y : ℕ) → Is (leb (r + 1) y) → min (r + 1) y ≡ min r y + bit (leb (r + 1) y)
+    one y (is-true e) = omega (arith, ap bit e, le-of (r + 1) y e)
+    one y (is-false e) = omega (arith, ap bit e, gt-of (r + 1) y e)
+
+pub count-least : (n : ℕ) (x : ℕ → ℕ) (r : ℕ) → count n (λ s. leb r (x s)) ≡ count n (λ s. eqb r (x s)) + count n (λ s. leb (r + 1) (x s))
+count-least n x r =
+    sum-ext n (λ s. bit (leb r (x s))) (λ s. bit (eqb r (x s)) + bit (leb (r + 1) (x s))) (λ s l. one (x s) (is (leb (r + 1) (x s))) (is (eqb r (x s))))
+    ∙ sum-add n (λ s. bit (eqb r (x s))) (λ s. bit (leb (r + 1) (x s)))
+  where
+    one : (y : ℕ) → Is (leb (r + 1) y) → Is (eqb r y) → bit (leb r y) ≡ bit (eqb r y) + bit (leb (r + 1) y)
+    one y (is-true e) (is-true q) = absurd (omega (arith, le-of (r + 1) y e, eq-of r y q))
+    one y (is-true e) (is-false q) = omega (arith, ap bit e, ap bit q, ap bit (leb-yes r y (omega (arith, le-of (r + 1) y e))))
+    one y (is-false e) (is-true q) = omega (arith, ap bit e, ap bit q, ap bit (leb-yes r y (omega (arith, eq-of r y q))))
+    one y (is-false e) (is-false q) =
+        let ne = ne-of r y q in
+        let gt = gt-of (r + 1) y e in
+        omega (arith, ap bit e, ap bit q, ap bit (leb-no r y (omega arith)))
 
 -- ---- the search
 

@@ -1,5 +1,5 @@
 -- The laws of layer 2, by subject: cells and the well-formed table; what is written; the jobs of a call and the causes; the placing rule and the plan; the
--- eviction order, the least eviction and the table that a call leaves; the theorems; small frames computed.
+-- eviction order, the least eviction and the table that a call leaves; the theorems; small frames computed; masks.
 pub mod Cells
 pub mod WellFormed
 pub mod Written
@@ -14,3 +14,4 @@ pub mod Room
 pub mod Theorems
 pub mod Examples
 pub mod Bounds
+pub mod Masks

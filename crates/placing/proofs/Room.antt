@@ -1,15 +1,14 @@
 -- A call by numbers alone: when it fits and what it costs, from the capacities of its cells. docs/CALLS.md gives both to the reader of the manual.
 --
--- In order: the cells that a call may use at all; it fits exactly if it fits into all of them; an accepted call evicts just what its jobs exceed the empty cells by.
+-- In order: a call fits exactly if it fits into all the cells that it may use; an accepted call evicts just what its jobs exceed the empty cells by.
 -- Assumes nothing.
 use Prim.Native.Nat.{ℕ, _+_, _≤_, _<_}
 use native.Mathlib.Omega.{arith}
 use mathlib.Core.Path.{_≡_, sym, _∙_, ap}
 use mathlib.Core.Logic.{_↔_}
-use mathlib.Core.Bool.{Bool, true, false, _&&_, _||_, and-true, and-false}
+use mathlib.Core.Bool.{Bool, true, false, _&&_, and-true, and-false}
 use mathlib.Core.List.{List}
 use lib.ListN.{length, length-map}
-use Rattle.laws.specs.Sums.{count}
 use Rattle.laws.specs.Placement.{at, largest}
 use Rattle.laws.specs.Eviction.{added, ones, Shortage}
 use Rattle.laws.proofs.Sums.{eq-of, eqb-yes, right-of, count-ext, count-imp}
@@ -18,12 +17,8 @@ use Rattle.laws.proofs.Eviction.{searched-best, searched-ones, searched-long, e
 use Rattle.station.specs.Head.{Head, Job, Valid}
 use Rattle.placing.specs.Table.{Cells, WellFormed, isEmpty, isOptional}
 use Rattle.placing.specs.Valid.{usable}
-use Rattle.placing.specs.Call.{Place, evictable, evictionOrder, slotsOf, inSet, emptyFree, emptyCount, lengths, callExcess, evictedSet, callFits}
+use Rattle.placing.specs.Call.{Place, evictable, evictionOrder, slotsOf, inSet, emptyFree, emptyCount, usableCount, lengths, callExcess, evictedSet, callFits}
 use Rattle.placing.proofs.Order.{those, length-those, in-those, set-in-slot, in-set-evictable}
-
--- the cells that a call may use: empty and refinement cells in slots from the clock on
-abbrev pub usableCount : Head → ℕ → Cells → ℕ → ℕ
-usableCount h clock t s = count (h .bridges) (λ b. emptyFree clock t s b || evictable clock t s b)
 
 module _ (h : Head) (clock : ℕ) (jobs : List Job) (t : Cells) (valid : Valid h) (formed : WellFormed h t) where
   abbrev zs : List ℕ

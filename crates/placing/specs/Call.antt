@@ -77,6 +77,10 @@ emptyFree clock t s b = usable clock s && isEmpty (t s b)
 abbrev pub emptyCount : Head → ℕ → Cells → ℕ → ℕ
 emptyCount h clock t = freeCount (h .bridges) (emptyFree clock t)
 
+-- all the cells that it may use: "It may use empty cells and refinement cells"
+abbrev pub usableCount : Head → ℕ → Cells → ℕ → ℕ
+usableCount h clock t = freeCount (h .bridges) (λ s b. emptyFree clock t s b || evictable clock t s b)
+
 abbrev pub lengths : List Job → List ℕ
 lengths jobs = map (λ (j : Job). j .slots) jobs
 

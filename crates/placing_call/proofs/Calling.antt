@@ -1,27 +1,22 @@
--- `call_by_value`, law by law.
+-- `call_by_value` and `call_by_counts`, law by law.
 --
--- In order: the jobs of a call as the arrays that the code fills (`inside-slots`, `lengths-are`, `cells-are`); the carrying out; the outcome
--- (`call-stopped`, `call-not-good`, `call-carried`), and a law for each answer (`call-refused`, `call-done`). The causes are in Tried.antt.
+-- In order: the cells of a call's jobs (`cells-are`); the carrying out; the outcome where a cause of the frame is met (`frame-refused`), and on a running frame
+-- a law for each answer (`counted-refused`, `counted-done`). The causes are in the Tried.antt of placing_check and placing_counts.
 -- Assumes nothing.
-use Prim.Native.Nat.{ℕ, _+_, _≤_, _<_}
+use Prim.Native.Nat.{ℕ, _+_, _%_, _≤_, _<_}
 use native.Mathlib.Omega.{arith}
 use mathlib.Core.Path.{_≡_, refl, sym, _∙_, ap}
 use mathlib.Core.Bool.{true, false, not}
 use mathlib.Core.Option.{Option, none, some}
 use mathlib.Core.List.{List, [], _∷_, _++_}
-use lib.ListN.{length, take, replicate, length-map, List·getD-map}
-use lib.Seq.{ext-getD}
-use lib.Dec.{ltb}
-use Rattle.laws.specs.Placement.{at, tabulate}
+use lib.ListN.{length, getD, take, replicate}
+use Rattle.laws.specs.Placement.{at}
 use Rattle.laws.specs.Eviction.{ones}
-use Rattle.laws.proofs.Sums.{Is, is, is-true, is-false, ge-of}
-use Rattle.laws.proofs.Every.{not-is-true, not-is-false, true-of-not}
-use Rattle.laws.proofs.Placement.{length-tabulate, at-tabulate}
+use Rattle.laws.proofs.Every.{true-of-not}
 use Rattle.laws.proofs.Filled.{zeros}
 use Rattle.station.specs.Head.{Head, Job}
-use Rattle.station.specs.Refusal.{Refusal, outOfLimits, tooShort, callNotFeasible, try, firstOf}
-use Rattle.station.proofs.Refusal.{first-of-none, passed, first-none, append-none, append-some, left-none}
-use Rattle.station.proofs.Head.{within-high}
+use Rattle.station.specs.Refusal.{Refusal, callNotFeasible, try, firstOf}
+use Rattle.station.proofs.Refusal.{first-none, append-none, append-some, left-none}
 use Rattle.station.specs.Types.{headIn, validRecord, refusalIn}
 use Rattle.station.specs.declared.types.Job as record-of-job
 use Rattle.station.specs.declared.types.Preset as record-of-preset
@@ -34,61 +29,30 @@ use Rattle.placing_check.specs.declared.cause.Cause.the-variants.{Met, Passed}
 use Rattle.placing_call.specs.declared.call.CallAnswer as reply
 use Rattle.placing_call.specs.declared.call.CallAnswer.the-variants.{Taken, Refused}
 use Rattle.placing.specs.Table.{cell, callCell}
-use Rattle.placing.specs.Valid.{noJob, jobAt}
+use Rattle.placing.specs.Valid.{jobAt}
 use Rattle.placing.specs.Call.{lengths, evictedSet, callFits, called}
 use Rattle.placing.specs.CallJobs.{jobsIn}
-use Rattle.placing_check.specs.Checking.{jobRecord, jobNumber}
-use Rattle.placing_grants.specs.Granting.{filled}
+use Rattle.placing_counts.specs.Jobs.{jobNumber}
 use Rattle.placing.specs.Limits.{inLimits}
 use Rattle.placing_rule.specs.Code.{placedIn, placedWithin}
 use Rattle.placing_evict.specs.Evict.{Evicts}
 use Rattle.placing.specs.Entries.{written, frameCauses, jobsOutside, jobCauses, callCauses, CallAnswer, CallOutcome, callOf}
 use Rattle.placing_check.specs.Causes.{causeIn, causesOf, frameCausesOf}
 use Rattle.placing_call.specs.Calling.{callMeant, carriedOut, CarriedOut, CallDone}
-use Rattle.placing.proofs.Causes.{met, recordCauses, no-record-cause, jobs-inside}
-use Rattle.placing_check.proofs.Checked.{jobs-length, job-at}
-use Rattle.placing_grants.proofs.Granted.{record-valid}
-use Rattle.placing_grants.proofs.Granting.{filled-at, take-filled}
-use Rattle.placing_check.proofs.Tried.{eleven, none-of-both}
+use Rattle.placing.proofs.Causes.{of-running}
+use Rattle.placing_check.proofs.Tried.{causes-none, eleven, same-frame}
+use Rattle.placing_counts.proofs.Tried.{job-at, inside-number}
+use Rattle.placing.specs.Claims.{Running}
 use Rattle.placing_rule.proofs.Placed.{placed-within}
 use Rattle.placing_rule.proofs.PlacedFrame.{placed-called}
 
--- ---- the jobs of a call, as the arrays that the code fills
+-- ---- the cells of a call's jobs
 
-module _ (js : List record-of-job.Job) (long : length js ≡ 8) (n : ℕ) (few : n ≤ 8) where
-  slots-of : (i : ℕ) → i < n → jobAt (jobsIn n js) i .slots ≡ jobRecord js i .slots
-  slots-of i l = ap (λ (j : Job). j .slots) (job-at js long n few i l)
-
-  pub inside-slots : jobsOutside (jobsIn n js) ≡ false → (i : ℕ) → i < n → jobRecord js i .slots < 256
-  inside-slots e i l =
-      let all = jobs-inside (jobsIn n js) e in
-      omega (
-        arith,
-        within-high 1 64 (jobAt (jobsIn n js) i .slots) (all .2 i (omega (arith, jobs-length js long n few)) .1),
-        slots-of i l,
-      )
-
-  pub lengths-are : {needs : List ℕ} → needs ≡ filled 32 n (λ i. jobRecord js i .slots) → lengths (jobsIn n js) ≡ take n needs
-  lengths-are {needs} e =
-      ext-getD 0 (lengths (jobsIn n js)) (tabulate n f) (size ∙ sym (length-tabulate n f))
-      (λ i l.
-      let k : i < n = omega (arith, size) in
-      List·getD-map (λ (j : Job). j .slots) (jobsIn n js) i noJob ∙ slots-of i k ∙ sym (at-tabulate n f i k))
-      ∙ sym (ap (take n) e ∙ take-filled 32 n f (omega arith))
-    where
-      f : ℕ → ℕ
-      f i = jobRecord js i .slots
-
-      size : length (lengths (jobsIn n js)) ≡ n
-      size = length-map (jobsIn n js) (λ (j : Job). j .slots) ∙ jobs-length js long n few
-
-  pub cells-are : {cells : List ℕ} → cells ≡ filled 32 n (λ i. 1024 + jobNumber js i)
-      → (i : ℕ) → i < length (jobsIn n js) → at cells i ≡ callCell (jobAt (jobsIn n js) i .number)
-  cells-are e i l =
-      let k : i < n = omega (arith, jobs-length js long n few) in
-      ap (λ (q : List ℕ). at q i) e
-      ∙ filled-at 32 n (λ j. 1024 + jobNumber js j) i k (omega arith)
-      ∙ ap (λ (j : Job). callCell (j .number)) (sym (job-at js long n few i k))
+pub cells-are : (js : List record-of-job.Job) (long : length js ≡ 8) (n : ℕ) (few : n ≤ 8) (e : jobsOutside (jobsIn n js) ≡ false) (cells : List ℕ)
+    → ((i : ℕ) → i < 8 → getD cells i 0 ≡ 1024 + jobNumber js i % 256) → (i : ℕ) → i < n → getD cells i 0 ≡ callCell (jobAt (jobsIn n js) i .number)
+cells-are js long n few e cells h i l =
+    h i (omega arith)
+    ∙ (let small = inside-number js long n few e i l in omega (arith, ap (λ (j : Job). j .number) (job-at js long n few i l)))
 
 -- ---- the carrying out
 
@@ -157,15 +121,6 @@ module _ (head : record-of-head.Head) (ps : List record-of-preset.Preset) (clock
   unfolding callMeant
   meant-call e = rw (e, callMeant) refl
 
-  -- where the table and the head record meet no cause, the causes of the frame are those of the head
-  same-frame : firstOf (causesOf head ps t) ≡ none → firstOf (frameCausesOf head ps clock t) ≡ firstOf (frameCauses h″ clock t)
-  same-frame e =
-      let eight = first-none tooShort (ltb (length t) 512) _ e in
-      let two = first-none outOfLimits (not (validRecord head ps)) [] (eight .1) in
-      append-none (causesOf head ps t) (eleven head ps clock t) e
-      ∙ sym (append-none (recordCauses h″ t) (eleven head ps clock t)
-      (no-record-cause h″ t (ge-of (length t) 512 (eight .0)) (record-valid head ps (true-of-not _ (two .0)))))
-
   -- a cause of the frame is met
   call-stopped : (r : Refusal) → firstOf (frameCausesOf head ps clock t) ≡ some r
       → callMeant head ps clock jobs t ≡ record { answer = CallAnswer.refused r; table = t }
@@ -175,44 +130,10 @@ module _ (head : record-of-head.Head) (ps : List record-of-preset.Preset) (clock
       go none q =
           meant-call q
           ∙ of-stopped h″ clock jobs t r
-          (append-some (frameCauses h″ clock t) (callCauses h″ clock jobs (cell h″ t)) r (sym (same-frame q) ∙ e))
+          (append-some (frameCauses h″ clock t) (callCauses h″ clock jobs (cell h″ t)) r (sym (same-frame head ps clock t q) ∙ e))
       go (some p) q =
           let w : some p ≡ some r = sym (append-some (causesOf head ps t) (eleven head ps clock t) p q) ∙ e in
           meant-stopped r (q ∙ w)
-
-  module _ (e : firstOf (frameCausesOf head ps clock t) ≡ none) where
-    record-passes : firstOf (causesOf head ps t) ≡ none
-    record-passes = left-none (causesOf head ps t) (eleven head ps clock t) e
-
-    frame-passes : firstOf (frameCauses h″ clock t) ≡ none
-    frame-passes = sym (same-frame record-passes) ∙ e
-
-    rest : firstOf (frameCauses h″ clock t ++ callCauses h″ clock jobs (cell h″ t)) ≡ firstOf (callCauses h″ clock jobs (cell h″ t))
-    rest = append-none (frameCauses h″ clock t) (callCauses h″ clock jobs (cell h″ t)) frame-passes
-
-    abbrev seven : List (Option Refusal)
-    seven = try callNotFeasible (not (callFits h″ clock jobs (cell h″ t))) ∷ []
-
-    -- a cause of the jobs is met
-    call-not-good : (r : Refusal) → firstOf (jobCauses h″ jobs (cell h″ t)) ≡ some r
-        → callMeant head ps clock jobs t ≡ record { answer = CallAnswer.refused r; table = t }
-    call-not-good r j =
-        meant-call record-passes ∙ of-stopped h″ clock jobs t r (rest ∙ append-some (jobCauses h″ jobs (cell h″ t)) seven r j)
-
-    -- none is
-    call-carried : firstOf (jobCauses h″ jobs (cell h″ t)) ≡ none → callMeant head ps clock jobs t ≡ carriedOut h″ clock jobs t
-    call-carried j = meant-call record-passes ∙ go (is (callFits h″ clock jobs (cell h″ t)))
-      where
-        last : firstOf (frameCauses h″ clock t ++ callCauses h″ clock jobs (cell h″ t)) ≡ firstOf seven
-        last = rest ∙ append-none (jobCauses h″ jobs (cell h″ t)) seven j
-
-        go : Is (callFits h″ clock jobs (cell h″ t)) → callOf h″ clock jobs t ≡ carriedOut h″ clock jobs t
-        go (is-true f) =
-            of-passed h″ clock jobs t (last ∙ passed callNotFeasible (not (callFits h″ clock jobs (cell h″ t))) [] (not-is-false _ f) ∙ first-of-none)
-            ∙ sym (carried-yes h″ clock jobs t f)
-        go (is-false f) =
-            of-stopped h″ clock jobs t callNotFeasible (last ∙ met callNotFeasible (not (callFits h″ clock jobs (cell h″ t))) [] (not-is-true _ f))
-            ∙ sym (carried-no h″ clock jobs t f)
 
   -- ---- a law for each answer
 
@@ -221,30 +142,43 @@ module _ (head : record-of-head.Head) (ps : List record-of-preset.Preset) (clock
   refused-done q e =
       record { answer = sym (ap (λ (o : CallOutcome). o .answer) e); table = sym (ap (λ (o : CallOutcome). o .table) e) }
 
-  -- the causes before 7
-  abbrev beforeSeven : List (Option Refusal)
-  beforeSeven = frameCausesOf head ps clock t ++ jobCauses h″ jobs (cell h″ t)
+  -- a cause of the frame is met
+  pub frame-refused : {w : cause.Cause} (q : refusal.Refusal) → causeIn w ≡ firstOf (frameCausesOf head ps clock t) → w ≡ Met q → CallDone head ps clock jobs t t (Refused q)
+  frame-refused q e m = refused-done q (call-stopped (refusalIn q) (sym e ∙ ap causeIn m))
 
-  -- one of them is met
-  call-met : (r : Refusal) → firstOf beforeSeven ≡ some r → callMeant head ps clock jobs t ≡ record { answer = CallAnswer.refused r; table = t }
-  call-met r e = go (firstOf (frameCausesOf head ps clock t)) refl
-    where
-      go : (o : Option Refusal) → firstOf (frameCausesOf head ps clock t) ≡ o → callMeant head ps clock jobs t ≡ record { answer = CallAnswer.refused r; table = t }
-      go none q = call-not-good q r (sym (append-none (frameCausesOf head ps clock t) (jobCauses h″ jobs (cell h″ t)) q) ∙ e)
-      go (some p) q =
-          let w : some p ≡ some r = sym (append-some (frameCausesOf head ps clock t) (jobCauses h″ jobs (cell h″ t)) p q) ∙ e in
-          call-stopped r (q ∙ w)
+  module _ (v : validRecord head ps ≡ true) (run : Running h″ clock t) where
+    abbrev own : List (Option Refusal)
+    own = callCauses h″ clock jobs (cell h″ t)
 
-  pub call-refused : {w : cause.Cause} (q : refusal.Refusal) → causeIn w ≡ firstOf beforeSeven → w ≡ Met q → CallDone head ps clock jobs t t (Refused q)
-  call-refused q e m = refused-done q (call-met (refusalIn q) (sym e ∙ ap causeIn m))
+    only-own : firstOf (frameCauses h″ clock t ++ own) ≡ firstOf own
+    only-own = append-none (frameCauses h″ clock t) own (of-running h″ clock t run)
 
-  pub call-done : {w : cause.Cause} {js : List Job} {u : List ℕ} {r : reply.CallAnswer} → causeIn w ≡ firstOf beforeSeven → w ≡ Passed → jobs ≡ js
-      → CarriedOut h″ clock js t u r → CallDone head ps clock jobs t u r
-  call-done {w} {js} {u} {r} e m same d =
-      let both = none-of-both head ps clock t jobs (sym e ∙ ap causeIn m) in
-      let o : callMeant head ps clock jobs t ≡ carriedOut h″ clock js t =
-      call-carried (both .0) (both .1) ∙ ap (λ (l : List Job). carriedOut h″ clock l t) same in
-      record {
-        answer = d .answer ∙ sym (ap (λ (x : CallOutcome). x .answer) o);
-        table = d .table ∙ sym (ap (λ (x : CallOutcome). x .table) o);
-      }
+    meant : callMeant head ps clock jobs t ≡ callOf h″ clock jobs t
+    meant = meant-call (causes-none head ps t (run .long) v)
+
+    -- a cause of the call is met
+    pub counted-refused : {w : cause.Cause} (q : refusal.Refusal) → causeIn w ≡ firstOf own → w ≡ Met q → CallDone head ps clock jobs t t (Refused q)
+    counted-refused q e m = refused-done q (meant ∙ of-stopped h″ clock jobs t (refusalIn q) (only-own ∙ sym e ∙ ap causeIn m))
+
+    -- none is, so that the call fits
+    fits : firstOf own ≡ none → callFits h″ clock jobs (cell h″ t) ≡ true
+    fits e =
+        let before = left-none (jobCauses h″ jobs (cell h″ t)) seven e in
+        true-of-not _ (first-none callNotFeasible (not (callFits h″ clock jobs (cell h″ t))) [] (sym (append-none (jobCauses h″ jobs (cell h″ t)) seven before) ∙ e) .0)
+      where
+        seven : List (Option Refusal)
+        seven = try callNotFeasible (not (callFits h″ clock jobs (cell h″ t))) ∷ []
+
+    pub counted-done : {w : cause.Cause} {js : List Job} {u : List ℕ} {r : reply.CallAnswer} → causeIn w ≡ firstOf own → w ≡ Passed → jobs ≡ js
+        → CarriedOut h″ clock js t u r → CallDone head ps clock jobs t u r
+    counted-done {w} {js} {u} {r} e m same d =
+        let free = sym e ∙ ap causeIn m in
+        let o : callMeant head ps clock jobs t ≡ carriedOut h″ clock js t =
+        meant
+        ∙ of-passed h″ clock jobs t (only-own ∙ free)
+        ∙ sym (carried-yes h″ clock jobs t (fits free))
+        ∙ ap (λ (l : List Job). carriedOut h″ clock l t) same in
+        record {
+          answer = d .answer ∙ sym (ap (λ (x : CallOutcome). x .answer) o);
+          table = d .table ∙ sym (ap (λ (x : CallOutcome). x .table) o);
+        }

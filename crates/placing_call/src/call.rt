@@ -1,6 +1,10 @@
-// A call over presets by value: the causes before 7, then the eviction search, then the jobs into the table.
+// A call over presets by value: the causes, by the counts of the table and the clock, then the eviction search, then the jobs into the table.
 use placing_check::cause::Cause;
-use placing_check::cause::call_cause;
+use placing_check::cause::frame_cause;
+use placing_counts::cause::cause_by_counts;
+use placing_counts::counts::Counts;
+use placing_counts::counts::counts_of;
+use placing_counts::needs::job_needs;
 use placing_evict::evict::evict;
 use placing_rule::place::place;
 use station::types::Head;
@@ -9,15 +13,16 @@ use station::types::Preset;
 use station::types::Refusal;
 ghost use mathlib.Core.Path.{_≡_};
 ghost use mathlib.Core.Bool.{true, false};
-ghost use Prim.Native.Nat.{_+_, _≤_};
-ghost use lib.ListN.{length};
+ghost use Prim.Native.Nat.{ℕ, _<_, _≤_};
+ghost use lib.ListN.{length, getD};
 ghost use Rattle.station.specs.Types.{headIn, validRecord};
-ghost use Rattle.placing_grants.specs.Granting.{filled};
-ghost use Rattle.placing_check.specs.Checking.{jobRecord, jobNumber};
+ghost use Rattle.placing.specs.Table.{cell, callCell};
+ghost use Rattle.placing.specs.Valid.{jobAt};
 ghost use Rattle.placing.specs.CallJobs.{jobsIn};
 ghost use Rattle.placing.specs.Entries.{jobsOutside};
-ghost use Rattle.placing.specs.Claims.{CallClaim};
+ghost use Rattle.placing.specs.Claims.{Running, CallClaim};
 ghost use Rattle.placing_check.specs.Causes.{callJobs};
+ghost use Rattle.placing_counts.specs.Counts.{CountsOf};
 ghost use Rattle.placing_call.specs.Calling.{CarriedOut, CallDone};
 
 // The first cell of a call.
@@ -29,31 +34,15 @@ pub enum CallAnswer {
     Refused(Refusal),
 }
 
-// The lengths of the first n jobs; 0 after them.
-fn job_needs(jobs: [Job; 8], n: usize) -> [u8; 32]
-    requires { ⌜ (n ≤ 8) × (jobsOutside (jobsIn n jobs) ≡ false) ⌝ }
-    ensures { λ r. ⌜ r ≡ filled 32 n (λ i. jobRecord jobs i .slots) ⌝ }
-{
-    let mut all = [0u8; 32];
-    let mut i = 0;
-    while i < n {
-        let job = jobs[i];
-        all[i] = job.slots as u8;
-        i += 1;
-    }
-    all
-}
-
-// The call cell with the number of each of the first n jobs; 0 after them.
-fn job_cells(jobs: [Job; 8], n: usize) -> [u16; 32]
-    requires { ⌜ (n ≤ 8) × (jobsOutside (jobsIn n jobs) ≡ false) ⌝ }
-    ensures { λ r. ⌜ r ≡ filled 32 n (λ i. 1024 + jobNumber jobs i) ⌝ }
+// The call cell with the number of each of the eight job records; 0 past them. Of jobs within their limits the numbers are the jobs' own.
+fn job_cells(jobs: [Job; 8]) -> [u16; 32]
+    ensures { λ r. ⌜ ((n : ℕ) → n ≤ 8 → jobsOutside (jobsIn n jobs) ≡ false → (i : ℕ) → i < n → getD r i 0 ≡ callCell (jobAt (jobsIn n jobs) i .number)) ⌝ }
 {
     let mut all = [0u16; 32];
     let mut i = 0;
-    while i < n {
+    while i < 8 {
         let job = jobs[i];
-        all[i] = CALL + job.number;
+        all[i] = CALL + job.number % 256;
         i += 1;
     }
     all
@@ -68,12 +57,12 @@ fn carry_out(
     jobs: [Job; 8],
     n: usize,
 ) -> CallAnswer
-    requires { ⌜ (validRecord head presets ≡ true) × (512 ≤ length (now table)) × (n ≤ 8) × (jobsOutside (jobsIn n jobs) ≡ false) ⌝ }
-    ensures { λ r. ⌜ CarriedOut (headIn head presets) clock (jobsIn n jobs) (now (table .entry)) (now (table .exit)) r ⌝ }
+    ensures { λ r. ⌜ (validRecord head presets ≡ true → 512 ≤ length (now (table .entry)) → n ≤ 8 → jobsOutside (jobsIn n jobs) ≡ false
+        → CarriedOut (headIn head presets) clock (jobsIn n jobs) (now (table .entry)) (now (table .exit)) r) ⌝ }
 {
     let slots = head.slots;
     let bridges = head.bridges;
-    let needs = job_needs(jobs, n);
+    let needs = job_needs(jobs);
     let found = evict(table, head, presets, clock, needs, n);
     if !found.fits {
         return CallAnswer::Refused(Refusal::CallNotFeasible);
@@ -81,9 +70,30 @@ fn carry_out(
     let count = found.count;
     let free = found.free;
     let never = [0u8; 32];
-    let cells = job_cells(jobs, n);
+    let cells = job_cells(jobs);
     place(table, slots, bridges, free, needs, n, never, cells, cells);
     CallAnswer::Taken(count)
+}
+
+// Takes a call of the first n jobs on a running frame whose clock is at `clock`, by the counts of its table and clock: the causes 2, 4, 9 of its jobs, then 7 where it
+// does not fit. A refusal changes nothing. Who keeps the counts between calls need not have the table counted for each.
+pub fn call_by_counts(
+    head: Head,
+    presets: [Preset; 32],
+    table: &mut [u16],
+    clock: usize,
+    jobs: [Job; 8],
+    n: usize,
+    counts: Counts,
+) -> CallAnswer
+    ensures { λ r. ⌜ (validRecord head presets ≡ true → Running (headIn head presets) clock (now (table .entry))
+        → CountsOf (headIn head presets) clock (cell (headIn head presets) (now (table .entry))) counts
+        → CallDone head presets clock (callJobs n jobs) (now (table .entry)) (now (table .exit)) r) ⌝ }
+{
+    if let Cause::Met(r) = cause_by_counts(counts, jobs, n) {
+        return CallAnswer::Refused(r);
+    }
+    carry_out(head, presets, table, clock, jobs, n)
 }
 
 // Takes a call of the first n jobs on the frame whose clock is at `clock`: the causes 8, 2, 11, then 2, 4, 9 of its jobs, then 7 where it does not fit. A refusal
@@ -99,8 +109,9 @@ pub fn call_by_value(
     ensures done { λ r. ⌜ CallDone head presets clock (callJobs n jobs) (now (table .entry)) (now (table .exit)) r ⌝ }
     ensures claim { λ _. ⌜ CallClaim (headIn head presets) clock (callJobs n jobs) (now (table .entry)) ⌝ }
 {
-    if let Cause::Met(r) = call_cause(head, presets, table, clock, jobs, n) {
+    if let Cause::Met(r) = frame_cause(head, presets, table, clock) {
         return CallAnswer::Refused(r);
     }
-    carry_out(head, presets, table, clock, jobs, n)
+    let counts = counts_of(head, presets, table, clock);
+    call_by_counts(head, presets, table, clock, jobs, n, counts)
 }

@@ -1,7 +1,7 @@
 -- The check that the code does, `checked` of specs/Checking.antt, is the test `wellFormed`.
 --
 -- In order: the counts of a table as cells of the frame; a cell that fits, both ways; the test by numbers; a table that passes the check is
--- well-formed, and a well-formed one passes it; the two tests are one (`wellFormed-checked`); a law for each answer; a call's jobs.
+-- well-formed, and a well-formed one passes it; the two tests are one (`wellFormed-checked`); a law for each answer.
 -- Assumes nothing.
 use Prim.Native.Nat.{ℕ, _+_, _*_, _≤_, _<_}
 use native.Mathlib.Omega.{arith}
@@ -9,25 +9,19 @@ use mathlib.Core.Path.{_≡_, refl, sym, _∙_, ap, ap₂}
 use mathlib.Core.Logic.{⊎-elim}
 use mathlib.Core.Bool.{Bool, true, false, not, cond, _&&_, _||_}
 use mathlib.Core.List.{List, [], _∷_}
-use lib.ListN.{length, take, getD, length-map, List·getD-map}
-use lib.Seq.{getD-take, length-take-le}
+use lib.ListN.{getD}
 use lib.Dec.{ltb, leb, eqb}
 use Rattle.laws.specs.Sums.{bit, sum, count, every}
-use Rattle.laws.proofs.Sums.{Is, is-true, is-false, is, clash, lt-of, ge-of, le-of, gt-of, eq-of, ne-of, ltb-yes, leb-yes, leb-no, eqb-yes, eqb-no}
+use Rattle.laws.proofs.Sums.{Is, is-true, is-false, is, clash, lt-of, ge-of, le-of, gt-of, eq-of, ne-of, ltb-yes, leb-yes, eqb-yes, eqb-no}
 use Rattle.laws.proofs.Sums.{both, left-of, right-of, term-le, sum-zero, count-ext, count-none}
-use Rattle.laws.proofs.Every.{end, _and_, conjunction, conjunction-at, all-conjunction, not-is-true, not-is-false, true-of-not, false-of-not}
+use Rattle.laws.proofs.Every.{end, _and_, conjunction, conjunction-at, all-conjunction, not-is-true, false-of-not}
 use Rattle.laws.proofs.Every.{implied, implies, or-left, or-right, or-cases, every-all, all-every, count-some}
 use Rattle.laws.proofs.Sums.{test-ext}
-use Rattle.laws.proofs.Loops.{sum-rows, every-ext, every-not, fails-left, fails-right}
-use Rattle.station.specs.Head.{Head, Job, Valid, busyAt, presetAt, within}
-use Rattle.station.specs.declared.types.Job as record-job
+use Rattle.laws.proofs.Loops.{sum-rows, every-not, fails-left, fails-right}
+use Rattle.station.specs.Head.{Head, Valid, busyAt, presetAt}
 use Rattle.placing.specs.Table.{Cells, Each, WellFormed, cell, holding, kindOf, numberIn, mandatoryCell, optionalCell, callCell, isBusy}
-use Rattle.placing.specs.Table.{isMandatory, isOptional, isCall, presetCount, numberAt, hasPreset, hasJob, jobCount, isUsed, wellFormed}
+use Rattle.placing.specs.Table.{isMandatory, isOptional, isCall, presetCount, numberAt, hasPreset, hasJob, jobCount, wellFormed}
 use Rattle.placing_check.specs.Checking.{tally, numbered, cellFits, differs, isNew, fitsAt, slotFits, slotAt, presetMet, numberFits, hasCall, checked}
-use Rattle.placing_check.specs.Checking.{jobWithin, jobRecord, jobNumber, withinAt, isOther, jobNew}
-use Rattle.placing.specs.CallJobs.{jobIn, jobsIn}
-use Rattle.placing.specs.Valid.{jobAt}
-use Rattle.placing.specs.Entries.{jobsOutside, jobsUsed, jobsTooMany}
 use Rattle.placing.proofs.Cells.{cells-none, cells-some, numberIn-lt, mandatory-of, optional-of, numberIn-mandatory, numberIn-optional}
 use Rattle.placing.proofs.Cells.{numberAt-low, numberAt-lt, preset-with, kindOf-mandatory, isMandatory-mandatory, isOptional-optional}
 use Rattle.placing.proofs.WellFormed.{wellFormed-of, of-wellFormed}
@@ -475,72 +469,3 @@ module _ (h : Head) (valid : Valid h) (t : List ℕ) where
       answer
       ∙ ap (λ (b : Bool). b && by-jobs h t)
       (both (by-slots h t && by-presets h t) (by-numbers h t) (both (by-slots h t) (by-presets h t) p q) r)
-
--- ---- a call's jobs
-
-module _ (js : List record-job.Job) (long : length js ≡ 8) (n : ℕ) (few : n ≤ 8) where
-  pub jobs-length : length (jobsIn n js) ≡ n
-  jobs-length = length-map (take n js) jobIn ∙ length-take-le n js (omega (arith, long))
-
-  pub job-at : (i : ℕ) → i < n → jobAt (jobsIn n js) i ≡ jobIn (jobRecord js i)
-  job-at i l =
-      List·getD-map jobIn (take n js) i (record { number = 0; slots = 0 }) ∙ ap jobIn (getD-take n js i (record { number = 0; slots = 0 }) l)
-
-  number-of : (i : ℕ) → i < n → jobAt (jobsIn n js) i .number ≡ jobNumber js i
-  number-of i l = ap (λ (j : Job). j .number) (job-at i l)
-
-  outside-is : jobsOutside (jobsIn n js) ≡ not (within 1 8 n && every n (withinAt js))
-  outside-is =
-      ap₂ (λ (k : ℕ) (b : Bool). not (within 1 8 k && b)) jobs-length
-      (ap (λ (k : ℕ). every k (λ i. jobWithin (jobAt (jobsIn n js) i))) jobs-length
-      ∙ every-ext n (λ i. jobWithin (jobAt (jobsIn n js) i)) (withinAt js) (λ i l. ap jobWithin (job-at i l)))
-
-  pub outside-none : n ≡ 0 → jobsOutside (jobsIn n js) ≡ true
-  outside-none z =
-      outside-is
-      ∙ not-is-true (within 1 8 n && every n (withinAt js))
-      (fails-left (within 1 8 n) (every n (withinAt js)) (fails-left (leb 1 n) (leb n 8) (leb-no 1 n (omega arith))))
-
-  pub outside-one : (i : ℕ) → i < n → withinAt js i ≡ false → jobsOutside (jobsIn n js) ≡ true
-  outside-one i l e =
-      outside-is
-      ∙ not-is-true (within 1 8 n && every n (withinAt js))
-      (fails-right (within 1 8 n) (every n (withinAt js)) (every-not n (withinAt js) i l e))
-
-  pub inside : 1 ≤ n → every n (withinAt js) ≡ true → jobsOutside (jobsIn n js) ≡ false
-  inside l e =
-      outside-is
-      ∙ not-is-false (within 1 8 n && every n (withinAt js))
-      (both (within 1 8 n) (every n (withinAt js)) (both (leb 1 n) (leb n 8) (leb-yes 1 n l) (leb-yes n 8 few)) e)
-
-  pub inside-number : jobsOutside (jobsIn n js) ≡ false → (i : ℕ) → i < n → jobNumber js i < 256
-  inside-number e i l =
-      let all = right-of (within 1 8 n) (every n (withinAt js)) (true-of-not (within 1 8 n && every n (withinAt js)) (sym outside-is ∙ e)) in
-      let low = left-of (within 1 255 (jobNumber js i)) (within 1 64 (jobRecord js i .slots)) (every-all n (withinAt js) all i l) in
-      omega (arith, le-of (jobNumber js i) 255 (right-of (leb 1 (jobNumber js i)) (leb (jobNumber js i) 255) low))
-
-  module _ (h : Head) (t : List ℕ) (e : jobsOutside (jobsIn n js) ≡ false) where
-    used-is : (i : ℕ) → i < n
-        → (not (isUsed h (cell h t) (jobAt (jobsIn n js) i .number)) && every i (λ j. not (eqb (jobAt (jobsIn n js) j .number) (jobAt (jobsIn n js) i .number))))
-        ≡ jobNew (numbered (h .presets) (presetCount h)) (tally t (h .slots * h .bridges)) js i
-    used-is i l =
-        let v = jobNumber js i in
-        let small : v < 256 = inside-number e i l in
-        ap (λ (k : ℕ). not (isUsed h (cell h t) k) && every i (λ j. not (eqb (jobAt (jobsIn n js) j .number) k))) (number-of i l)
-        ∙ ap₂ (λ (a b : Bool). not a && b)
-        (ap₂ (λ (a b : Bool). a || b) (sym (preset-counted h v small)) (sym (job-counted h t v small)))
-        (every-ext i (λ j. not (eqb (jobAt (jobsIn n js) j .number) v)) (isOther js v) (λ j m. ap (λ (k : ℕ). not (eqb k v)) (number-of j (omega arith))))
-
-    pub jobs-used : jobsUsed h (cell h t) (jobsIn n js) ≡ not (every n (jobNew (numbered (h .presets) (presetCount h)) (tally t (h .slots * h .bridges)) js))
-    jobs-used =
-        ap not
-        (ap
-        (λ (k : ℕ). every k (λ i. not (isUsed h (cell h t) (jobAt (jobsIn n js) i .number))
-        && every i (λ j. not (eqb (jobAt (jobsIn n js) j .number) (jobAt (jobsIn n js) i .number)))))
-        jobs-length
-        ∙ every-ext n _ (jobNew (numbered (h .presets) (presetCount h)) (tally t (h .slots * h .bridges)) js) used-is)
-
--- n more jobs beside those of the table
-pub jobs-too-many : (h : Head) (t : List ℕ) (jobs : List Job) (n : ℕ) → length jobs ≡ n
-    → jobsTooMany h (cell h t) jobs ≡ ltb 64 (count 256 (hasCall (tally t (h .slots * h .bridges))) + n)
-jobs-too-many h t jobs n e = ap₂ (λ (a b : ℕ). ltb 64 (a + b)) (sym (jobs-counted h t)) e

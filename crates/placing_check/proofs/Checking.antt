@@ -1,32 +1,30 @@
 -- Laws of the definitions of specs/Checking.antt, as the functions of src/check.rt cite them.
 --
 -- In order: counts by value (`counted`), then those of a table's cells; a number new in its slot; places and rows of the frame; valid head records,
--- the presets and the counts of their numbers; jobs within their limits, numbers that are used. That the whole check is the test `wellFormed` is in
--- Checked.antt.
+-- the presets and the counts of their numbers. That the whole check is the test `wellFormed` is in Checked.antt.
 -- Assumes nothing.
 use Prim.Native.Nat.{ℕ, zero, suc, _+_, _*_, _≤_, _<_}
 use native.Mathlib.Nat.{mul-le-mul, mul-le-mul-left, suc-mul}
 use native.Mathlib.Numerals.{add-one}
 use native.Mathlib.Omega.{arith}
-use mathlib.Core.Path.{_≡_, refl, sym, _∙_, ap, ap₂}
-use mathlib.Core.Bool.{Bool, true, false, not, _&&_, _||_}
+use mathlib.Core.Path.{_≡_, refl, sym, _∙_, ap}
+use mathlib.Core.Bool.{Bool, true, false, not, _&&_}
 use mathlib.Core.List.{List, map}
 use lib.ListN.{length, take, getD, List·getD-map, length-map, replicate, length-set, length-replicate, getD-replicate, List·getD-eq-default}
 use lib.Seq.{length-take-le, getD-take, getD-set-same, getD-set-other, set-out}
 use lib.Dec.{eqb, ltb, leb}
 use Rattle.laws.specs.Sums.{bit, sum, count}
-use Rattle.laws.proofs.Sums.{Is, is-true, is-false, is, lt-of, ge-of, le-of, eq-of, ne-of, ltb-yes, ltb-no, leb-yes, leb-no, eqb-yes, eqb-no}
-use Rattle.laws.proofs.Sums.{both, left-of, right-of, count-le}
+use Rattle.laws.proofs.Sums.{Is, is-true, is-false, is, lt-of, ge-of, le-of, eq-of, ne-of, eqb-yes, eqb-no}
+use Rattle.laws.proofs.Sums.{left-of, right-of, count-le}
 use Rattle.station.specs.declared.types.Preset as record-types
 use Rattle.station.specs.declared.types.Head as record-head
 use Rattle.station.proofs.Head.{valid-of}
 use Rattle.station.specs.Types.{presetIn, headIn, validRecord}
-use Rattle.station.specs.Head.{Preset, Job, Valid, noPreset, valid, within}
+use Rattle.station.specs.Head.{Preset, Valid, noPreset, valid}
 use Rattle.placing.proofs.Written.{place-below}
-use Rattle.laws.proofs.Loops.{fails-left, fails-right}
 use Rattle.laws.proofs.Every.{not-is-true, or-left, or-right, all-every}
 use Rattle.placing.specs.Table.{numberIn, mandatoryCell, optionalCell, presetCount}
-use Rattle.placing_check.specs.Checking.{bump, counted, tally, numbered, differs, isNew, isMet, hasCall, jobWithin, usedBy}
+use Rattle.placing_check.specs.Checking.{bump, counted, tally, numbered, differs, isNew, isMet}
 
 -- ---- counts by value
 
@@ -180,32 +178,3 @@ met-exact c p e =
 pub met-not : (c : List ℕ) (p : Preset) → (getD c (mandatoryCell (p .number)) 0 ≡ p .mandatory → ⊥) → isMet c p ≡ false
 met-not c p h =
     ap (λ (b : Bool). b && leb (getD c (optionalCell (p .number)) 0) (p .optional)) (eqb-no (getD c (mandatoryCell (p .number)) 0) (p .mandatory) h)
-
--- ---- a call's jobs
-
--- a job within its limits, test by test
-module _ (j : Job) where
-  pub number-low : j .number < 1 → jobWithin j ≡ false
-  number-low l =
-      fails-left (within 1 255 (j .number)) (within 1 64 (j .slots)) (fails-left (leb 1 (j .number)) (leb (j .number) 255) (leb-no 1 (j .number) l))
-
-  pub number-high : 255 < j .number → jobWithin j ≡ false
-  number-high l =
-      fails-left (within 1 255 (j .number)) (within 1 64 (j .slots)) (fails-right (leb 1 (j .number)) (leb (j .number) 255) (leb-no (j .number) 255 l))
-
-  pub slots-low : j .slots < 1 → jobWithin j ≡ false
-  slots-low l =
-      fails-right (within 1 255 (j .number)) (within 1 64 (j .slots)) (fails-left (leb 1 (j .slots)) (leb (j .slots) 64) (leb-no 1 (j .slots) l))
-
-  pub all-but-slots : 1 ≤ j .number → j .number ≤ 255 → 1 ≤ j .slots → jobWithin j ≡ leb (j .slots) 64
-  all-but-slots p q r =
-      ap₂ (λ (a b : Bool). a && (b && leb (j .slots) 64))
-      (both (leb 1 (j .number)) (leb (j .number) 255) (leb-yes 1 (j .number) p) (leb-yes (j .number) 255 q)) (leb-yes 1 (j .slots) r)
-
--- a number that is used
-module _ (ns c : List ℕ) (n : ℕ) where
-  pub used-preset : 0 < getD ns n 0 → usedBy ns c n ≡ true
-  used-preset l = or-left (ltb 0 (getD ns n 0)) (hasCall c n) (ltb-yes 0 (getD ns n 0) l)
-
-  pub used-rest : getD ns n 0 ≤ 0 → usedBy ns c n ≡ hasCall c n
-  used-rest l = ap (λ (b : Bool). b || hasCall c n) (ltb-no 0 (getD ns n 0) l)

@@ -7,9 +7,7 @@ use mathlib.Core.List.{List}
 use lib.ListN.{getD, set, replicate}
 use lib.Dec.{ltb, leb, eqb}
 use Rattle.laws.specs.Sums.{count, every}
-use Rattle.station.specs.Head.{Head, Preset, Job, taken, noPreset, within}
-use Rattle.station.specs.declared.types.Job as record-job
-use Rattle.placing.specs.CallJobs.{jobIn}
+use Rattle.station.specs.Head.{Head, Preset, taken, noPreset}
 use Rattle.placing.specs.Table.{numberIn, mandatoryCell, optionalCell, callCell, presetCount}
 
 -- ---- counts
@@ -86,31 +84,3 @@ checked h t =
     && every (presetCount h) (presetMet (h .presets) (tally t (h .slots * h .bridges)))
     && every 256 (numberFits (numbered (h .presets) (presetCount h)) (tally t (h .slots * h .bridges)))
     && leb (count 256 (hasCall (tally t (h .slots * h .bridges)))) 64
-
--- ---- a call's jobs
-
--- a job within the limits
-abbrev pub jobWithin : Job → Bool
-jobWithin j = within 1 255 (j .number) && within 1 64 (j .slots)
-
--- the job record at i, with what stands past the last, and its number
-abbrev pub jobRecord : List record-job.Job → ℕ → record-job.Job
-jobRecord js i = getD js i (record { number = 0; slots = 0 })
-
-abbrev pub jobNumber : List record-job.Job → ℕ → ℕ
-jobNumber js i = jobRecord js i .number
-
-abbrev pub withinAt : List record-job.Job → ℕ → Bool
-withinAt js i = jobWithin (jobIn (jobRecord js i))
-
--- "A number is used if a preset of the head or a call cell has it": by the counts of the presets' numbers and of the table's cells
-abbrev pub usedBy : List ℕ → List ℕ → ℕ → Bool
-usedBy ns c n = ltb 0 (getD ns n 0) || hasCall c n
-
--- job j has not the number n
-abbrev pub isOther : List record-job.Job → ℕ → ℕ → Bool
-isOther js n j = not (eqb (jobNumber js j) n)
-
--- job i has a number that is not used, and that no job before it has
-abbrev pub jobNew : List ℕ → List ℕ → List record-job.Job → ℕ → Bool
-jobNew ns c js i = not (usedBy ns c (jobNumber js i)) && every i (isOther js (jobNumber js i))

@@ -1,28 +1,15 @@
-// The causes as they are tried one after the other: those of a running frame, then those of a call's jobs.
-use crate::check::jobs_outside;
-use crate::check::jobs_too_many;
-use crate::check::jobs_used;
+// The causes of a running frame, as they are tried one after the other.
 use crate::check::well_formed;
 use station::types::Head;
-use station::types::Job;
 use station::types::Preset;
 use station::types::Refusal;
 use station_check::check::valid_record;
 ghost use mathlib.Core.Path.{_≡_};
-ghost use mathlib.Core.Bool.{true};
-ghost use mathlib.Core.List.{_++_};
-ghost use Prim.Native.Nat.{_≤_};
-ghost use lib.ListN.{length};
 ghost use Rattle.station.specs.Refusal.{firstOf};
-ghost use Rattle.station.specs.Types.{headIn, validRecord};
-ghost use Rattle.placing.specs.Table.{cell};
-ghost use Rattle.placing.specs.Entries.{jobCauses};
-ghost use Rattle.placing_check.specs.Causes.{causeIn, frameCausesOf, callJobs};
+ghost use Rattle.placing_check.specs.Causes.{causeIn, frameCausesOf};
 
-// How many cells a lent table has at the least, and how many jobs a call at the most.
+// How many cells a lent table has at the least.
 const CELLS: usize = 512;
-
-const JOBS: usize = 8;
 
 // What trying some causes gives: the first one that is met, or none.
 pub enum Cause {
@@ -52,43 +39,4 @@ pub fn frame_cause(head: Head, presets: [Preset; 32], table: &[u16], clock: usiz
         return Cause::Met(Refusal::NotWellFormed);
     }
     Cause::Passed
-}
-
-// The causes of a call's jobs: 2 for a ninth job, for none, or for one outside its limits, 4 for a number that is used or twice in the call, 9 for more than
-// 64 job numbers.
-fn jobs_cause(head: Head, presets: [Preset; 32], table: &[u16], jobs: [Job; 8], n: usize) -> Cause
-    requires { ⌜ (validRecord head presets ≡ true) × (512 ≤ length (now table)) ⌝ }
-    ensures { λ r. ⌜ causeIn r ≡ firstOf (jobCauses (headIn head presets) (callJobs n jobs) (cell (headIn head presets) (now (table .entry)))) ⌝ }
-{
-    if JOBS < n {
-        return Cause::Met(Refusal::OutOfLimits);
-    }
-    if jobs_outside(jobs, n) {
-        return Cause::Met(Refusal::OutOfLimits);
-    }
-    if jobs_used(head, presets, table, jobs, n) {
-        return Cause::Met(Refusal::NumberUsed);
-    }
-    if jobs_too_many(head, table, n) {
-        return Cause::Met(Refusal::TooMany);
-    }
-    Cause::Passed
-}
-
-// The causes before 7 of a call of the first n jobs on the frame whose clock is at `clock`: 8, the head record's 2 and 11, then 2, 4 and 9 of its jobs.
-pub fn call_cause(
-    head: Head,
-    presets: [Preset; 32],
-    table: &[u16],
-    clock: usize,
-    jobs: [Job; 8],
-    n: usize,
-) -> Cause
-    ensures { λ r. ⌜ causeIn r ≡ firstOf (frameCausesOf head presets clock (now (table .entry))
-        ++ jobCauses (headIn head presets) (callJobs n jobs) (cell (headIn head presets) (now (table .entry)))) ⌝ }
-{
-    if let Cause::Met(r) = frame_cause(head, presets, table, clock) {
-        return Cause::Met(r);
-    }
-    jobs_cause(head, presets, table, jobs, n)
 }

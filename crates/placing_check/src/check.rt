@@ -1,20 +1,14 @@
-// The check of a table, and of a call's jobs.
+// The check of a table.
 use station::types::Head;
-use station::types::Job;
 use station::types::Preset;
 ghost use mathlib.Core.Path.{_≡_};
-ghost use mathlib.Core.Bool.{true, false};
-ghost use mathlib.Core.List.{List};
+ghost use mathlib.Core.Bool.{true};
 ghost use Prim.Native.Nat.{_+_, _*_, _<_, _≤_};
 ghost use lib.ListN.{length};
 ghost use Rattle.laws.specs.Sums.{every, count};
-ghost use Rattle.station.specs.Head as meant;
 ghost use Rattle.station.specs.Types.{headIn, presetIn, validRecord};
 ghost use Rattle.placing_check.specs.Checking.{tally, numbered, cellFits, isNew, slotFits, isMet, presetMet, numberFits, hasCall};
-ghost use Rattle.placing_check.specs.Checking.{jobWithin, jobNumber, usedBy, isOther};
-ghost use Rattle.placing.specs.CallJobs.{jobIn, jobsIn};
 ghost use Rattle.placing.specs.Table.{cell, wellFormed};
-ghost use Rattle.placing.specs.Entries.{jobsOutside, jobsUsed, jobsTooMany};
 
 // A cell is kind × 256 + number: the busy cell, the first cell of each kind that has numbers, and the first value past the last kind.
 const BUSY: usize = 256;
@@ -233,111 +227,4 @@ pub fn well_formed(head: Head, presets: [Preset; 32], table: &[u16]) -> bool
         return false;
     }
     job_count(&counts) <= 64
-}
-
-// How many cells of the frame hold each value.
-fn table_counts(head: Head, table: &[u16]) -> [u16; VALUES]
-    requires { ⌜ (head .slots ≤ 64) × (head .bridges ≤ 8) × (512 ≤ length (now table)) ⌝ }
-    ensures { λ r. ⌜ r ≡ tally (now (table .entry)) (head .slots * head .bridges) ⌝ }
-{
-    let cells = head.slots * head.bridges;
-    let mut counts = [0u16; VALUES];
-    count_cells(table, 0, cells, &mut counts);
-    counts
-}
-
-// Whether a job's number and length are within their limits.
-fn job_within(job: Job) -> bool
-    ensures { λ r. ⌜ r ≡ jobWithin (jobIn job) ⌝ }
-{
-    if job.number < 1 {
-        return false;
-    }
-    if 255 < job.number {
-        return false;
-    }
-    if job.slots < 1 {
-        return false;
-    }
-    job.slots <= 64
-}
-
-// Whether the first n jobs are no call's: none at all, or one outside its limits.
-pub fn jobs_outside(jobs: [Job; 8], n: usize) -> bool
-    requires { ⌜ n ≤ 8 ⌝ }
-    ensures { λ r. ⌜ r ≡ jobsOutside (jobsIn n jobs) ⌝ }
-{
-    if n == 0 {
-        return true;
-    }
-    let mut i = 0;
-    while i < n {
-        if !job_within(jobs[i]) {
-            return true;
-        }
-        i += 1;
-    }
-    false
-}
-
-// Whether no job before job i has the number of job i.
-fn is_first(jobs: [Job; 8], i: usize) -> bool
-    requires { ⌜ i < 8 ⌝ }
-    ensures { λ r. ⌜ r ≡ every i (isOther jobs (jobNumber jobs i)) ⌝ }
-{
-    let job = jobs[i];
-    let number = job.number;
-    let mut j = 0;
-    while j < i {
-        let other = jobs[j];
-        if other.number == number {
-            return false;
-        }
-        j += 1;
-    }
-    true
-}
-
-// Whether a preset or a call cell has the number, by their counts.
-fn is_used(numbers: &[u8; 256], counts: &[u16; VALUES], number: u16) -> bool
-    requires { ⌜ number < 256 ⌝ }
-    ensures { λ r. ⌜ r ≡ usedBy (now (numbers .entry)) (now (counts .entry)) number ⌝ }
-{
-    let n = number as usize;
-    if 0 < numbers[n] {
-        return true;
-    }
-    let call = CALL + n;
-    0 < counts[call]
-}
-
-// Whether one of the first n jobs has a number that is used, or that a job before it has.
-pub fn jobs_used(head: Head, presets: [Preset; 32], table: &[u16], jobs: [Job; 8], n: usize) -> bool
-    requires { ⌜ (validRecord head presets ≡ true) × (512 ≤ length (now table)) × (n ≤ 8) × (jobsOutside (jobsIn n jobs) ≡ false) ⌝ }
-    ensures { λ r. ⌜ r ≡ jobsUsed (headIn head presets) (cell (headIn head presets) (now (table .entry))) (jobsIn n jobs) ⌝ }
-{
-    let numbers = preset_numbers(head, presets);
-    let counts = table_counts(head, table);
-    let mut i = 0;
-    while i < n {
-        let job = jobs[i];
-        if is_used(&numbers, &counts, job.number) {
-            return true;
-        }
-        if !is_first(jobs, i) {
-            return true;
-        }
-        i += 1;
-    }
-    false
-}
-
-// Whether n more jobs are too many for the table, whatever its presets and whichever the jobs.
-pub fn jobs_too_many(head: Head, table: &[u16], n: usize) -> bool
-    requires { ⌜ (head .slots ≤ 64) × (head .bridges ≤ 8) × (512 ≤ length (now table)) × (n ≤ 8) ⌝ }
-    ensures { λ r. ⌜ ((presets : List Preset) (jobs : List meant.Job) → length jobs ≡ n
-        → r ≡ jobsTooMany (headIn head presets) (cell (headIn head presets) (now (table .entry))) jobs) ⌝ }
-{
-    let counts = table_counts(head, table);
-    64 < job_count(&counts) + n
 }

@@ -8,13 +8,14 @@ use mathlib.Core.List.{List, [], _∷_, _++_}
 use lib.ListN.{length, getD, set, take, replicate}
 use lib.Bits.{bitOr}
 use lib.Dec.{ltb, leb, eqb}
-use Rattle.laws.specs.Sums.{sum, only, count, greatest, position, ascending}
-use Rattle.laws.specs.Placement.{at, before, capacity}
+use lib.Count as digits
+use Rattle.laws.specs.Sums.{sum, only, greatest, position}
+use Rattle.laws.specs.Placement.{at, before, capacity, excess}
 use Rattle.laws.specs.Eviction.{put, ones}
 use Rattle.station.specs.Head.{Head, Job}
 use Rattle.station.specs.declared.types.Preset as record-of-preset
 use Rattle.station.specs.declared.types.Head as record-of-head
-use Rattle.station.specs.Types.{headIn}
+use Rattle.station.specs.Types.{headIn, noRecord}
 use Rattle.placing_evict.specs.declared.evict.Search.{Search}
 use Rattle.placing_evict.specs.declared.evict.Tally.{Tally}
 use Rattle.placing_evict.specs.declared.evict.Evicted.{Evicted}
@@ -24,10 +25,6 @@ use Rattle.placing.specs.Table.{Cells, cell, isOptional, isEmpty, numberIn}
 use Rattle.placing.specs.Valid.{usable}
 use Rattle.placing.specs.Mask.{bridgeMask}
 use Rattle.placing.specs.Call.{Place, downward, lengths, evictedSet, callFits, callFree}
-
--- How many of the first n of the priorities ps come before that of line i. "Rank: better priority first, then the earlier line."
-unfoldable pub rankBelow : List ℕ → ℕ → ℕ → ℕ
-rankBelow ps i n = position n (ascending (at ps)) i
 
 -- How many of the first n of the needs cs come before that of job i: the longer first, of equal ones the earlier.
 unfoldable pub longerBelow : List ℕ → ℕ → ℕ → ℕ
@@ -41,13 +38,25 @@ longestBelow cs k n r = sum n (λ i. only (ltb (longerBelow cs i k) r) (at cs i)
 abbrev pub longest : List ℕ → ℕ → ℕ → ℕ
 longest cs k r = longestBelow cs k k r
 
--- what the first n of k presets add to the rank of the number m
-unfoldable pub rankAmong : List ℕ → List ℕ → ℕ → ℕ → ℕ → ℕ
-rankAmong ns ps k n m = sum n (λ i. only (eqb (at ns i) m) (rankBelow ps i k))
+-- the numbers and the priorities of preset records, in file order
+abbrev pub numbers : List record-of-preset.Preset → ℕ → ℕ
+numbers ps i = getD ps i noRecord .number
+
+abbrev pub priorities : List record-of-preset.Preset → ℕ → ℕ
+priorities ps i = getD ps i noRecord .priority
+
+-- what the first n of some lines have in all at the value m: w i for each line i whose value v i is m
+unfoldable pub totalAt : (ℕ → ℕ) → (ℕ → ℕ) → ℕ → ℕ → ℕ
+totalAt v w n m = sum n (λ i. only (eqb (v i) m) (w i))
 
 -- the greatest excess of the sums cs over the capacities xs, for r from 0 to k
 unfoldable pub excessUpTo : List ℕ → List ℕ → ℕ → ℕ
 excessUpTo cs xs k = greatest k (λ r. at cs r - at xs r)
+
+-- v is by how much the first k of the needs cs exceed cells whose capacities for 0 to 8 are xs, of whatever slots they are
+abbrev pub ExcessOver : List ℕ → ℕ → List ℕ → ℕ → Type 0
+ExcessOver cs k xs v =
+    (n : ℕ) (x : ℕ → ℕ) → ((r : ℕ) → r < 9 → getD xs r 0 ≡ capacity n x r) → v ≡ excess (length (take k cs)) (at (take k cs)) n x
 
 -- the empty cells among the bridges from a place of the table on
 abbrev pub emptyIn : List ℕ → ℕ → ℕ → Bool
@@ -57,16 +66,9 @@ emptyIn t from b = isEmpty (getD t (from + b) 0)
 unfoldable pub emptyMask : List ℕ → ℕ → ℕ → ℕ
 emptyMask t from n = bridgeMask n (emptyIn t from)
 
--- and how many they are
-unfoldable pub emptyCells : List ℕ → ℕ → ℕ → ℕ
-emptyCells t from n = count n (emptyIn t from)
-
--- The mask and the number of the empty cells of a slot, where nothing before the clock is free: "A call uses slots from the clock on."
+-- The mask of the empty cells of a slot, where nothing before the clock is free: "A call uses slots from the clock on."
 unfoldable pub slotMask : List ℕ → ℕ → ℕ → ℕ → ℕ
 slotMask t bridges clock s = only (usable clock s) (emptyMask t (s * bridges) bridges)
-
-unfoldable pub slotCells : List ℕ → ℕ → ℕ → ℕ → ℕ
-slotCells t bridges clock s = only (usable clock s) (emptyCells t (s * bridges) bridges)
 
 -- By how much sums of the longest jobs exceed the capacities for 0 to k of the free cells x of n slots, at the worst. Where `sums` has the sums of the
 -- r longest of k jobs this is `excess`.
@@ -146,7 +148,7 @@ pub record Walked (d : Demand) (zs : List Place) (s r : Search) : Type 0 where
 pub record Starts (t : List ℕ) (bridges clock : ℕ) (d : Demand) (s : Search) : Type 0 where
   pub stands : Stands d s
   pub free : (z : ℕ) → getD (s .free) z 0 ≡ only (ltb z (d .slots)) (slotMask t bridges clock z)
-  pub counts : (z : ℕ) → getD (s .counts) z 0 ≡ only (ltb z (d .slots)) (slotCells t bridges clock z)
+  pub counts : (z : ℕ) → getD (s .counts) z 0 ≡ only (ltb z (d .slots)) (digits.ones (getD (s .free) z 0))
   pub none : s .evicted ≡ 0
 
 -- ---- The eviction order over a list of cells, with the ranks by number in a list: `evictionOrder`, part by part. "The order of loss: worst rank
@@ -197,6 +199,10 @@ pub record Linked (first next : List ℕ) (bound : ℕ) : Type 0 where
   pub down : (c : ℕ) → getD next c 0 ≤ c
 
 -- ---- the answer
+
+-- what is answered where the search keeps k in the end
+abbrev pub answered : Demand → Kept → Evicted
+answered d k = record { fits = eqb (shortFor d (at (k .counts))) 0; count = k .evicted; free = k .free }
 
 -- What the search answers for the head h, the clock, the jobs and the cells t: whether the call fits; "the number of lost cells"; and for each slot
 -- the mask of the bridges that it may use, as "jobs are then placed .. over the empty and lost cells", 0 past the frame.

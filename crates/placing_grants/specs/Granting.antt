@@ -1,13 +1,13 @@
 -- What the functions that grant are held to: free bridges as masks, and what each preset gets. Document 01, "What is granted, and where it goes".
 -- Assumes nothing.
-use Prim.Native.Nat.{ℕ, zero, suc, _-_, _≤_, _<_}
+use Prim.Native.Nat.{ℕ, zero, suc, _+_, _-_, _≤_, _<_, min, max}
 use mathlib.Core.Path.{_≡_}
-use mathlib.Core.Bool.{Bool, true, false, not}
+use mathlib.Core.Bool.{Bool, true, false, not, _&&_}
 use mathlib.Core.List.{List}
-use lib.ListN.{getD, set, replicate}
+use lib.ListN.{length, getD, set, replicate}
 use lib.Count.{ones}
 use lib.Dec.{ltb, leb}
-use Rattle.laws.specs.Sums.{only, sum, every}
+use Rattle.laws.specs.Sums.{bit, only, sum, count, every, position, ascending}
 use Rattle.laws.specs.Placement.{at, capacity, largest}
 use Rattle.laws.specs.Least.{lowest}
 use Rattle.station.specs.Head.{Head, taken}
@@ -36,23 +36,40 @@ freeMasks slots bridges busy = filled 64 slots (freeMask busy bridges)
 abbrev pub freeOnes : List ℕ → ℕ → ℕ
 freeOnes masks s = ones (getD masks s 0)
 
--- the sum of those of the first k values whose place is below n
-abbrev pub earliest : List ℕ → List ℕ → ℕ → ℕ → ℕ
-earliest values places k n = sum k (λ i. only (ltb (getD places i 0) n) (getD values i 0))
+-- The capacities ("the room for r") of the first slots for r up to 8. More than 8 presets have no more room than 8, since no slot has more bridges.
+abbrev pub Capacities : ℕ → (ℕ → ℕ) → List ℕ → Type 0
+Capacities slots free capacities = (r : ℕ) → r < 9 → getD capacities r 0 ≡ capacity slots free r
 
--- "Needs fit exactly if, for every r, the r largest needs together do not exceed" the capacity for r, with the capacities for 0 to 32 in an array
+-- "the r largest needs together" for r up to 8, of the first k needs
+pub record Sums (k : ℕ) (needs : ℕ → ℕ) (sums : List ℕ) : Type 0 where
+  pub long : length sums ≡ 9
+  pub each : (r : ℕ) → r < 9 → getD sums r 0 ≡ largest k needs r
+
+-- "Needs fit exactly if, for every r, the r largest needs together do not exceed" the capacity for r: these for r up to 8, and all needs together that for 8
 abbrev pub fitsIn : List ℕ → ℕ → List ℕ → Bool
-fitsIn needs k capacities = every (suc k) (λ r. leb (largest k (at needs) r) (getD capacities r 0))
+fitsIn sums total capacities = every 9 (λ r. leb (at sums r) (at capacities r)) && leb total (at capacities 8)
 
--- the highest need up to m that fits beside the needs of the others, likewise
-abbrev pub highestIn : List ℕ → ℕ → List ℕ → ℕ → ℕ
-highestIn others k capacities m = lowest k (λ r. getD capacities (suc r) 0 - largest k (at others) r) m
+-- the r largest needs of the others together, from the sums of all and the need m of one preset
+abbrev pub otherSum : List ℕ → ℕ → ℕ → ℕ
+otherSum sums m r = min (at sums r) (at sums (suc r) - m)
 
--- the first of k presets that has the rank n, or k
-pub record FirstOf (ranks : List ℕ) (k n r : ℕ) : Type 0 where
-  pub within : r ≤ k
-  pub has : r < k → getD ranks r 0 ≡ n
-  pub first : (j : ℕ) → j < r → getD ranks j 0 ≡ n → ⊥
+-- the highest need up to `limit` that fits beside the needs of the others
+abbrev pub highestIn : List ℕ → ℕ → ℕ → List ℕ → ℕ → ℕ
+highestIn sums total m capacities limit =
+    lowest 8 (λ r. at capacities (suc r) - otherSum sums m r) (min limit (at capacities 8 - (total - m)))
+
+-- the sums after one need was raised from m to `top`
+pub record Raised (sums : List ℕ) (m top : ℕ) (r : List ℕ) : Type 0 where
+  pub long : length r ≡ 9
+  pub none : at r 0 ≡ at sums 0
+  pub each : (q : ℕ) → q < 8 → at r (suc q) ≡ max (at sums (suc q)) (otherSum sums m q + top)
+
+-- what raising a need asks of the sums: the need is part of each but the first, and none is too large to add a need to it
+pub record Raisable (sums : List ℕ) (m top : ℕ) : Type 0 where
+  pub long : length sums ≡ 9
+  pub part : (q : ℕ) → q < 8 → m ≤ at sums (suc q)
+  pub low : (q : ℕ) → q < 9 → at sums q ≤ 65535
+  pub small : top ≤ 255
 
 -- the preset record at place i, and what stands past the last
 abbrev pub noRecord : types.Preset
@@ -61,24 +78,40 @@ noRecord = record { number = 0; priority = 0; mandatory = 0; optional = 0 }
 abbrev pub recordAt : List types.Preset → ℕ → types.Preset
 recordAt ps i = getD ps i noRecord
 
--- "better priority first": the larger, the better the priority
-abbrev pub urgency : List types.Preset → ℕ → ℕ
-urgency ps i = 255 - recordAt ps i .priority
+-- "Rank: better priority first, then the earlier line": the rank of preset i among the first k
+abbrev pub rankIn : List types.Preset → ℕ → ℕ → ℕ
+rankIn ps k i = position k (ascending (λ j. recordAt ps j .priority)) i
 
--- the capacities for 0 to 32 presets
-abbrev pub capacitiesOf : Head → List ℕ
-capacitiesOf h = filled 33 33 (capacity (h .slots) (planFreeCount h))
+-- whether preset j comes before a preset of priority p on line i
+abbrev pub earlier : List types.Preset → ℕ → ℕ → ℕ → Bool
+earlier ps p i j = ltb (recordAt ps j .priority) (p + bit (ltb j i))
+
+-- an order of n presets: those that come before priority p and line i, each at its rank
+pub record Ordered (ps : List types.Preset) (k p i n : ℕ) (order : List ℕ) : Type 0 where
+  pub long : length order ≡ 32
+  pub many : n ≡ count k (earlier ps p i)
+  pub stands : (j : ℕ) → j < k → earlier ps p i j ≡ true → getD order (rankIn ps k j) 0 ≡ j
+
+-- the first k presets, each at its rank
+abbrev pub OrderOf : List types.Preset → ℕ → List ℕ → Type 0
+OrderOf ps k order = (i : ℕ) → i < k → getD order (rankIn ps k i) 0 ≡ i
 
 -- What the presets of a head get in all, "in file order", in an array of 32: their mandatory slots and their grants where the mandatory slots
 -- fit, and zeros where they do not.
 abbrev pub needsOf : Head → List ℕ
 needsOf h = filled 32 (only (planFits h (mandatories h)) (presetCount h)) (at (needs h))
 
--- What the loop over the ranks starts from: a head record that some text yields, its capacities, and mandatory slots that fit.
+-- What the loop over the ranks stands on: a head record that some text yields, its capacities, and mandatory slots that fit.
 pub record Fitting (head : record-of-head.Head) (presets : List types.Preset) (capacities : List ℕ) : Type 0 where
   pub valid : validRecord head presets ≡ true
-  pub known : capacities ≡ capacitiesOf (headIn head presets)
+  pub known : Capacities (head .slots) (planFreeCount (headIn head presets)) capacities
   pub start : planFits (headIn head presets) (mandatories (headIn head presets)) ≡ true
+
+-- what it starts from: the mandatory slots, their sums, and all of them together
+pub record Started (head : record-of-head.Head) (presets : List types.Preset) (mandatory start : List ℕ) (all : ℕ) : Type 0 where
+  pub needs : mandatory ≡ filled 32 (head .count) (λ i. recordAt presets i .mandatory)
+  pub sums : Sums (head .count) (at mandatory) start
+  pub total : all ≡ sum (head .count) (at mandatory)
 
 -- What a head is granted: whether the mandatory slots fit, and what each preset gets.
 pub record GrantedTo (h : Head) (r : answer.Granted) : Type 0 where

@@ -1,9 +1,32 @@
-// A second planner for small frames, written from document 01: it uses nothing of the first, and tries every placement. Nothing is promised of it but that
-// it is safe and ends; crates/crosscheck compares the two.
-pub mod small; // small.rt: small arrays, sets of cells, and cells
-pub mod case; // case.rt: a small head, and a call
-pub mod placements; // placements.rt: every placement of a frame, and what is feasible
-pub mod placing_rule; // placing_rule.rt: the placing rule, cell by cell
+// A second planner for small frames, written from document 01: it uses nothing of the first, and tries every placement and every evicted set. Nothing is promised of it
+// but that it is safe and ends; crates/crosscheck compares the two.
+//
+// An answer is one number: the table after it, in field 6 the cause, 0 for none, and in field 7 what is reported: of a plan the grants, two bits for each line; of a call
+// the number of evicted cells. Call 0 asks for a plan.
+pub mod placements; // placements.rt: what fits, and the placing rule
 pub mod planning; // planning.rt: the plan of a head
 pub mod calling; // calling.rt: what a call evicts, and the table that it leaves
-pub mod valid; // valid.rt: what a valid table is
+
+use calling::call;
+use calling::is_least;
+use planning::is_best;
+use planning::plan;
+
+// The answer to a call on a table, or the plan.
+pub fn answer(sets: usize, presets: usize, table: usize, wanted: usize) -> usize {
+    if wanted == 0 {
+        return plan(sets, presets);
+    }
+    call(sets, presets, table, wanted)
+}
+
+// Whether no other valid placement is better than an answer's, as document 01 says in "What demand 3 speaks of". An answer that refuses has none.
+pub fn is_optimal(sets: usize, presets: usize, table: usize, wanted: usize, answer: usize) -> bool {
+    if answer >> 48 & 255 != 0 {
+        return true;
+    }
+    if wanted == 0 {
+        return is_best(sets, presets, answer);
+    }
+    is_least(sets, presets, table, wanted, answer)
+}

@@ -1,142 +1,94 @@
-// Every placement of a small frame: what "fits" means, with no formula.
+// What fits, and the placing rule.
 //
-// A placement puts into each of six cells nothing, 0, or one of three that need slots, 1 to 3. All 4,096 are gone through. For each that is one, the numbers of
-// slots that the three get are marked as feasible, for every set of free cells that has the placement's cells.
-use crate::small::bit;
-use crate::small::first_cells;
-use crate::small::get3;
-use crate::small::get6;
-use crate::small::has;
-use crate::small::one_if;
-use crate::small::plus;
-use crate::small::slot_of;
-use crate::small::within;
+// Up to three presets or jobs, numbered from 0, need slots, `needs` having a field for each. `sets` has the free cells of each slot.
+use small_frames::packed::field;
+use small_frames::packed::first_of;
+use small_frames::packed::one_less;
+use small_frames::packed::size;
+use small_frames::packed::with_field;
+use small_frames::packed::without_first;
+use std::num::wrapping_add_usize;
+ghost use Prim.Native.Nat.{_<_};
 
-// The placement of a code below 4,096, four choices a cell.
-pub fn placement(code: usize) -> [usize; 6] {
-    [
-        code % 4,
-        code / 4 % 4,
-        code / 16 % 4,
-        code / 64 % 4,
-        code / 256 % 4,
-        code / 1024 % 4,
-    ]
+// Document 01: "the meaning of fits is that a valid placement exists". Every one is tried, with no formula: in each slot each of the three gets a free cell or none.
+// A pair is a slot and one of the three; those below `pair` are done.
+pub fn feasible(sets: usize, needs: usize, pair: usize) -> bool {
+    if needs == 0 {
+        return true;
+    }
+    if pair > 17 {
+        return false;
+    }
+    if field(sets, pair / 3) != 0 {
+        if field(needs, pair % 3) != 0 {
+            let sets_left = without_first(sets, pair / 3);
+            let needs_left = one_less(needs, pair % 3);
+            if feasible(sets_left, needs_left, pair + 1) {
+                return true;
+            }
+        }
+    }
+    feasible(sets, needs, pair + 1)
 }
 
-// Two cells of one slot hold the same one.
-fn clashes(at: [usize; 6], i: usize, j: usize, bridges: usize) -> bool {
-    if i >= j {
-        return false;
-    }
-    if slot_of(i, bridges) != slot_of(j, bridges) {
-        return false;
-    }
-    if get6(at, i) == 0 {
-        return false;
-    }
-    get6(at, i) == get6(at, j)
+// 1 for true.
+fn one_if(b: bool) -> usize
+    ensures { λ r. ⌜ r < 2 ⌝ }
+{
+    if b { 1 } else { 0 }
 }
 
-// No slot holds one of the three twice.
-pub fn no_clash(at: [usize; 6], bridges: usize) -> bool {
+// A field and its place as one number, so that of equal values the earlier field has the smaller.
+fn key(values: usize, i: usize) -> usize {
+    field(values, i) * 4 + i % 4
+}
+
+// The place of field i among the first three in ascending order, counted from 0; of equal ones the earlier comes first.
+pub fn order(values: usize, i: usize) -> usize
+    ensures { λ r. ⌜ r < 4 ⌝ }
+{
+    let own = key(values, i);
+    one_if(key(values, 0) < own) + one_if(key(values, 1) < own) + one_if(key(values, 2) < own)
+}
+
+// Whether a slot of n free bridges serves one of the three: it has slots left to get, and fewer than n come before it, those with more left and, of equal ones, the
+// earlier. (All ones less what is left, so that the most comes first.)
+fn is_served(left: usize, n: usize, who: usize) -> bool {
+    if field(left, who) == 0 {
+        return false;
+    }
+    order(left ^ 0xffffff, who) < n
+}
+
+// The cell of an owner with a mark: as the mark says, or while more than the optional slots are left to get, mandatory.
+fn cell_for(mark: usize, left: usize, optional: usize) -> usize {
+    if left > optional {
+        64 + mark % 32
+    } else {
+        mark
+    }
+}
+
+// Document 01, "Placing, slot by slot from the first": the table with the three in free cells, each cell with its owner's mark.
+pub fn place(table: usize, sets: usize, mandatory: usize, optional: usize, marks: usize) -> usize {
+    let mut after = table;
+    let mut free = sets;
+    let mut left = wrapping_add_usize(mandatory, optional);
+    let mut before = left;
     let mut pair = 0;
-    while pair < 36 {
-        if clashes(at, pair / 6, pair % 6, bridges) {
-            return false;
+    while pair < 18 {
+        let slot = pair / 3;
+        let who = pair % 3;
+        if who == 0 {
+            before = left;
+        }
+        if is_served(before, size(field(sets, slot)), who) {
+            let cell = cell_for(field(marks, who), field(left, who), field(optional, who));
+            after = with_field(after, first_of(field(free, slot)), cell);
+            free = without_first(free, slot);
+            left = one_less(left, who);
         }
         pair += 1;
     }
-    true
-}
-
-// The cells that a placement uses.
-pub fn used_cells(at: [usize; 6]) -> usize {
-    let mut set = 0;
-    let mut i = 0;
-    while i < 6 {
-        if get6(at, i) != 0 {
-            set = set | bit(i);
-        }
-        i += 1;
-    }
-    set
-}
-
-// How many cells hold a value.
-pub fn count_of(at: [usize; 6], value: usize) -> usize {
-    let mut n = 0;
-    let mut i = 0;
-    while i < 6 {
-        n = plus(n, one_if(get6(at, i) == value));
-        i += 1;
-    }
-    n
-}
-
-// The numbers of slots that the three get, as one number below 512; 512 for numbers that no six cells give.
-fn needs_code(needs: [usize; 3]) -> usize {
-    let a = get3(needs, 0);
-    let b = get3(needs, 1);
-    let c = get3(needs, 2);
-    if a > 7 {
-        return 512;
-    }
-    if b > 7 {
-        return 512;
-    }
-    if c > 7 {
-        return 512;
-    }
-    a + 8 * b + 64 * c
-}
-
-// Marks what a placement gives as feasible for every set of free cells that has the cells used.
-fn mark(feasibles: &mut [u8; 32768], used: usize, needs: usize) {
-    let mut free = 0;
-    while free < 64 {
-        if within(used, free) {
-            if needs < 512 {
-                let i = free * 512 + needs;
-                feasibles[i] = 1;
-            }
-        }
-        free += 1;
-    }
-}
-
-// Marks what the placement of a code gives, if it is one.
-fn mark_code(feasibles: &mut [u8; 32768], cells: usize, bridges: usize, code: usize) {
-    let at = placement(code);
-    let used = used_cells(at);
-    if !within(used, first_cells(cells)) {
-        return;
-    }
-    if !no_clash(at, bridges) {
-        return;
-    }
-    let needs = needs_code([count_of(at, 1), count_of(at, 2), count_of(at, 3)]);
-    mark(feasibles, used, needs);
-}
-
-// Marks what every placement of a frame gives.
-pub fn mark_all(feasibles: &mut [u8; 32768], cells: usize, bridges: usize) {
-    let mut code = 0;
-    while code < 4096 {
-        mark_code(feasibles, cells, bridges, code);
-        code += 1;
-    }
-}
-
-// Whether some placement in the free cells gives each of the three exactly its need.
-pub fn feasible(feasibles: &[u8; 32768], free: usize, needs: [usize; 3]) -> bool {
-    let code = needs_code(needs);
-    if free > 63 {
-        return false;
-    }
-    if code > 511 {
-        return false;
-    }
-    let i = free * 512 + code;
-    feasibles[i] == 1
+    after
 }

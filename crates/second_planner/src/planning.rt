@@ -1,197 +1,92 @@
 // The plan that document 01 asks for, by trying.
-use crate::case::Case;
-use crate::case::number_of_line;
-use crate::case::ranks_before;
 use crate::placements::feasible;
-use crate::placing_rule::place;
-use crate::small::all_within;
-use crate::small::cell_of;
-use crate::small::differences;
-use crate::small::first_cells;
-use crate::small::get3;
-use crate::small::get6;
-use crate::small::has;
-use crate::small::minus;
-use crate::small::one_if;
-use crate::small::plus;
-use crate::small::put3;
-use crate::small::put6;
-use crate::small::sums;
+use crate::placements::order;
+use crate::placements::place;
+use small_frames::heads::mandatory;
+use small_frames::heads::optional;
+use small_frames::heads::priority;
+use small_frames::packed::bit;
+use small_frames::packed::field;
+use small_frames::packed::within;
+use std::num::wrapping_add_usize;
+ghost use Prim.Native.Nat.{_<_};
 
-// A plan: cause 0, the grants and the table; or the cause alone.
-pub struct Plan {
-    pub cause: usize,
-    pub grants: [usize; 3],
-    pub table: [usize; 6],
+// Whether the mandatory slots and these optional ones fit.
+fn is_feasible(sets: usize, presets: usize, grants: usize) -> bool {
+    feasible(sets, wrapping_add_usize(mandatory(presets), grants), 0)
 }
 
-// The cells that are not busy.
-pub fn free_cells(case: Case) -> usize {
-    let all = first_cells(case.cells);
-    all ^ (all & case.busy)
-}
-
-// The needs with g slots more for a line.
-fn with_more(needs: [usize; 3], line: usize, g: usize) -> [usize; 3] {
-    put3(needs, line, plus(get3(needs, line), g))
-}
-
-// The most optional slots, up to a preset's own, with which all still fits.
-fn grant(
-    feasibles: &[u8; 32768],
-    free: usize,
-    needs: [usize; 3],
-    line: usize,
-    most: usize,
-) -> usize {
-    let mut best = 0;
-    let mut g = 0;
-    while g < 8 {
-        if g <= most {
-            if feasible(feasibles, free, with_more(needs, line, g)) {
-                best = g;
-            }
-        }
-        g += 1;
-    }
-    best
-}
-
-// The needs after a line of a priority has got its grant; other lines get nothing.
-fn raised(
-    feasibles: &[u8; 32768],
-    case: Case,
-    needs: [usize; 3],
-    line: usize,
-    priority: usize,
-) -> [usize; 3] {
-    let priorities = case.priority;
-    let optional = case.optional;
-    if get3(priorities, line) != priority {
-        return needs;
-    }
-    let g = grant(
-        feasibles,
-        free_cells(case),
-        needs,
-        line,
-        get3(optional, line),
-    );
-    with_more(needs, line, g)
-}
-
-// Document 01, "Grants: in rank order": priority by priority, and in each line by line. The slots that each preset gets in all.
-fn all_raised(feasibles: &[u8; 32768], case: Case) -> [usize; 3] {
-    let mut needs = case.mandatory;
-    let mut k = 0;
-    while k < 30 {
-        let next = raised(feasibles, case, needs, k % 3, k / 3);
-        needs = next;
-        k += 1;
-    }
-    needs
-}
-
-// How many cells before a cell hold the same preset.
-fn earlier(at: [usize; 6], cell: usize) -> usize {
-    let mut n = 0;
-    let mut i = 0;
-    while i < 6 {
-        if i < cell {
-            n = plus(n, one_if(get6(at, i) == get6(at, cell)));
-        }
-        i += 1;
-    }
-    n
-}
-
-// A cell of the table: busy, empty, or a preset's, whose first cells in time are mandatory.
-fn plan_cell(case: Case, at: [usize; 6], cell: usize) -> usize {
-    if has(case.busy, cell) {
-        return cell_of(1, 0);
-    }
-    let who = get6(at, cell);
-    if who == 0 {
-        return 0;
-    }
-    let line = minus(who, 1);
-    let mandatory = case.mandatory;
-    if earlier(at, cell) < get3(mandatory, line) {
-        return cell_of(2, number_of_line(line));
-    }
-    cell_of(3, number_of_line(line))
-}
-
-// The table of a placement of presets.
-pub fn plan_table(case: Case, at: [usize; 6]) -> [usize; 6] {
-    let mut table = [0; 6];
-    let mut cell = 0;
-    while cell < 6 {
-        let next = put6(table, cell, plan_cell(case, at, cell));
-        table = next;
-        cell += 1;
-    }
-    table
-}
-
-// The plan of a head.
-pub fn expected_plan(feasibles: &[u8; 32768], case: Case) -> Plan {
-    let free = free_cells(case);
-    let mandatory = case.mandatory;
-    if !feasible(feasibles, free, mandatory) {
-        return Plan {
-            cause: 5,
-            grants: [0; 3],
-            table: [0; 6],
-        };
-    }
-    let needs = all_raised(feasibles, case);
-    let at = place(free, case.bridges, needs);
-    let table = plan_table(case, at);
-    let grants = differences(needs, mandatory);
-    Plan {
-        cause: 0,
-        grants,
-        table,
-    }
-}
-
-// What a line counts in the optional cells of the presets up to another by rank.
-fn counted(priority: [usize; 3], values: [usize; 3], line: usize, last: usize) -> usize {
-    if ranks_before(priority, last, line) {
-        return 0;
-    }
-    get3(values, line)
-}
-
-// The optional cells of the presets up to one by rank.
-fn up_to(priority: [usize; 3], values: [usize; 3], last: usize) -> usize {
-    let two = plus(
-        counted(priority, values, 0, last),
-        counted(priority, values, 1, last),
-    );
-    plus(two, counted(priority, values, 2, last))
-}
-
-// Whether other grants are some that a valid plan has.
-fn is_other(feasibles: &[u8; 32768], case: Case, others: [usize; 3]) -> bool {
-    let mandatory = case.mandatory;
-    let optional = case.optional;
-    if !all_within(others, optional) {
+// Whether a line has a priority and more than n optional slots.
+fn wants(presets: usize, line: usize, p: usize, n: usize) -> bool {
+    if field(priority(presets), line) != p {
         return false;
     }
-    feasible(feasibles, free_cells(case), sums(mandatory, others))
+    n < field(optional(presets), line)
 }
 
-// For every k, no valid plan has more optional cells of the first k presets by rank: each list of grants up to 3 is tried, with each preset as the last.
-pub fn is_best(feasibles: &[u8; 32768], case: Case, grants: [usize; 3]) -> bool {
-    let priority = case.priority;
+// Document 01, "Grants: in rank order": priority by priority, in each line by line, slot by slot up to o, one more wherever all still fits. (Priorities here
+// are 0 and 8; three lines; o below 4.)
+fn grants_of(sets: usize, presets: usize) -> usize {
+    let mut grants = 0;
     let mut k = 0;
-    while k < 192 {
-        let others = [k % 4, k / 4 % 4, k / 16 % 4];
-        let last = k / 64;
-        if up_to(priority, grants, last) < up_to(priority, others, last) {
-            if is_other(feasibles, case, others) {
+    while k < 24 {
+        let line = k / 4 % 3;
+        let more = wrapping_add_usize(grants, bit(8 * line));
+        if wants(presets, line, k / 12 * 8, k % 4) {
+            if is_feasible(sets, presets, more) {
+                grants = more;
+            }
+        }
+        k += 1;
+    }
+    grants
+}
+
+// Two bits for each of three fields below 4, as a byte.
+fn narrowed(grants: usize) -> usize {
+    (grants | grants >> 6 | grants >> 12) & 63
+}
+
+// A field for each two bits.
+fn widened(byte: usize) -> usize {
+    byte & 3 | byte << 6 & 0x0300 | byte << 12 & 0x030000
+}
+
+// The plan of a head: cause 5, or the table and the grants.
+pub fn plan(sets: usize, presets: usize) -> usize {
+    if !is_feasible(sets, presets, 0) {
+        return 5 << 48;
+    }
+    let grants = grants_of(sets, presets);
+    place(0, sets, mandatory(presets), grants, 0x626160) | narrowed(grants) << 56
+}
+
+// A line's grant in the field of its rank.
+fn ranked(presets: usize, grants: usize, line: usize) -> usize {
+    field(grants, line) << order(priority(presets), line) * 8
+}
+
+// The optional cells of the first preset by rank, of the first two, and of all three.
+fn sums(presets: usize, grants: usize) -> usize {
+    let all = ranked(presets, grants, 0) | ranked(presets, grants, 1) | ranked(presets, grants, 2);
+    all % 0x1000000 * 0x010101
+}
+
+// Whether a valid plan has these grants.
+fn is_possible(sets: usize, presets: usize, grants: usize) -> bool {
+    if !within(grants, optional(presets)) {
+        return false;
+    }
+    is_feasible(sets, presets, grants)
+}
+
+// For every k, no valid plan has more optional cells of the first k presets by rank: each list of grants up to 3 is tried.
+pub fn is_best(sets: usize, presets: usize, plan: usize) -> bool {
+    let best = sums(presets, widened(plan >> 56));
+    let mut k = 0;
+    while k < 64 {
+        if !within(sums(presets, widened(k)), best) {
+            if is_possible(sets, presets, widened(k)) {
                 return false;
             }
         }

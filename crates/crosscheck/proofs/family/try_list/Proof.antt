@@ -6,28 +6,28 @@ use Rattle.crosscheck.proofs.family.try_list.Statement.{statement}
 use Rattle.crosscheck.proofs.family.try_list.Tie as tie
 
 abbrev Inv-loop : tie.InvT-loop
-Inv-loop feasibles counts₀ case list left₀ code₀ clock₀ step₀ counts left code clock step = step ≤ 3
+Inv-loop frame presets table list tally₀ left₀ step₀ tally left step = step ≤ 3
 
 abbrev μ-loop : tie.MeasureT-loop
-μ-loop feasibles counts₀ case list left₀ code₀ clock₀ step₀ counts left code clock step = 3 - step
+μ-loop frame presets table list tally₀ left₀ step₀ tally left step = 3 - step
 
-next-code-requires : tie.Need-next-code-requires Inv-loop μ-loop
-next-code-requires c κs = search needs
-
-count-requires : tie.Need-count-requires Inv-loop μ-loop
-count-requires c κs = search needs
+one-requires : tie.Need-one-requires Inv-loop μ-loop
+one-requires c κs = search needs
 
 loop-holds : tie.Need-loop-holds Inv-loop μ-loop
 loop-holds c = omega arith
 
-call-of-requires : tie.Need-call-of-requires Inv-loop μ-loop
-call-of-requires c κs = search needs
+call-in-requires : tie.Need-call-in-requires Inv-loop μ-loop
+call-in-requires c κs = search needs
 
-compare-call-requires : tie.Need-compare-call-requires Inv-loop μ-loop
-compare-call-requires c κs = search needs
+compare-requires : tie.Need-compare-requires Inv-loop μ-loop
+compare-requires c κs = search needs
 
-next-code-requires-2 : tie.Need-next-code-requires-2 Inv-loop μ-loop
-next-code-requires-2 c κs = search needs
+tally-of-requires : tie.Need-tally-of-requires Inv-loop μ-loop
+tally-of-requires c κs = search needs
+
+wrapping-add-usize-requires : tie.Need-wrapping-add-usize-requires Inv-loop μ-loop
+wrapping-add-usize-requires c κs = search needs
 
 add-step : tie.Need-add-step Inv-loop μ-loop
 add-step c = omega arith
@@ -47,12 +47,12 @@ try-list-spec =
     (tie.spec
     Inv-loop
     μ-loop
-    next-code-requires
-    count-requires
+    one-requires
     loop-holds
-    call-of-requires
-    compare-call-requires
-    next-code-requires-2
+    call-in-requires
+    compare-requires
+    tally-of-requires
+    wrapping-add-usize-requires
     add-step
     loop-less
     loop-again

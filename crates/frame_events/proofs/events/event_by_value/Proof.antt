@@ -6,6 +6,7 @@ use borrow.Author.Needs.{needs}
 use Rattle.station.specs.Refusal.{firstOf}
 use Rattle.station.specs.Types.{headIn}
 use Rattle.placing_check.specs.Causes.{frameCausesOf}
+use Rattle.placing_check.proofs.Tried.{frame-running}
 use Rattle.frame.specs.Event.{Event}
 use Rattle.frame_events.specs.Running.{stateOf}
 use Rattle.frame.proofs.Demands.{demand-3}
@@ -42,19 +43,24 @@ returns c =
 enum-told : tie.Need-enum-told
 enum-told c = search needs
 
-asked-event-requires : tie.Need-asked-event-requires
-asked-event-requires c κs = search needs
+counts-of-requires : tie.Need-counts-of-requires
+counts-of-requires c κs = search needs
+
+event-by-counts-requires : tie.Need-event-by-counts-requires
+event-by-counts-requires c κs = search needs
 
 same-length-2 : tie.Need-same-length-2
 same-length-2 c = search needs
 
 returns-2 : tie.Need-returns-2
 returns-2 c =
-    let n = c .before .before .before .before in
+    let k = c .before .before .before .before in
+    let n = k .before .before in
     let a = n .before .before .before .before .before .before .args in
     let e = Event.line (a .line .now) in
+    let run = frame-running (a .head) (a .presets) (a .clock) (a .table .now) (free n) in
     let done = event-done (a .head) (a .presets) (a .clock) (a .table .now) e (free n)
-    (line-done (a .head) (a .presets) (a .clock) (a .table .now) (free n) (a .line .now) (c .before .before .asked-event .ensures)) in
+    (line-done (a .head) (a .presets) (a .clock) (a .table .now) (free n) (a .line .now) (c .before .before .event-by-counts .ensures (run .0) (run .1) (k .counts-of .ensures (run .0) (run .1 .long)))) in
     (done, (done-running (a .head) (a .presets) (a .clock) (a .table .now) e done, demand-3 (headIn (a .head) (a .presets)) (stateOf (a .table .now) (a .clock)) (e ∷ [])))
 
 pub event-by-value-spec : {M : Type 1} → statement M
@@ -66,6 +72,7 @@ event-by-value-spec =
     same-length
     returns
     enum-told
-    asked-event-requires
+    counts-of-requires
+    event-by-counts-requires
     same-length-2
     returns-2)

@@ -1,26 +1,22 @@
--- `call::job_cells` meets its contract. The invariant: the jobs passed have theirs. Assumes nothing.
-use Prim.Native.Nat.{_≤_, _-_, _+_}
+-- `call::job_cells` meets its contract. The loop's invariant: the records before `i` have theirs. Assumes nothing.
+use Prim.Native.Nat.{_+_, _-_, _%_, _≤_}
 use native.Mathlib.Omega.{arith}
 use mathlib.Core.Path.{_≡_, refl}
-use mathlib.Core.Bool.{false}
-use Rattle.placing_check.specs.Checking.{jobNumber}
-use Rattle.placing.specs.CallJobs.{jobsIn}
-use Rattle.placing.specs.Entries.{jobsOutside}
-use Rattle.placing_grants.specs.Granting.{filled}
-use Rattle.placing_grants.proofs.Granting.{filled-more}
-use Rattle.placing_check.proofs.Checked.{inside-number}
+use lib.ListN.{length, length-set}
+use Rattle.laws.proofs.Filled.{FilledBelow, filled-none, filled-more, filled-all}
+use Rattle.placing_counts.specs.Jobs.{jobNumber}
+use Rattle.placing_call.proofs.Calling.{cells-are}
 use Rattle.placing_call.proofs.call.job_cells.Statement.{statement}
 use Rattle.placing_call.proofs.call.job_cells.Tie as tie
 
 abbrev Inv-loop : tie.InvT-loop
-Inv-loop n jobs all₀ i₀ all i = (i ≤ n) × (n ≤ 8) × (jobsOutside (jobsIn n jobs) ≡ false) × (all ≡ filled 32 i (λ j. 1024 + jobNumber jobs j))
+Inv-loop jobs all₀ i₀ all i = (i ≤ 8) × (length all ≡ 32) × FilledBelow (λ j. 1024 + jobNumber jobs j % 256) i all
 
 abbrev μ-loop : tie.MeasureT-loop
-μ-loop n jobs all₀ i₀ all i = n - i
+μ-loop jobs all₀ i₀ all i = 8 - i
 
 loop-holds : tie.Need-loop-holds Inv-loop μ-loop
-unfolding filled
-loop-holds c = (omega arith, omega arith, c .pre .1, refl)
+loop-holds c = (omega arith, omega arith, filled-none 32 _)
 
 mul-job : tie.Need-mul-job Inv-loop μ-loop
 mul-job c = omega arith
@@ -29,10 +25,7 @@ array-copy-out-job : tie.Need-array-copy-out-job Inv-loop μ-loop
 array-copy-out-job c = omega arith
 
 add-all : tie.Need-add-all Inv-loop μ-loop
-add-all c =
-    let l = c .before .before .before .loop in
-    let s = c .before .before .before .before in
-    omega (arith, inside-number (s .args .t1) (s .good .0 .1 .0 .1) (s .args .n) (omega arith) (l .inv .2) (l .i) (omega arith))
+add-all c = omega arith
 
 mul-all : tie.Need-mul-all Inv-loop μ-loop
 mul-all c = omega arith
@@ -48,13 +41,17 @@ loop-less c = omega arith
 
 loop-again : tie.Need-loop-again Inv-loop μ-loop
 loop-again c =
-    let l = c .before .before .before .loop in
-    (omega arith, omega arith, l .inv .2, filled-more 32 (l .i) _ (l .inv .3) refl)
+    let d = c .before .before .before in
+    let l = d .loop in
+    (omega arith, simp length-set (l .inv .1), filled-more (l .all) (λ j. 1024 + jobNumber (d .before .args .t1) j % 256) (l .i) _ (omega arith) (l .inv .2) refl)
 
 returns : tie.Need-returns Inv-loop μ-loop
 returns c =
-    let e : c .before .loop .i ≡ c .before .before .args .n = omega arith in
-    rw e at (c .before .loop .inv .3)
+    λ n few inside.
+    let s = c .before .before in
+    let l = c .before .loop in
+    cells-are (s .args .t1) (omega (arith, s)) n few inside (l .all)
+    (λ i m. filled-all (l .all) (λ j. 1024 + jobNumber (s .args .t1) j % 256) (l .i) (l .inv .2) i (omega arith))
 
 pub job-cells-spec : {M : Type 1} → statement M
 job-cells-spec =

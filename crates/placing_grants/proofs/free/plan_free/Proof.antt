@@ -31,7 +31,7 @@ loop-less c = omega arith
 
 loop-again : tie.Need-loop-again Inv-loop μ-loop
 loop-again c =
-    let l = c .before .before .loop in
+    let l = c .before .before .before .loop in
     (omega arith, omega arith, omega arith, filled-more 64 (l .s) _ (l .inv .3) (c .slot-free .ensures))
 
 returns : tie.Need-returns Inv-loop μ-loop

@@ -1,66 +1,67 @@
--- `free::slot_free` meets its contract. The invariant: the mask is that of the bridges passed. Assumes nothing.
+-- `free::slot_free` meets its contract. The invariant: the mask is that of the bridges passed, from the last one on. Assumes nothing.
 use Prim.Native.Nat.{_≤_, _-_, _<_}
 use native.Mathlib.Omega.{arith}
-use mathlib.Core.Path.{_≡_, refl}
-use mathlib.Core.Logic.{⊎-elim}
-use Rattle.station.specs.Head.{taken}
-use Rattle.placing.specs.Mask.{bridgeMask}
-use Rattle.placing_grants.specs.Granting.{freeMask}
-use Rattle.placing_grants.proofs.Granting.{free-more, free-less, free-fits}
+use mathlib.Core.Path.{_≡_, sym, _∙_}
+use Rattle.placing_grants.proofs.Granting.{freeFrom, free-none, free-more, free-all, free-fits}
 use Rattle.placing_grants.proofs.free.slot_free.Statement.{statement}
 use Rattle.placing_grants.proofs.free.slot_free.Tie as tie
 
 abbrev Inv-loop : tie.InvT-loop
-Inv-loop bridges s busy mask₀ b₀ mask b = (b ≤ bridges) × (bridges ≤ 8) × (s < 64) × (mask ≡ freeMask busy b s)
+Inv-loop busy bridges s mask₀ b₀ mask b = (b ≤ bridges) × (bridges ≤ 8) × (s < 64) × (mask ≡ freeFrom busy s b (bridges - b))
 
 abbrev μ-loop : tie.MeasureT-loop
-μ-loop bridges s busy mask₀ b₀ mask b = bridges - b
+μ-loop busy bridges s mask₀ b₀ mask b = b
 
 loop-holds : tie.Need-loop-holds Inv-loop μ-loop
-unfolding bridgeMask
-loop-holds c = (omega arith, omega arith, omega arith, refl)
+loop-holds c = let a = c .args in (omega arith, omega arith, omega arith, sym (free-none (a .busy .now) (a .s) (a .bridges) (a .bridges - a .bridges) (omega arith)))
 
-mul-if1 : tie.Need-mul-if1 Inv-loop μ-loop
-mul-if1 c = omega arith
+sub-b : tie.Need-sub-b Inv-loop μ-loop
+sub-b c = omega arith
 
-array-read-if1 : tie.Need-array-read-if1 Inv-loop μ-loop
-array-read-if1 c = omega arith
+mul-mask : tie.Need-mul-mask Inv-loop μ-loop
+mul-mask c =
+    let l = c .before .loop in
+    let a = c .before .before .args in
+    omega (arith, free-fits (a .busy .now) (a .s) (l .b) (a .bridges - l .b) (omega arith))
 
-shr-if1 : tie.Need-shr-if1 Inv-loop μ-loop
-shr-if1 c = omega arith
+mul-free-bit : tie.Need-mul-free-bit Inv-loop μ-loop
+mul-free-bit c = omega arith
 
-cast-mask : tie.Need-cast-mask Inv-loop μ-loop
-cast-mask c = omega arith
+element-copy-out-free-bit : tie.Need-element-copy-out-free-bit Inv-loop μ-loop
+element-copy-out-free-bit c = omega arith
 
-shl-mask : tie.Need-shl-mask Inv-loop μ-loop
-shl-mask c = omega arith
+free-bit-requires : tie.Need-free-bit-requires Inv-loop μ-loop
+free-bit-requires c κs = omega arith
 
 add-mask : tie.Need-add-mask Inv-loop μ-loop
 add-mask c =
-    let l = c .before .before .loop in
-    let a = c .before .before .before .args in
-    omega (arith, free-fits (a .t1) (l .b) (a .s) (omega arith))
-
-add-b : tie.Need-add-b Inv-loop μ-loop
-add-b c = omega arith
+    let l = c .before .before .before .loop in
+    let a = c .before .before .before .before .args in
+    omega (arith, free-fits (a .busy .now) (a .s) (l .b) (a .bridges - l .b) (omega arith))
 
 loop-less : tie.Need-loop-less Inv-loop μ-loop
 loop-less c = omega arith
 
 loop-again : tie.Need-loop-again Inv-loop μ-loop
 loop-again c =
-    let l = c .before .before .loop in
-    let a = c .before .before .before .args in (
+    let l = c .before .before .before .loop in
+    let a = c .before .before .before .before .args in (
       omega arith,
       omega arith,
       omega arith,
-      ⊎-elim (λ w. omega (arith, free-more (a .t1) (l .b) (a .s) (w .0 .taken) (omega arith))) (λ w. omega (arith, free-less (a .t1) (l .b) (a .s) (w .0 .left))) (c .if1 .came),
+      omega (
+        arith,
+        l .inv .3,
+        free-more (a .busy .now) (a .s) (l .b) (l .b - 1) (a .bridges - l .b) (a .bridges - (l .b - 1)) (c .free-bit .result) (omega arith) (omega arith)
+            (c .free-bit .ensures .0),
+      ),
     )
 
 returns : tie.Need-returns Inv-loop μ-loop
 returns c =
-    let e : c .before .loop .b ≡ c .before .before .args .bridges = omega arith in
-    rw e at (c .before .loop .inv .3)
+    let l = c .before .loop in
+    let a = c .before .before .args in
+    l .inv .3 ∙ free-all (a .busy .now) (a .s) (l .b) (a .bridges - l .b) (a .bridges) (omega arith) (omega arith)
 
 pub slot-free-spec : {M : Type 1} → statement M
 slot-free-spec =
@@ -69,13 +70,12 @@ slot-free-spec =
     Inv-loop
     μ-loop
     loop-holds
-    mul-if1
-    array-read-if1
-    shr-if1
-    cast-mask
-    shl-mask
+    sub-b
+    mul-mask
+    mul-free-bit
+    element-copy-out-free-bit
+    free-bit-requires
     add-mask
-    add-b
     loop-less
     loop-again
     returns)

@@ -6,16 +6,22 @@ use Rattle.second_planner.proofs.calling.evicted_set.Statement.{stateme
 use Rattle.second_planner.proofs.calling.evicted_set.Tie as tie
 
 abbrev Inv-loop : tie.InvT-loop
-Inv-loop feasibles case table call best₀ least₀ set₀ best least set = set ≤ 64
+Inv-loop sets presets table call best₀ least₀ set₀ best least set = set ≤ 64
 
 abbrev μ-loop : tie.MeasureT-loop
-μ-loop feasibles case table call best₀ least₀ set₀ best least set = 64 - set
+μ-loop sets presets table call best₀ least₀ set₀ best least set = 64 - set
 
 loop-holds : tie.Need-loop-holds Inv-loop μ-loop
 loop-holds c = omega arith
 
-place-of-requires : tie.Need-place-of-requires Inv-loop μ-loop
-place-of-requires c κs = search needs
+feasible-with-requires : tie.Need-feasible-with-requires Inv-loop μ-loop
+feasible-with-requires c κs = search needs
+
+cost-requires : tie.Need-cost-requires Inv-loop μ-loop
+cost-requires c κs = search needs
+
+cost-requires-2 : tie.Need-cost-requires-2 Inv-loop μ-loop
+cost-requires-2 c κs = search needs
 
 add-set : tie.Need-add-set Inv-loop μ-loop
 add-set c = omega arith
@@ -32,4 +38,14 @@ returns c = search needs
 pub evicted-set-spec : {M : Type 1} → statement M
 evicted-set-spec =
     tie.close
-    (tie.spec Inv-loop μ-loop loop-holds place-of-requires add-set loop-less loop-again returns)
+    (tie.spec
+    Inv-loop
+    μ-loop
+    loop-holds
+    feasible-with-requires
+    cost-requires
+    cost-requires-2
+    add-set
+    loop-less
+    loop-again
+    returns)

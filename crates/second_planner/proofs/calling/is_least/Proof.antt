@@ -6,22 +6,28 @@ use Rattle.second_planner.proofs.calling.is_least.Statement.{statement}
 use Rattle.second_planner.proofs.calling.is_least.Tie as tie
 
 abbrev Inv-loop : tie.InvT-loop
-Inv-loop feasibles case table call evicted k₀ k = k ≤ 128
+Inv-loop sets presets table call after evicted k₀ k = k ≤ 128
 
 abbrev μ-loop : tie.MeasureT-loop
-μ-loop feasibles case table call evicted k₀ k = 128 - k
+μ-loop sets presets table call after evicted k₀ k = 128 - k
+
+cells-of-requires : tie.Need-cells-of-requires Inv-loop μ-loop
+cells-of-requires c κs = search needs
+
+cells-of-requires-2 : tie.Need-cells-of-requires-2 Inv-loop μ-loop
+cells-of-requires-2 c κs = search needs
 
 loop-holds : tie.Need-loop-holds Inv-loop μ-loop
 loop-holds c = omega arith
 
-optional-up-to-requires : tie.Need-optional-up-to-requires Inv-loop μ-loop
-optional-up-to-requires c κs = search needs
+mul-has-fewer : tie.Need-mul-has-fewer Inv-loop μ-loop
+mul-has-fewer c = omega arith
 
-optional-up-to-requires-2 : tie.Need-optional-up-to-requires-2 Inv-loop μ-loop
-optional-up-to-requires-2 c κs = search needs
+has-fewer-requires : tie.Need-has-fewer-requires Inv-loop μ-loop
+has-fewer-requires c κs = search needs
 
-fits-with-requires : tie.Need-fits-with-requires Inv-loop μ-loop
-fits-with-requires c κs = search needs
+feasible-with-requires : tie.Need-feasible-with-requires Inv-loop μ-loop
+feasible-with-requires c κs = search needs
 
 returns : tie.Need-returns Inv-loop μ-loop
 returns c = search needs
@@ -44,10 +50,12 @@ is-least-spec =
     (tie.spec
     Inv-loop
     μ-loop
+    cells-of-requires
+    cells-of-requires-2
     loop-holds
-    optional-up-to-requires
-    optional-up-to-requires-2
-    fits-with-requires
+    mul-has-fewer
+    has-fewer-requires
+    feasible-with-requires
     returns
     add-k
     loop-less

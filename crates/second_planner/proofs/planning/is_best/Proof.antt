@@ -1,4 +1,4 @@
--- `planning::is_best` is safe and ends. The loop's invariant: `k` is at most 192. Assumes nothing.
+-- `planning::is_best` is safe and ends. The loop's invariant: `k` is at most 64. Assumes nothing.
 use Prim.Native.Nat.{_≤_, _-_}
 use native.Mathlib.Omega.{arith}
 use borrow.Author.Needs.{needs}
@@ -6,22 +6,34 @@ use Rattle.second_planner.proofs.planning.is_best.Statement.{statement}
 use Rattle.second_planner.proofs.planning.is_best.Tie as tie
 
 abbrev Inv-loop : tie.InvT-loop
-Inv-loop feasibles case grants priority k₀ k = k ≤ 192
+Inv-loop sets presets plan best k₀ k = k ≤ 64
 
 abbrev μ-loop : tie.MeasureT-loop
-μ-loop feasibles case grants priority k₀ k = 192 - k
+μ-loop sets presets plan best k₀ k = 64 - k
+
+widened-requires : tie.Need-widened-requires Inv-loop μ-loop
+widened-requires c κs = search needs
+
+sums-requires : tie.Need-sums-requires Inv-loop μ-loop
+sums-requires c κs = search needs
 
 loop-holds : tie.Need-loop-holds Inv-loop μ-loop
 loop-holds c = omega arith
 
-up-to-requires : tie.Need-up-to-requires Inv-loop μ-loop
-up-to-requires c κs = search needs
+widened-requires-2 : tie.Need-widened-requires-2 Inv-loop μ-loop
+widened-requires-2 c κs = search needs
 
-up-to-requires-2 : tie.Need-up-to-requires-2 Inv-loop μ-loop
-up-to-requires-2 c κs = search needs
+sums-requires-2 : tie.Need-sums-requires-2 Inv-loop μ-loop
+sums-requires-2 c κs = search needs
 
-is-other-requires : tie.Need-is-other-requires Inv-loop μ-loop
-is-other-requires c κs = search needs
+within-requires : tie.Need-within-requires Inv-loop μ-loop
+within-requires c κs = search needs
+
+widened-requires-3 : tie.Need-widened-requires-3 Inv-loop μ-loop
+widened-requires-3 c κs = search needs
+
+is-possible-requires : tie.Need-is-possible-requires Inv-loop μ-loop
+is-possible-requires c κs = search needs
 
 returns : tie.Need-returns Inv-loop μ-loop
 returns c = search needs
@@ -44,10 +56,14 @@ is-best-spec =
     (tie.spec
     Inv-loop
     μ-loop
+    widened-requires
+    sums-requires
     loop-holds
-    up-to-requires
-    up-to-requires-2
-    is-other-requires
+    widened-requires-2
+    sums-requires-2
+    within-requires
+    widened-requires-3
+    is-possible-requires
     returns
     add-k
     loop-less

@@ -1,0 +1,61 @@
+-- `call::call_by_counts` meets its contract: a law for each answer. Assumes nothing.
+use native.Mathlib.Omega.{arith}
+use mathlib.Core.Path.{sym, _∙_, ap}
+use borrow.Author.Needs.{needs}
+use Rattle.station.specs.Types.{headIn}
+use Rattle.placing.specs.Table.{cell}
+use Rattle.placing_check.specs.Causes.{causeIn, callJobs}
+use Rattle.placing_counts.proofs.Tried.{call-jobs, cause-known}
+use Rattle.placing_call.proofs.Calling.{counted-refused, counted-done}
+use Rattle.placing_call.proofs.call.call_by_counts.Statement.{statement}
+use Rattle.placing_call.proofs.call.call_by_counts.Tie as tie
+
+cause-by-counts-requires : tie.Need-cause-by-counts-requires
+cause-by-counts-requires c κs = search needs
+
+enum-known-r : tie.Need-enum-known-r
+enum-known-r c = search needs
+
+returns : tie.Need-returns
+returns c =
+    λ v run right.
+    let k = c .before .before .before in
+    let a = k .before .before .args in
+    let h = headIn (a .head) (a .presets) in
+    counted-refused (a .head) (a .presets) (a .clock) (callJobs (a .n) (a .jobs)) (a .table .now) v run (c .before .r .given .0 .0)
+    (k .cause-by-counts .ensures h (a .clock) (cell h (a .table .now)) (run .valid) (run .wellFormed) right) (c .before .r .given .1)
+
+enum-told : tie.Need-enum-told
+enum-told c = search needs
+
+carry-out-requires : tie.Need-carry-out-requires
+carry-out-requires c κs = search needs
+
+same-length : tie.Need-same-length
+same-length c = search needs
+
+returns-2 : tie.Need-returns-2
+returns-2 c =
+    λ v run right.
+    let o = c .before .before in
+    let e = o .before .before in
+    let k = e .before .before in
+    let s = k .before .before in
+    let a = s .args in
+    let h = headIn (a .head) (a .presets) in
+    let tried = k .cause-by-counts .ensures h (a .clock) (cell h (a .table .now)) (run .valid) (run .wellFormed) right in
+    let known = cause-known (a .jobs) (omega (arith, s)) (a .n) h (a .clock) (cell h (a .table .now)) (sym tried ∙ ap causeIn (e .enum-told .given .1)) in
+    counted-done (a .head) (a .presets) (a .clock) (callJobs (a .n) (a .jobs)) (a .table .now) v run tried (e .enum-told .given .1)
+    (call-jobs (a .jobs) (omega (arith, s)) (a .n) (known .0)) (o .carry-out .ensures v (run .long) (known .0) (known .1))
+
+pub call-by-counts-spec : {M : Type 1} → statement M
+call-by-counts-spec =
+    tie.close
+    (tie.spec
+    cause-by-counts-requires
+    enum-known-r
+    returns
+    enum-told
+    carry-out-requires
+    same-length
+    returns-2)

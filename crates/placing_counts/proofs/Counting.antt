@@ -1,0 +1,306 @@
+-- Laws of the counts of a table and a clock.
+--
+-- In order: a cell that a call may use (`free-..`); numbers that are marked, by one cell (`mark-..`) and by those so far (`marked-..`); slots by how many free cells they
+-- have (`with-..`), and their capacities (`least-..`); the presets' numbers (`beside-..`); the counts of the frame (`counts-of`).
+-- Assumes nothing.
+use Prim.Native.Nat.{ℕ, _+_, _*_, _-_, _≤_, _<_, min}
+use native.Mathlib.Omega.{arith}
+use mathlib.Core.Path.{_≡_, refl, sym, _∙_, ap, ap₂}
+use mathlib.Core.Bool.{Bool, true, false, _||_}
+use mathlib.Core.List.{List}
+use lib.ListN.{length, getD, set, replicate, length-set}
+use lib.Seq.{getD-set-same, getD-set-other}
+use lib.Dec.{ltb, leb, eqb}
+use Rattle.laws.specs.Sums.{bit, sum, only, count}
+use Rattle.laws.specs.Placement.{at, capacity}
+use Rattle.laws.proofs.Sums.{Is, is, is-true, is-false, eq-of, ne-of, ltb-yes, ltb-no, leb-yes, eqb-yes, eqb-no, eqb-self, sum-ext, sum-le, sum-but, sum-swap, sum-const, count-ext, count-none, count-all, count-le}
+use Rattle.laws.proofs.Every.{or-left, or-right, count-eqb-le, sum-beyond}
+use Rattle.laws.proofs.Loops.{sum-none, sum-more, sum-rows, some-none, some-more}
+use Rattle.laws.proofs.Filled.{only-le, zeros}
+use Rattle.laws.proofs.Stepwise.{capacity-zero, capacity-next, count-least}
+use Rattle.station.specs.Head.{Head, Preset, noPreset}
+use Rattle.placing.specs.Table.{cell, kindOf, numberIn, isEmpty, isOptional, callCell, hasJob, hasPreset}
+use Rattle.placing.specs.Valid.{usable}
+use Rattle.placing.specs.Call.{usableCount}
+use Rattle.placing.proofs.Cells.{kindOf-call, numberIn-call}
+use Rattle.placing_counts.specs.Jobs.{marked}
+use Rattle.placing_counts.specs.Counts.{CountsOf, Marked, Marks, freeCell, freeIn, slotFree, ByFree}
+
+-- ---- a cell that a call may use
+
+pub free-empty : (v : ℕ) → v ≡ 0 → 1 ≡ bit (freeCell v)
+free-empty v z = ap (λ (x : ℕ). bit (freeCell x)) (sym z)
+
+pub free-optional : (v : ℕ) → kindOf v ≡ 3 → 1 ≡ bit (freeCell v)
+free-optional v k = ap bit (sym (or-right (isEmpty v) (isOptional v) (eqb-yes (kindOf v) 3 k)))
+
+pub free-none : (v : ℕ) → (v ≡ 0 → ⊥) → (kindOf v ≡ 3 → ⊥) → 0 ≡ bit (freeCell v)
+free-none v z k = sym (ap₂ (λ (a b : Bool). bit (a || b)) (eqb-no v 0 z) (eqb-no (kindOf v) 3 k))
+
+-- the cells from a place on, no cell and one more
+pub free-in-none : (t : List ℕ) (from : ℕ) → freeIn t from 0 ≡ 0
+unfolding freeIn
+free-in-none t from = sum-none (λ b. bit (freeCell (getD t (from + b) 0)))
+
+pub free-in-more : (t : List ℕ) (from n : ℕ) → freeIn t from (n + 1) ≡ freeIn t from n + bit (freeCell (getD t (from + n) 0))
+unfolding freeIn
+free-in-more t from n = sum-more n (λ b. bit (freeCell (getD t (from + b) 0)))
+
+pub free-in-le : (t : List ℕ) (from n : ℕ) → freeIn t from n ≤ n
+unfolding freeIn
+free-in-le t from n = count-le n (λ b. freeCell (getD t (from + b) 0))
+
+-- ---- numbers that are marked
+
+or-false : (a : Bool) → (a || false) ≡ a
+or-false true = refl
+or-false false = refl
+
+or-comm : (a b : Bool) → (a || b) ≡ (b || a)
+or-comm true true = refl
+or-comm true false = refl
+or-comm false true = refl
+or-comm false false = refl
+
+-- one number more
+marked-set : (u : List ℕ) (m : ℕ) → m < length u → (n : ℕ) → marked (set u m 1) n ≡ (marked u n || eqb m n)
+marked-set u m inside n = go (is (eqb m n))
+  where
+    go : Is (eqb m n) → marked (set u m 1) n ≡ (marked u n || eqb m n)
+    go (is-true e) =
+        ap (marked (set u m 1)) (sym (eq-of m n e))
+        ∙ ap (λ (x : ℕ). ltb 0 x) (getD-set-same u m 1 0 inside)
+        ∙ sym (or-right (marked u n) (eqb m n) e)
+    go (is-false e) =
+        ap (λ (x : ℕ). ltb 0 x) (getD-set-other u m n 1 0 (λ q. ne-of m n e (sym q)))
+        ∙ sym (ap (λ (b : Bool). marked u n || b) e ∙ or-false (marked u n))
+
+-- a cell that is no call's marks nothing, and one whose number is marked neither
+pub mark-other : (v : ℕ) (u : List ℕ) → (kindOf v ≡ 4 → ⊥) → Marks v u u 0
+mark-other v u k =
+    record {
+      long = refl;
+      which = λ n l. sym (ap (λ (b : Bool). marked u n || b) (eqb-no v (callCell n) (λ e. k (ap kindOf e ∙ kindOf-call n l))) ∙ or-false (marked u n));
+      more = omega arith;
+      one = omega arith;
+    }
+
+module _ (v : ℕ) (u : List ℕ) (long : length u ≡ 256) (k : kindOf v ≡ 4) where
+  number-lt : numberIn v < 256
+  number-lt = omega arith
+
+  is-call : (n : ℕ) → n < 256 → eqb (numberIn v) n ≡ eqb v (callCell n)
+  is-call n l = go (is (eqb (numberIn v) n))
+    where
+      go : Is (eqb (numberIn v) n) → eqb (numberIn v) n ≡ eqb v (callCell n)
+      go (is-true e) = e ∙ sym (eqb-yes v (callCell n) (let q : numberIn v ≡ n = eq-of (numberIn v) n e in omega arith))
+      go (is-false e) = e ∙ sym (eqb-no v (callCell n) (λ q. ne-of (numberIn v) n e (ap numberIn q ∙ numberIn-call n l)))
+
+  pub mark-again : (getD u (numberIn v) 0 ≡ 0 → ⊥) → Marks v u u 0
+  mark-again some =
+      record { long = refl; which = λ n l. go n (is (eqb (numberIn v) n)) ∙ ap (λ (b : Bool). marked u n || b) (is-call n l); more = omega arith; one = omega arith }
+    where
+      go : (n : ℕ) → Is (eqb (numberIn v) n) → marked u n ≡ (marked u n || eqb (numberIn v) n)
+      go n (is-true e) =
+          let m : marked u n ≡ true = ap (marked u) (sym (eq-of (numberIn v) n e)) ∙ ltb-yes 0 (getD u (numberIn v) 0) (omega (arith, some)) in
+          m ∙ sym (or-left (marked u n) (eqb (numberIn v) n) m)
+      go n (is-false e) = sym (ap (λ (b : Bool). marked u n || b) e ∙ or-false (marked u n))
+
+  pub mark-new : getD u (numberIn v) 0 ≡ 0 → Marks v u (set u (numberIn v) 1) 1
+  mark-new none =
+      record {
+        long = length-set u (numberIn v) 1;
+        which = λ n l. marked-set u (numberIn v) inside n ∙ ap (λ (b : Bool). marked u n || b) (is-call n l);
+        more = omega (
+          arith,
+          sum-but 256 (λ n. bit (marked (set u (numberIn v) 1) n)) (λ n. bit (marked u n)) (numberIn v) number-lt (λ n l ne. ap bit (other n ne)),
+          ap bit here,
+          ap bit (ltb-no 0 (getD u (numberIn v) 0) (omega (arith, none))),
+        );
+        one = omega arith;
+      }
+    where
+      inside : numberIn v < length u
+      inside = omega (arith, long, number-lt)
+
+      here : marked (set u (numberIn v) 1) (numberIn v) ≡ true
+      here = marked-set u (numberIn v) inside (numberIn v) ∙ or-right (marked u (numberIn v)) (eqb (numberIn v) (numberIn v)) (eqb-self (numberIn v))
+
+      other : (n : ℕ) → (n ≡ numberIn v → ⊥) → marked (set u (numberIn v) 1) n ≡ marked u n
+      other n ne =
+          marked-set u (numberIn v) inside n
+          ∙ ap (λ (b : Bool). marked u n || b) (eqb-no (numberIn v) n (λ q. ne (sym q)))
+          ∙ or-false (marked u n)
+
+-- the numbers of the cells so far, no cell and one more
+pub marked-none : (t : List ℕ) → Marked t 0 (replicate 256 0)
+marked-none t =
+    record {
+      long = refl;
+      which = λ n l. ap (λ (x : ℕ). ltb 0 x) (zeros 256 n) ∙ sym (some-none (λ j. eqb (getD t j 0) (callCell n)));
+    }
+
+pub none-marked : count 256 (marked (replicate 256 0)) ≡ 0
+none-marked = count-none 256 (marked (replicate 256 0)) (λ n l. ap (λ (x : ℕ). ltb 0 x) (zeros 256 n))
+
+pub marked-more : {t : List ℕ} {i v : ℕ} {u w : List ℕ} {r : ℕ} (j : ℕ) → Marked t i u → v ≡ getD t i 0 → Marks v u w r → j ≡ i + 1 → Marked t j w
+marked-more {t} {i} {v} {u} {w} j m e k q =
+    record {
+      long = k .long ∙ m .long;
+      which = λ n l.
+          k .which n l
+          ∙ ap₂ (λ (a b : Bool). a || b) (m .which n l) (ap (λ (x : ℕ). eqb x (callCell n)) e)
+          ∙ sym (some-more i (λ j. eqb (getD t j 0) (callCell n)))
+          ∙ ap (λ (x : ℕ). ltb 0 (count x (λ j. eqb (getD t j 0) (callCell n)))) (sym q);
+    }
+
+-- ---- slots by how many free cells they have
+
+-- one slot more, which has f of them
+pub with-more : (l : List ℕ) (n : ℕ) (x : ℕ → ℕ) (f : ℕ) → f < length l → ByFree l n x → f ≡ x n
+    → ByFree (set l f (getD l f 0 + 1)) (n + 1) x
+with-more l n x f inside h e g low = go (is (eqb g (x n)))
+  where
+    more : count (n + 1) (λ s. eqb g (x s)) ≡ count n (λ s. eqb g (x s)) + bit (eqb g (x n))
+    more = sum-more n (λ s. bit (eqb g (x s)))
+
+    go : Is (eqb g (x n)) → getD (set l f (getD l f 0 + 1)) g 0 ≡ count (n + 1) (λ s. eqb g (x s))
+    go (is-true y) =
+        let same : g ≡ f = eq-of g (x n) y ∙ sym e in
+        ap (λ (k : ℕ). getD (set l f (getD l f 0 + 1)) k 0) same
+        ∙ getD-set-same l f (getD l f 0 + 1) 0 inside
+        ∙ omega (arith, h g low, ap (λ (k : ℕ). getD l k 0) same, more, ap bit y)
+    go (is-false y) =
+        getD-set-other l f g (getD l f 0 + 1) 0 (λ q. ne-of g (x n) y (q ∙ e)) ∙ omega (arith, h g low, more, ap bit y)
+
+pub with-none : (x : ℕ → ℕ) → ByFree (replicate 9 0) 0 x
+with-none x g l = zeros 9 g ∙ sym (sum-none (λ s. bit (eqb g (x s))))
+
+-- no more slots are counted than there are
+pub with-le : (l : List ℕ) (n : ℕ) (x : ℕ → ℕ) → ByFree l n x → sum 9 (at l) ≤ n
+with-le l n x h =
+    omega (
+      arith,
+      sum-ext 9 (at l) (λ g. sum n (λ s. bit (eqb g (x s)))) h,
+      sum-swap 9 n (λ g s. bit (eqb g (x s))),
+      sum-le n (λ s. sum 9 (λ g. bit (eqb g (x s)))) (λ s. 1) (λ s l. count-eqb-le 9 (x s)),
+      sum-const n 1,
+    )
+
+-- Of the slots counted in l, `left` have r free cells or more, and `out` has the capacities up to r.
+pub record Least (l : List ℕ) (n r left : ℕ) (out : List ℕ) : Type 0 where
+  pub long : length out ≡ 9
+  pub rest : left + sum r (at l) ≡ n
+  pub low : getD out r 0 ≤ 64 * r
+  pub right : (x : ℕ → ℕ) → ByFree l n x
+      → (left ≡ count n (λ s. leb r (x s))) × ((q : ℕ) → q ≤ r → getD out q 0 ≡ capacity n x q)
+
+pub least-none : (l : List ℕ) (n : ℕ) → Least l n 0 n (replicate 9 0)
+least-none l n =
+    record {
+      long = refl;
+      rest = omega (arith, sum-none (at l));
+      low = omega arith;
+      right = λ x h. (
+        sym (count-all n (λ s. leb 0 (x s)) (λ s m. leb-yes 0 (x s) (omega arith))),
+        λ q m. let z : q ≡ 0 = omega arith in zeros 9 q ∙ sym (ap (capacity n x) z ∙ capacity-zero n x),
+      );
+    }
+
+module _ {l : List ℕ} {n r left : ℕ} {out : List ℕ} (i : Least l n r left out) (most : n ≤ 64) (few : sum 9 (at l) ≤ n) (room : r < 8) where
+  -- the slots that have just r are among those that are left
+  pub least-here : getD l r 0 ≤ left
+  least-here = omega (arith, i .rest, sum-beyond r 9 (at l) r (omega arith) (omega arith), few)
+
+  pub least-more : Least l n (r + 1) (left - getD l r 0) (set out (r + 1) (getD out r 0 + (left - getD l r 0)))
+  least-more =
+      record {
+        long = length-set out (r + 1) v ∙ i .long;
+        rest = omega (arith, i .rest, sum-more r (at l), least-here);
+        low = omega (arith, here, i .low, i .rest, most);
+        right = λ x h.
+            let now = i .right x h in
+            let least : left - getD l r 0 ≡ count n (λ s. leb (r + 1) (x s)) = omega (arith, now .0, h r (omega arith), count-least n x r) in
+            (least, λ q m. go x q m (now .1) least (is (eqb q (r + 1))));
+      }
+    where
+      v : ℕ
+      v = getD out r 0 + (left - getD l r 0)
+
+      inside : r + 1 < length out
+      inside = omega (arith, i .long, room)
+
+      here : getD (set out (r + 1) v) (r + 1) 0 ≡ v
+      here = getD-set-same out (r + 1) v 0 inside
+
+      go : (x : ℕ → ℕ) (q : ℕ) → q ≤ r + 1 → ((q : ℕ) → q ≤ r → getD out q 0 ≡ capacity n x q) → left - getD l r 0 ≡ count n (λ s. leb (r + 1) (x s))
+          → Is (eqb q (r + 1)) → getD (set out (r + 1) v) q 0 ≡ capacity n x q
+      go x q m known least (is-true e) =
+          rw (eq-of q (r + 1) e) (here ∙ omega (arith, known r (omega arith), least, capacity-next n x r))
+      go x q m known least (is-false e) =
+          let ne = ne-of q (r + 1) e in
+          getD-set-other out (r + 1) q v 0 ne ∙ known q (omega arith)
+
+-- ---- the presets' numbers
+
+-- the numbers of the first i presets are marked beside those that were
+pub record MarkedBeside (ps : List Preset) (before : List ℕ) (i : ℕ) (after : List ℕ) : Type 0 where
+  pub long : length after ≡ 256
+  pub which : (n : ℕ) → n < 256 → marked after n ≡ (ltb 0 (count i (λ j. eqb (getD ps j noPreset .number) n)) || marked before n)
+
+pub beside-none : (ps : List Preset) (u : List ℕ) → length u ≡ 256 → MarkedBeside ps u 0 u
+beside-none ps u long =
+    record { long = long; which = λ n l. sym (ap (λ (b : Bool). b || marked u n) (some-none (λ j. eqb (getD ps j noPreset .number) n))) }
+
+pub beside-more : {ps : List Preset} {u w : List ℕ} {i : ℕ} (m : ℕ) → MarkedBeside ps u i w → m < 256 → m ≡ getD ps i noPreset .number
+    → MarkedBeside ps u (i + 1) (set w m 1)
+beside-more {ps} {u} {w} {i} m b small e =
+    record {
+      long = length-set w m 1 ∙ b .long;
+      which = λ n l.
+          marked-set w m (omega (arith, b .long)) n
+          ∙ ap₂ (λ (c d : Bool). c || d) (b .which n l) (ap (λ (k : ℕ). eqb k n) e)
+          ∙ swap (ltb 0 (count i (λ j. eqb (getD ps j noPreset .number) n))) (marked u n) (eqb (getD ps i noPreset .number) n)
+          ∙ ap (λ (c : Bool). c || marked u n) (sym (some-more i (λ j. eqb (getD ps j noPreset .number) n)));
+    }
+  where
+    swap : (a c d : Bool) → ((a || c) || d) ≡ ((a || d) || c)
+    swap true c d = refl
+    swap false c d = or-comm c d
+
+-- ---- the counts of the frame
+
+-- a slot's cells as those that a call may use
+slot-free-is : (h : Head) (t : List ℕ) (clock s : ℕ) → slotFree t (h .bridges) clock s ≡ usableCount h clock (cell h t) s
+unfolding slotFree freeIn
+slot-free-is h t clock s = go (is (usable clock s))
+  where
+    go : Is (usable clock s) → only (usable clock s) (count (h .bridges) (λ b. freeCell (cell h t s b))) ≡ usableCount h clock (cell h t) s
+    go (is-true e) = rw e
+    go (is-false e) = rw e (sym (count-none (h .bridges) (λ b. false) (λ b l. refl)))
+
+pub slot-free-le : (t : List ℕ) (bridges clock s : ℕ) → slotFree t bridges clock s ≤ bridges
+unfolding slotFree
+slot-free-le t bridges clock s = omega (arith, only-le (usable clock s) (freeIn t (s * bridges) bridges), free-in-le t (s * bridges) bridges)
+
+pub slot-free : (t : List ℕ) (bridges clock s : ℕ) {f g : ℕ} → f ≡ freeIn t (s * bridges) bridges → g ≡ only (usable clock s) f → g ≡ slotFree t bridges clock s
+unfolding slotFree
+slot-free t bridges clock s e q = q ∙ ap (only (usable clock s)) e
+
+module _ (h : Head) (clock : ℕ) (t : List ℕ) {u : List ℕ} (m : Marked t (h .slots * h .bridges) u) where
+  job-marked : (n : ℕ) → n < 256 → marked u n ≡ hasJob h (cell h t) n
+  job-marked n l =
+      m .which n l ∙ ap (λ (k : ℕ). ltb 0 k) (sum-rows (h .slots) (h .bridges) (λ i. bit (eqb (getD t i 0) (callCell n))))
+
+  pub counts-of : {w xs : List ℕ} {jobs : ℕ} → ((n : ℕ) → n < 256 → marked w n ≡ (hasPreset h n || marked u n)) → jobs ≡ count 256 (marked u)
+      → ((k : ℕ) → k < 9 → getD xs k 0 ≡ capacity (h .slots) (slotFree t (h .bridges) clock) k)
+      → CountsOf h clock (cell h t) (record { used = w; jobs = jobs; capacities = xs })
+  counts-of numbers many room =
+      record {
+        used = λ n l. numbers n l ∙ ap (λ (b : Bool). hasPreset h n || b) (job-marked n l);
+        jobs = many ∙ count-ext 256 (marked u) (λ n. hasJob h (cell h t) n) job-marked;
+        capacities = λ k l.
+            room k l
+            ∙ sum-ext (h .slots) (λ s. min k (slotFree t (h .bridges) clock s)) (λ s. min k (usableCount h clock (cell h t) s))
+            (λ s z. ap (min k) (slot-free-is h t clock s));
+      }

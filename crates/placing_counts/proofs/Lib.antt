@@ -1,0 +1,3 @@
+-- Laws of the counts and of the causes that are tried by them.
+pub mod Counting
+pub mod Tried

@@ -1,0 +1,125 @@
+// The causes of a call itself, tried by the counts of the table and the clock: 2, 4 and 9 of its jobs, then 7.
+use crate::counts::Counts;
+use crate::needs::job_needs;
+use placing_check::cause::Cause;
+use placing_evict::evict::excess_over;
+use station::types::Job;
+use station::types::Refusal;
+ghost use Prim.Native.Nat.{_<_, _≤_};
+ghost use mathlib.Core.Path.{_≡_};
+ghost use mathlib.Core.Bool.{false, not};
+ghost use Rattle.laws.specs.Sums.{every};
+ghost use Rattle.placing.specs.CallJobs.{jobIn, jobsIn};
+ghost use Rattle.placing.specs.Entries.{jobsOutside};
+ghost use Rattle.placing_check.specs.Causes.{callJobs};
+ghost use Rattle.placing_counts.specs.Jobs.{jobWithin, jobNumber, isOther, jobNew};
+ghost use Rattle.placing_counts.specs.Counts.{CountedFit, CountedCause};
+
+// How many jobs a call has at the most, and how many job numbers a table.
+const JOBS: usize = 8;
+
+const NUMBERS: usize = 64;
+
+// Whether a job's number and length are within their limits.
+fn job_within(job: Job) -> bool
+    ensures { λ r. ⌜ r ≡ jobWithin (jobIn job) ⌝ }
+{
+    if job.number < 1 {
+        return false;
+    }
+    if 255 < job.number {
+        return false;
+    }
+    if job.slots < 1 {
+        return false;
+    }
+    job.slots <= 64
+}
+
+// Whether the first n jobs are no call's: none at all, or one outside its limits.
+fn jobs_outside(jobs: [Job; 8], n: usize) -> bool
+    requires { ⌜ n ≤ 8 ⌝ }
+    ensures { λ r. ⌜ r ≡ jobsOutside (jobsIn n jobs) ⌝ }
+{
+    if n == 0 {
+        return true;
+    }
+    let mut i = 0;
+    while i < n {
+        if !job_within(jobs[i]) {
+            return true;
+        }
+        i += 1;
+    }
+    false
+}
+
+// Whether no job before job i has the number of job i.
+fn is_first(jobs: [Job; 8], i: usize) -> bool
+    requires { ⌜ i < 8 ⌝ }
+    ensures { λ r. ⌜ r ≡ every i (isOther jobs (jobNumber jobs i)) ⌝ }
+{
+    let job = jobs[i];
+    let number = job.number;
+    let mut j = 0;
+    while j < i {
+        let other = jobs[j];
+        if other.number == number {
+            return false;
+        }
+        j += 1;
+    }
+    true
+}
+
+// Whether one of the first n jobs has a number that is used, or that a job before it has.
+fn jobs_used(used: &[u8; 256], jobs: [Job; 8], n: usize) -> bool
+    requires { ⌜ (n ≤ 8) × (jobsOutside (jobsIn n jobs) ≡ false) ⌝ }
+    ensures { λ r. ⌜ r ≡ not (every n (jobNew (now (used .entry)) jobs)) ⌝ }
+{
+    let mut i = 0;
+    while i < n {
+        let job = jobs[i];
+        let number = job.number as usize;
+        if used[number] != 0 {
+            return true;
+        }
+        if !is_first(jobs, i) {
+            return true;
+        }
+        i += 1;
+    }
+    false
+}
+
+// Whether the first n jobs fit into the cells that they may use, whose capacities for 0 to 8 are given.
+fn jobs_fit(capacities: &[usize; 9], jobs: [Job; 8], n: usize) -> bool
+    requires { ⌜ (n ≤ 8) × (jobsOutside (jobsIn n jobs) ≡ false) ⌝ }
+    ensures { λ r. ⌜ CountedFit (now (capacities .entry)) (jobsIn n jobs) r ⌝ }
+{
+    let needs = job_needs(jobs);
+    excess_over(needs, n, capacities) == 0
+}
+
+// The causes of a call of the first n jobs itself, by the counts of the table and the clock: 2 for a ninth job, for none, or for one outside its limits, 4 for a number
+// that is used or twice in the call, 9 for more than 64 job numbers, 7 where the call does not fit.
+pub fn cause_by_counts(counts: Counts, jobs: [Job; 8], n: usize) -> Cause
+    ensures { λ r. ⌜ CountedCause counts (callJobs n jobs) r ⌝ }
+{
+    if JOBS < n {
+        return Cause::Met(Refusal::OutOfLimits);
+    }
+    if jobs_outside(jobs, n) {
+        return Cause::Met(Refusal::OutOfLimits);
+    }
+    if jobs_used(&counts.used, jobs, n) {
+        return Cause::Met(Refusal::NumberUsed);
+    }
+    if NUMBERS - n < counts.jobs {
+        return Cause::Met(Refusal::TooMany);
+    }
+    if !jobs_fit(&counts.capacities, jobs, n) {
+        return Cause::Met(Refusal::CallNotFeasible);
+    }
+    Cause::Passed
+}

@@ -1,0 +1,110 @@
+-- What `planner_event` answers and leaves, law by law.
+--
+-- In order: what an event line comes to by the causes 8 of the frame and of the presets (`on-..`); one that is refused by these (`event-short-frame`,
+-- `event-short-presets`); a refusal changes nothing (`refused-keeps`); one that is handed on (`event-run`, `event-handed`).
+-- Assumes nothing.
+use Prim.Native.Nat.{ℕ, _≤_, _<_}
+use native.Mathlib.Omega.{arith}
+use mathlib.Core.Path.{_≡_, refl, sym, _∙_, ap, subst}
+use mathlib.Core.Option.{Option, none, some}
+use mathlib.Core.List.{List, [], _∷_}
+use lib.ListN.{length}
+use Rattle.laws.proofs.Sums.{ltb-yes, ltb-no}
+use Rattle.station.specs.Head.{Head}
+use Rattle.station.specs.Refusal.{Refusal, tooShort, firstOf}
+use Rattle.station.specs.Types.{headIn}
+use Rattle.station.specs.declared.types.Preset as record-of-preset
+use Rattle.station.specs.declared.types.Head as record-of-head
+use Rattle.placing.specs.Claims.{Running}
+use Rattle.placing_check.specs.Causes.{causesOf}
+use Rattle.frame.specs.Event.{Event, refused, State, Outcome}
+use Rattle.frame.specs.Types.{answerIn}
+use Rattle.frame.specs.declared.types.Outcome as result
+use Rattle.frame.specs.Demands.{EventIs, stopped, clockSet, placed}
+use Rattle.frame.proofs.Event.{event-is}
+use Rattle.frame.proofs.Demands.{demand-3}
+use Rattle.frame_events.specs.Running.{stateOf, eventMeant, EventDone}
+use Rattle.frame_events.proofs.Running.{done-running}
+use Rattle.planner_layout.specs.Layout.{recordsIn, headOfNumbers, clockOfNumbers, clockOver}
+use Rattle.planner_layout.proofs.RoundTrip.{clock-head, clock-new, clock-same}
+use Rattle.planner.specs.Exports.{headOn, RunningOn, eventOn, answerNumber, answerCount, EventLeaves, EventPromise}
+
+-- a refusal changes nothing
+is-keeps : {h : Head} {st : State} {e : Event} {o : Outcome} → EventIs h st e o → 0 < answerNumber (o .answer) → o .after ≡ st
+is-keeps (stopped r q) l = refl
+is-keeps (clockSet t q n) l = absurd (omega (arith, l))
+is-keeps (placed jobs q n) l = absurd (omega (arith, l))
+
+refused-keeps : (head : record-of-head.Head) (ps : List record-of-preset.Preset) (st : State) (e : Event) → 0 < answerNumber (eventMeant head ps st e .answer) → eventMeant head ps st e .after ≡ st
+unfolding eventMeant
+refused-keeps head ps st e l = go (firstOf (causesOf head ps (st .table))) refl
+  where
+    go : (c : Option Refusal) → firstOf (causesOf head ps (st .table)) ≡ c → eventMeant head ps st e .after ≡ st
+    go none q = rw (q, eventMeant) (is-keeps (event-is (headIn head ps) st e) (rw (q, eventMeant) at l))
+    go (some r) q = rw (q, eventMeant) refl
+
+module _ (f p t l : List ℕ) where
+  abbrev state : State
+  state = stateOf t (clockOfNumbers f)
+
+  on-short-frame : length f < 12 → eventOn f p t l ≡ record { answer = refused tooShort; after = state }
+  unfolding eventOn firstOf
+  on-short-frame s = rw (ltb-yes (length f) 12 s, eventOn) refl
+
+  on-short-presets : 12 ≤ length f → length p < 128 → eventOn f p t l ≡ record { answer = refused tooShort; after = state }
+  unfolding eventOn firstOf
+  on-short-presets k s = rw (ltb-no (length f) 12 k, ltb-yes (length p) 128 s, eventOn) refl
+
+  on-enough : 12 ≤ length f → 128 ≤ length p → eventOn f p t l ≡ eventMeant (headOfNumbers f) (recordsIn p) state (Event.line l)
+  unfolding eventOn firstOf
+  on-enough k s = rw (ltb-no (length f) 12 k, ltb-no (length p) 128 s, eventOn) refl
+
+  -- what is answered and left, and what is claimed
+  abbrev Done : List ℕ → List ℕ → ℕ → ℕ → Type 0
+  Done f₁ t₁ n r = EventLeaves (eventOn f p t l) f f₁ t₁ n r × EventPromise f p t l f₁ t₁ r
+
+  event-stopped : eventOn f p t l ≡ record { answer = refused tooShort; after = state } → Done f t 0 8
+  event-stopped e = (
+    subst (λ (o : Outcome). EventLeaves o f f t 0 8) (sym e) (record { answer = refl; number = refl; frame = sym (clock-same f); table = refl }),
+    record { unchanged = λ z. (refl, refl); kept = λ run. run; claim = demand-3 (headOn f p) state (Event.line l ∷ []) },
+  )
+
+  pub event-short-frame : length f < 12 → Done f t 0 8
+  event-short-frame s = event-stopped (on-short-frame s)
+
+  pub event-short-presets : 12 ≤ length f → length p < 128 → Done f t 0 8
+  event-short-presets k s = event-stopped (on-short-presets k s)
+
+  module _ {f₁ t₁ : List ℕ} {x : result.Outcome} (k : 12 ≤ length f) (s : 128 ≤ length p) (d : EventDone (headOfNumbers f) (recordsIn p) t (clockOfNumbers f) (Event.line l) t₁ x)
+      (a : f₁ ≡ clockOver (x .clock) f) where
+    -- the head of the frame is as it was, and its clock the new one
+    frame-again : Running (headOn f p) (x .clock) t₁ → RunningOn f₁ p t₁
+    frame-again run =
+        let head : headOfNumbers f₁ ≡ headOfNumbers f = ap headOfNumbers a ∙ clock-head (x .clock) f in
+        let clock : clockOfNumbers f₁ ≡ x .clock = ap clockOfNumbers a ∙ clock-new (x .clock) f k in
+        subst (λ (h : record-of-head.Head). Running (headIn h (recordsIn p)) (clockOfNumbers f₁) t₁) (sym head) (subst (λ (c : ℕ). Running (headOn f p) c t₁) (sym clock) run)
+
+    same : {r : ℕ} → r ≡ answerNumber (answerIn (x .answer)) → 0 < r → (f₁ ≡ f) × (t₁ ≡ t)
+    same e z =
+        let st : eventMeant (headOfNumbers f) (recordsIn p) state (Event.line l) .after ≡ state =
+        refused-keeps (headOfNumbers f) (recordsIn p) state (Event.line l) (omega (arith, z, e, ap answerNumber (d .answer))) in (
+          a ∙ ap (λ (c : ℕ). clockOver c f) (d .clock ∙ ap (λ (y : State). y .clock) st) ∙ clock-same f,
+          d .table ∙ ap (λ (y : State). y .table) st,
+        )
+
+    event-run : {n r : ℕ} → n ≡ answerCount (answerIn (x .answer)) → r ≡ answerNumber (answerIn (x .answer)) → Done f₁ t₁ n r
+    event-run {n} {r} e₁ e₂ = (
+      subst (λ (o : Outcome). EventLeaves o f f₁ t₁ n r) (sym (on-enough k s)) (record {
+        answer = e₂ ∙ ap answerNumber (d .answer);
+        number = e₁ ∙ ap answerCount (d .answer);
+        frame = a ∙ ap (λ (c : ℕ). clockOver c f) (d .clock);
+        table = d .table;
+      }),
+      record { unchanged = same e₂; kept = λ run. frame-again (done-running (headOfNumbers f) (recordsIn p) (clockOfNumbers f) t (Event.line l) d run); claim = demand-3 (headOn f p) state (Event.line l ∷ []) },
+    )
+
+  -- the same of what was read of the frame and of the presets
+  pub event-handed : (hd : record-of-head.Head) (ps : List record-of-preset.Preset) (c : ℕ) (x : result.Outcome) {f₁ t₁ : List ℕ} {n r : ℕ} → 12 ≤ length f → 128 ≤ length p
+      → hd ≡ headOfNumbers f → ps ≡ recordsIn p → c ≡ clockOfNumbers f → EventDone hd ps t c (Event.line l) t₁ x
+      → f₁ ≡ clockOver (x .clock) f → n ≡ answerCount (answerIn (x .answer)) → r ≡ answerNumber (answerIn (x .answer)) → Done f₁ t₁ n r
+  event-handed hd ps c x k s a b e d f₂ n r = event-run {x = x} k s (rw (a, b, e) at d) f₂ n r

@@ -1,0 +1,151 @@
+-- What `planner_run_text` answers and leaves, law by law.
+--
+-- In order: what a text comes to by the causes 10 and 8 of the frame and of the presets (`on-..`); a text that is refused by these (`text-long`, `text-short-frame`,
+-- `text-short-presets`); what is left of the head and of the records by value, written back (`frame-left`, `presets-left`) and read again (`head-again`); a text that
+-- is run (`text-run`, `text-handed`).
+-- Assumes nothing.
+use Prim.Native.Nat.{ℕ, _≤_, _<_}
+use native.Mathlib.Omega.{arith}
+use mathlib.Core.Path.{_≡_, refl, sym, _∙_, ap, subst}
+use mathlib.Core.List.{List, map}
+use lib.ListN.{length, drop, length-map, length-append, length-drop}
+use lib.Dec.{ltb}
+use Rattle.laws.proofs.Sums.{Is, is, is-true, is-false, lt-of, ge-of, ltb-yes, ltb-no}
+use Rattle.station.specs.Head.{Head}
+use Rattle.station.specs.Refusal.{Refusal, tooShort, textTooLong, numberOf, firstOf}
+use Rattle.station.specs.Types.{headIn}
+use Rattle.station.specs.declared.types.Preset as record-of-preset
+use Rattle.station.specs.declared.types.Head as record-of-head
+use Rattle.station_heads.specs.ReadHead.{headRecord, recordOf, recordsOver}
+use Rattle.station_heads.proofs.HeadText as heads
+use Rattle.placing.specs.Claims.{Running}
+use Rattle.frame.specs.Text.{Whole, notRead, notPlanned, ran}
+use Rattle.frame.specs.Event.{Run}
+use Rattle.frame_text.specs.declared.whole.TextRun as run
+use Rattle.frame_text.specs.Whole.{wholeBeside, endIn, endOf, headAfter, presetsAfter, tableAfter, clockAfter, outputAfter, TextDone}
+use Rattle.frame_text.proofs.WholeText.{beside-long, text-claim}
+use Rattle.planner_layout.specs.Layout.{recordsIn, bytesOver, headOfNumbers, clockOfNumbers, numbersOver}
+use Rattle.planner_layout.proofs.RoundTrip.{records-back, bytes-back, bytes-over-rest, length-records, head-back, clock-back, numbers-back}
+use Rattle.planner.specs.Exports.{RunningOn, textOn, endNumber, endPlace, frameAfter, recordsAfter, TextLeaves, TextPromise}
+use Rattle.planner.proofs.Numbers.{number-some}
+
+module _ (text f p t out : List ℕ) where
+  on-long : 32768 < length text → textOn text f p t out ≡ notRead 0 textTooLong
+  unfolding textOn firstOf
+  on-long l = rw (ltb-yes 32768 (length text) l, textOn) refl
+
+  on-short-frame : length text ≤ 32768 → length f < 12 → textOn text f p t out ≡ notRead 0 tooShort
+  unfolding textOn firstOf
+  on-short-frame l s = rw (ltb-no 32768 (length text) l, ltb-yes (length f) 12 s, textOn) refl
+
+  on-short-presets : length text ≤ 32768 → 12 ≤ length f → length p < 128 → textOn text f p t out ≡ notRead 0 tooShort
+  unfolding textOn firstOf
+  on-short-presets l k s = rw (ltb-no 32768 (length text) l, ltb-no (length f) 12 k, ltb-yes (length p) 128 s, textOn) refl
+
+  on-long-enough : length text ≤ 32768 → 12 ≤ length f → 128 ≤ length p → textOn text f p t out ≡ wholeBeside text t out
+  unfolding textOn firstOf
+  on-long-enough l k s = rw (ltb-no 32768 (length text) l, ltb-no (length f) 12 k, ltb-no (length p) 128 s, textOn) refl
+
+  on-enough : 12 ≤ length f → 128 ≤ length p → textOn text f p t out ≡ wholeBeside text t out
+  on-enough k s = go (is (ltb 32768 (length text)))
+    where
+      go : Is (ltb 32768 (length text)) → textOn text f p t out ≡ wholeBeside text t out
+      go (is-true l) = let m = lt-of 32768 (length text) l in on-long m ∙ sym (beside-long text t out m)
+      go (is-false l) = on-long-enough (ge-of 32768 (length text) l) k s
+
+  -- what is answered and left, and what is claimed
+  abbrev Done : List ℕ → List ℕ → List ℕ → List ℕ → ℕ → ℕ → Type 0
+  Done f₁ p₁ t₁ out₁ n r = TextLeaves (textOn text f p t out) f p t out f₁ p₁ t₁ out₁ n r × TextPromise text f p t out f₁ p₁ t₁ r
+
+  text-stopped : (c : Refusal) → textOn text f p t out ≡ notRead 0 c → Done f p t out 0 (numberOf c)
+  unfolding endOf frameAfter recordsAfter tableAfter outputAfter
+  text-stopped c e = (
+    subst (λ (w : Whole). TextLeaves w f p t out f p t out 0 (numberOf c)) (sym e)
+        (record { answer = refl; end = refl; frame = refl; presets = refl; table = refl; output = refl }),
+    record { long = on-enough; claim = text-claim text t out; running = λ z. absurd (number-some c z) },
+  )
+
+  pub text-long : 32768 < length text → Done f p t out 0 10
+  text-long l = text-stopped textTooLong (on-long l)
+
+  pub text-short-frame : length text ≤ 32768 → length f < 12 → Done f p t out 0 8
+  text-short-frame l s = text-stopped tooShort (on-short-frame l s)
+
+  pub text-short-presets : length text ≤ 32768 → 12 ≤ length f → length p < 128 → Done f p t out 0 8
+  text-short-presets l k s = text-stopped tooShort (on-short-presets l k s)
+
+  -- what a text leaves of the frame and of the records by value, written back
+  frame-left : (w : Whole) → numbersOver (headAfter w (headOfNumbers f)) (clockAfter w (clockOfNumbers f)) f ≡ frameAfter w f
+  unfolding headAfter clockAfter frameAfter
+  frame-left (notRead n r) = numbers-back f
+  frame-left (notPlanned h n r) = refl
+  frame-left (ran h n g r) = refl
+
+  over-left : (h : Head) → bytesOver (recordsOver (h .presets) (recordsIn p)) p ≡ bytesOver (map recordOf (h .presets)) p
+  over-left h = let long : length (map recordOf (h .presets)) ≡ length (h .presets) = length-map (h .presets) recordOf in rw (sym long) (bytes-over-rest (map recordOf (h .presets)) 32 p)
+
+  presets-left : (w : Whole) → bytesOver (presetsAfter w (recordsIn p)) p ≡ recordsAfter w p
+  unfolding presetsAfter recordsAfter
+  presets-left (notRead n r) = bytes-back 32 p
+  presets-left (notPlanned h n r) = over-left h
+  presets-left (ran h n g r) = over-left h
+
+  -- a head and its records, written and read again
+  head-again : (h : Head) (c : ℕ) {f₁ p₁ : List ℕ} → 12 ≤ length f → 128 ≤ length p → length (h .busy) ≡ 8 → length (h .presets) ≤ 32
+      → f₁ ≡ numbersOver (headRecord h) c f → p₁ ≡ bytesOver (recordsOver (h .presets) (recordsIn p)) p
+      → (headIn (headOfNumbers f₁) (recordsIn p₁) ≡ h) × (clockOfNumbers f₁ ≡ c)
+  head-again h c {f₁} {p₁} k s eight few a b =
+      let all : length (recordsOver (h .presets) (recordsIn p)) ≡ 32 =
+      omega (arith, few, length-append (map recordOf (h .presets)) (drop (length (h .presets)) (recordsIn p)), length-map (h .presets) recordOf, length-drop (length (h .presets)) (recordsIn p), length-records 32 p) in
+      let back : recordsIn p₁ ≡ recordsOver (h .presets) (recordsIn p) =
+      ap recordsIn b ∙ (rw all at (records-back (recordsOver (h .presets) (recordsIn p)) p (omega (arith, all, s)))) in (
+        ap (λ (g : record-of-head.Head). headIn g (recordsIn p₁)) (ap headOfNumbers a ∙ head-back (headRecord h) c f eight k)
+            ∙ ap (headIn (headRecord h)) back
+            ∙ heads.head-back h (recordsIn p),
+        ap clockOfNumbers a ∙ clock-back (headRecord h) c f eight k,
+      )
+
+  module _ {f₁ p₁ t₁ out₁ : List ℕ} {x : run.TextRun} (k : 12 ≤ length f) (s : 128 ≤ length p) (d : TextDone text (headOfNumbers f) (recordsIn p) t (clockOfNumbers f) out t₁ out₁ x)
+      (a : f₁ ≡ numbersOver (x .head) (x .clock) f) (b : p₁ ≡ bytesOver (x .presets) p) where
+    ran-left : (w : Whole) → wholeBeside text t out ≡ w → endNumber (endOf w out) ≡ 0 → RunningOn f₁ p₁ t₁
+    unfolding endOf headAfter presetsAfter tableAfter clockAfter
+    ran-left (notRead n r) e z = absurd (number-some r z)
+    ran-left (notPlanned h n r) e z = absurd (number-some r z)
+    ran-left (ran h n g r) e z =
+        let after : Running h (r .after .clock) (r .after .table) =
+        subst (λ (y : Run). Running h (y .after .clock) (y .after .table)) (sym (text-claim text t out .events h n g r e)) (text-claim text t out .demand3 h n g r e .running) in
+        let head : x .head ≡ headRecord h = d .head ∙ ap (λ (w : Whole). headAfter w (headOfNumbers f)) e in
+        let clock : x .clock ≡ r .after .clock = d .clock ∙ ap (λ (w : Whole). clockAfter w (clockOfNumbers f)) e in
+        let records : x .presets ≡ recordsOver (h .presets) (recordsIn p) = d .presets ∙ ap (λ (w : Whole). presetsAfter w (recordsIn p)) e in
+        let table : t₁ ≡ r .after .table = d .table ∙ ap (λ (w : Whole). tableAfter w t) e in
+        let again = head-again h (r .after .clock) k s (after .valid .masks) (after .valid .number-of-presets)
+        (a ∙ ap (λ (g : record-of-head.Head). numbersOver g (x .clock) f) head ∙ ap (λ (c : ℕ). numbersOver (headRecord h) c f) clock)
+        (b ∙ ap (λ (l : List record-of-preset.Preset). bytesOver l p) records) in
+        rw (again .0, again .1, table) after
+
+    text-run : {n r : ℕ} → n ≡ endPlace (endIn (x .ended)) → r ≡ endNumber (endIn (x .ended)) → Done f₁ p₁ t₁ out₁ n r
+    text-run {n} {r} e₁ e₂ = (
+      subst (λ (w : Whole). TextLeaves w f p t out f₁ p₁ t₁ out₁ n r) (sym (on-enough k s)) (record {
+        answer = e₂ ∙ ap endNumber (d .ended);
+        end = e₁ ∙ ap endPlace (d .ended);
+        frame =
+            a
+            ∙ ap (λ (g : record-of-head.Head). numbersOver g (x .clock) f) (d .head)
+            ∙ ap (λ (c : ℕ). numbersOver (headAfter (wholeBeside text t out) (headOfNumbers f)) c f) (d .clock)
+            ∙ frame-left (wholeBeside text t out);
+        presets = b ∙ ap (λ (l : List record-of-preset.Preset). bytesOver l p) (d .presets) ∙ presets-left (wholeBeside text t out);
+        table = d .table;
+        output = d .output;
+      }),
+      record {
+        long = on-enough;
+        claim = text-claim text t out;
+        running = λ z. ran-left (wholeBeside text t out) refl (sym (ap endNumber (d .ended)) ∙ sym e₂ ∙ z);
+      },
+    )
+
+  -- the same of what was read of the frame and of the presets
+  pub text-handed : (hd : record-of-head.Head) (ps : List record-of-preset.Preset) (c : ℕ) (x : run.TextRun) {f₁ p₁ t₁ out₁ : List ℕ} {n r : ℕ} → 12 ≤ length f → 128 ≤ length p
+      → hd ≡ headOfNumbers f → ps ≡ recordsIn p → c ≡ clockOfNumbers f → TextDone text hd ps t c out t₁ out₁ x
+      → f₁ ≡ numbersOver (x .head) (x .clock) f → p₁ ≡ bytesOver (x .presets) p → n ≡ endPlace (endIn (x .ended)) → r ≡ endNumber (endIn (x .ended)) → Done f₁ p₁ t₁ out₁ n r
+  text-handed hd ps c x k s a b e d f₂ p₂ n r = text-run {x = x} k s (rw (a, b, e) at d) f₂ p₂ n r

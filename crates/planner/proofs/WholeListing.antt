@@ -1,0 +1,17 @@
+-- What `planner_listing` answers and leaves, by the contract of `write_listing`.
+-- Assumes nothing.
+use Prim.Native.Nat.{ℕ, _≤_}
+use mathlib.Core.Path.{_≡_, _∙_, ap}
+use mathlib.Core.List.{List}
+use lib.ListN.{length}
+use Rattle.station_write.specs.WriteHead.{answerIn}
+use Rattle.station_write.specs.declared.write.Writing as writing
+use Rattle.frame_print.specs.WriteListing.{Listed, ListedWhole}
+use Rattle.planner.specs.Exports.{writtenNumber, writtenCount, ListingLeaves, ListingWhole}
+
+module _ (text t out : List ℕ) (x : writing.Writing) {out₁ : List ℕ} {n : ℕ} (e : n ≡ writtenCount (answerIn x)) where
+  pub listing-leaves : {t₁ : List ℕ} {r : ℕ} → Listed text t out t₁ out₁ x → r ≡ writtenNumber (answerIn x) → ListingLeaves text t out t₁ out₁ n r
+  listing-leaves d a = record { answer = a ∙ ap writtenNumber (d .answer); bytes = e ∙ ap writtenCount (d .answer); table = d .table; output = d .output }
+
+  pub listing-whole : (655360 ≤ length out → ListedWhole text t out out₁ x) → 655360 ≤ length out → ListingWhole text t out out₁ n
+  listing-whole d room = record { bytes = e ∙ ap writtenCount (d room .answer); output = d room .output }

@@ -1,0 +1,187 @@
+-- What the four exported functions are held to: what each answers, and every number, byte and cell that was handed over, afterwards, for all inputs; and what is
+-- claimed of it. Document 01, "Causes", "One listing, whole" and "What demand 3 speaks of". A frame and preset records are read and written as planner_layout says.
+--
+-- In order: the running frame that numbers and bytes stand for; an answer as numbers; `planner_run_text` (`TextLeaves`, `TextPromise`), `planner_event`
+-- (`EventLeaves`, `EventPromise`), `planner_plan` (`PlanLeaves`, `PlanPromise`), `planner_listing` (`ListingLeaves`, `ListingWhole`).
+-- Assumes nothing.
+use Prim.Native.Nat.{ℕ, _≤_, _<_}
+use mathlib.Core.Path.{_≡_}
+use mathlib.Core.Option.{Option, none, some}
+use mathlib.Core.List.{List, [], _∷_, map}
+use lib.ListN.{length}
+use lib.Seq.{sets}
+use lib.Dec.{ltb}
+use Rattle.laws.specs.Placement.{at}
+use Rattle.station.specs.Head.{Head}
+use Rattle.station.specs.Refusal.{Refusal, numberOf, tooShort, textTooLong, try, firstOf}
+use Rattle.station.specs.Types.{headIn}
+use Rattle.station_heads.specs.ReadHead.{headRecord, recordOf}
+use Rattle.station_write.specs.WriteHead as writing
+use Rattle.placing.specs.Claims.{Running, PlanClaim}
+use Rattle.placing.specs.Entries.{PlanAnswer, PlanOutcome}
+use Rattle.placing_grants.specs.Granting.{filled}
+use Rattle.placing_plan.specs.Planning.{planMeant}
+use Rattle.frame.specs.Event.{Event, Answer, now, taken, refused, Outcome}
+use Rattle.frame.specs.Text.{Whole, notRead, notPlanned, ran, wholeOf}
+use Rattle.frame.specs.Listing.{listingOf}
+use Rattle.frame.specs.Demands.{Demand3}
+use Rattle.frame_events.specs.Running.{stateOf, eventMeant}
+use Rattle.frame_text.specs.Whole.{wholeBeside, End, listed, refusedAt, endOf, tableAfter, outputAfter, TextClaim}
+use Rattle.frame_print.specs.WriteListing.{listingCause, listingMeant}
+use Rattle.planner_layout.specs.Layout.{recordsIn, bytesOver, headOfNumbers, clockOfNumbers, numbersOver, clockOver}
+
+-- ---- the running frame
+
+-- the head that the numbers of a frame and the bytes of the presets stand for
+abbrev pub headOn : List ℕ → List ℕ → Head
+headOn frame presets = headIn (headOfNumbers frame) (recordsIn presets)
+
+-- a running frame that 8, 2 and 11 let pass
+abbrev pub RunningOn : List ℕ → List ℕ → List ℕ → Type 0
+RunningOn frame presets t = Running (headOn frame presets) (clockOfNumbers frame) t
+
+-- "preset list below 32 records" is 8, and so is a frame below twelve numbers
+abbrev pub shortCauses : List ℕ → List ℕ → List (Option Refusal)
+shortCauses frame presets = try tooShort (ltb (length frame) 12) ∷ try tooShort (ltb (length presets) 128) ∷ []
+
+-- ---- planner_run_text
+
+-- What a text comes to: 10, then 8 of the frame and of the presets, then as beside the output, which is 8 of the output and of the table.
+unfoldable pub textOn : List ℕ → List ℕ → List ℕ → List ℕ → List ℕ → Whole
+textOn text frame presets t out =
+    elim (firstOf (try textTooLong (ltb 32768 (length text)) ∷ shortCauses frame presets)) [ none ↦ wholeBeside text t out | some r ↦ notRead 0 r ]
+
+-- 0, or the number of the refusal
+abbrev pub endNumber : End → ℕ
+endNumber (listed n) = 0
+endNumber (refusedAt n r) = numberOf r
+
+-- the number of bytes of the listing in the output, or the line at fault
+abbrev pub endPlace : End → ℕ
+endPlace (listed n) = n
+endPlace (refusedAt n r) = n
+
+-- The frame and the presets afterwards: a head that is not read leaves both as they were; "the head is the one read" where the required slots do not fit, and the
+-- clock stays; where the text ran, the clock is the one it left.
+unfoldable pub frameAfter : Whole → List ℕ → List ℕ
+frameAfter (notRead n r) frame = frame
+frameAfter (notPlanned h n r) frame = numbersOver (headRecord h) (clockOfNumbers frame) frame
+frameAfter (ran h n g r) frame = numbersOver (headRecord h) (r .after .clock) frame
+
+unfoldable pub recordsAfter : Whole → List ℕ → List ℕ
+recordsAfter (notRead n r) presets = presets
+recordsAfter (notPlanned h n r) presets = bytesOver (map recordOf (h .presets)) presets
+recordsAfter (ran h n g r) presets = bytesOver (map recordOf (h .presets)) presets
+
+-- What `planner_run_text` answers (r and n, the `end`) and leaves where the text comes to w; f is the frame and p the presets.
+pub record TextLeaves (w : Whole) (f p t out f₁ p₁ t₁ out₁ : List ℕ) (n r : ℕ) : Type 0 where
+  pub answer : r ≡ endNumber (endOf w out)
+  pub end : n ≡ endPlace (endOf w out)
+  pub frame : f₁ ≡ frameAfter w f
+  pub presets : p₁ ≡ recordsAfter w p
+  pub table : t₁ ≡ tableAfter w t
+  pub output : out₁ ≡ outputAfter w out
+
+-- What is claimed of it, r being the answer.
+pub record TextPromise (text frame presets t out frame₁ presets₁ t₁ : List ℕ) (r : ℕ) : Type 0 where
+  -- a frame and presets that are long enough do not matter
+  pub long : 12 ≤ length frame → 128 ≤ length presets → textOn text frame presets t out ≡ wholeBeside text t out
+  -- demands 1 to 3 and what is claimed of the plan
+  pub claim : TextClaim text t out
+  -- "Each event gets the table and clock that the last one left": a text that ran leaves a running frame for `planner_event`
+  pub running : r ≡ 0 → RunningOn frame₁ presets₁ t₁
+
+-- ---- planner_event
+
+-- One event line: 8 of the frame and of the presets, which change nothing, then what the event comes to.
+unfoldable pub eventOn : List ℕ → List ℕ → List ℕ → List ℕ → Outcome
+eventOn frame presets t l =
+    elim (firstOf (shortCauses frame presets)) [
+      | none ↦ eventMeant (headOfNumbers frame) (recordsIn presets) (stateOf t (clockOfNumbers frame)) (Event.line l)
+      | some r ↦ record { answer = refused r; after = stateOf t (clockOfNumbers frame) }
+    ]
+
+-- 0, or the number of the refusal
+abbrev pub answerNumber : Answer → ℕ
+answerNumber (now t) = 0
+answerNumber (taken n) = 0
+answerNumber (refused r) = numberOf r
+
+-- "the new clock; the cells evicted"; 0 where the line is refused
+abbrev pub answerCount : Answer → ℕ
+answerCount (now t) = t
+answerCount (taken n) = n
+answerCount (refused r) = 0
+
+-- What `planner_event` answers (r and n, the `number`) and leaves where the event comes to o: of the frame f only the clock changes, of the presets nothing.
+pub record EventLeaves (o : Outcome) (f f₁ t₁ : List ℕ) (n r : ℕ) : Type 0 where
+  pub answer : r ≡ answerNumber (o .answer)
+  pub number : n ≡ answerCount (o .answer)
+  pub frame : f₁ ≡ clockOver (o .after .clock) f
+  pub table : t₁ ≡ o .after .table
+
+pub record EventPromise (frame presets t l frame₁ t₁ : List ℕ) (r : ℕ) : Type 0 where
+  -- "a refusal that changes nothing"
+  pub unchanged : 0 < r → (frame₁ ≡ frame) × (t₁ ≡ t)
+  -- a running frame that 11 lets pass is one afterwards, so that the next event starts from one
+  pub kept : RunningOn frame presets t → RunningOn frame₁ presets t₁
+  -- demand 3 for this event; `runOf` is its fold
+  pub claim : RunningOn frame presets t → Demand3 (headOn frame presets) (stateOf t (clockOfNumbers frame)) (Event.line l ∷ [])
+
+-- ---- planner_plan
+
+-- A plan: 8 of the frame, of the presets and of fewer than 32 grants, which change nothing, then what the plan comes to. The clock is not looked at.
+unfoldable pub planOn : List ℕ → List ℕ → List ℕ → List ℕ → PlanOutcome
+planOn frame presets t grants =
+    elim (firstOf (try tooShort (ltb (length frame) 12) ∷ try tooShort (ltb (length presets) 128) ∷ try tooShort (ltb (length grants) 32) ∷ [])) [
+      | none ↦ planMeant (headOfNumbers frame) (recordsIn presets) t
+      | some r ↦ record { answer = PlanAnswer.refused r; table = t }
+    ]
+
+-- 0, or the number of the refusal
+abbrev pub planNumber : PlanAnswer → ℕ
+planNumber (PlanAnswer.granted g) = 0
+planNumber (PlanAnswer.refused r) = numberOf r
+
+-- the grants "in file order" at the start, and 0 past the last preset up to 32; a refusal changes nothing
+unfoldable pub grantsAfter : PlanAnswer → List ℕ → List ℕ
+grantsAfter (PlanAnswer.granted g) l = sets l 0 (filled 32 (length g) (at g))
+grantsAfter (PlanAnswer.refused r) l = l
+
+-- What `planner_plan` answers and leaves where the plan comes to o; g are the grants.
+pub record PlanLeaves (o : PlanOutcome) (g t₁ g₁ : List ℕ) (r : ℕ) : Type 0 where
+  pub answer : r ≡ planNumber (o .answer)
+  pub grants : g₁ ≡ grantsAfter (o .answer) g
+  pub table : t₁ ≡ o .table
+
+pub record PlanPromise (frame presets t t₁ : List ℕ) (r : ℕ) : Type 0 where
+  -- "a refusal that changes nothing"
+  pub unchanged : 0 < r → t₁ ≡ t
+  -- 5 exactly when no valid plan exists, best for every k
+  pub claim : PlanClaim (headOn frame presets) t
+  -- "It starts from an accepted head with its plan and the first clock": with the clock 1 the table is one of a running frame
+  pub running : r ≡ 0 → Running (headOn frame presets) 1 t₁
+
+-- ---- planner_listing
+
+-- 0, or the number of the refusal
+abbrev pub writtenNumber : writing.Answer → ℕ
+writtenNumber (writing.written n) = 0
+writtenNumber (writing.refused r) = numberOf r
+
+-- how many bytes; 0 where the text is refused
+abbrev pub writtenCount : writing.Answer → ℕ
+writtenCount (writing.written n) = n
+writtenCount (writing.refused r) = 0
+
+-- What `planner_listing` answers (r and n, the `bytes`) and leaves.
+pub record ListingLeaves (text t out t₁ out₁ : List ℕ) (n r : ℕ) : Type 0 where
+  pub answer : r ≡ writtenNumber (listingMeant text t out .answer)
+  pub bytes : n ≡ writtenCount (listingMeant text t out .answer)
+  pub table : t₁ ≡ listingMeant text t out .table
+  pub output : out₁ ≡ listingMeant text t out .output
+
+-- What it answers and leaves of an output with 655,360 bytes: where no cause is met, the listing is there whole, and the bytes past it are as they were.
+pub record ListingWhole (text t out out₁ : List ℕ) (n : ℕ) : Type 0 where
+  pub bytes : n ≡ writtenCount (writing.answerOf (listingCause text t out) (length (listingOf (wholeOf text t))))
+  pub output : out₁ ≡ writing.outputOf (listingCause text t out) (listingOf (wholeOf text t)) out

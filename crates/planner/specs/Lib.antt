@@ -1,0 +1,2 @@
+-- What each exported function is held to.
+pub mod Exports

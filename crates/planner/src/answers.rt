@@ -1,0 +1,82 @@
+// Answers as numbers: 0 or the number of the refusal, and the count that goes with it.
+use frame::types::Answer;
+use frame_listing::listing::cause_number;
+use frame_text::whole::Ended;
+use station::types::Refusal;
+use station_write::write::Writing;
+ghost use mathlib.Core.Path.{_≡_};
+ghost use Rattle.station.specs.Refusal.{numberOf};
+ghost use Rattle.station.specs.Types.{refusalIn};
+ghost use Rattle.station_write.specs.WriteHead as writing;
+ghost use Rattle.frame.specs.Types.{answerIn};
+ghost use Rattle.frame_text.specs.Whole.{endIn};
+ghost use Rattle.planner.specs.Exports.{endNumber, endPlace, answerNumber, answerCount, writtenNumber, writtenCount};
+
+// The paper's number of a cause.
+pub fn refusal_number(cause: Refusal) -> u32
+    ensures { λ r. ⌜ r ≡ numberOf (refusalIn cause) ⌝ }
+{
+    cause_number(cause) as u32
+}
+
+// Whether a text ran.
+pub fn end_number(ended: Ended) -> u32
+    ensures { λ r. ⌜ r ≡ endNumber (endIn ended) ⌝ }
+{
+    match ended {
+        Ended::Ran(_) => 0,
+        Ended::Refused(_, cause) => refusal_number(cause),
+    }
+}
+
+// How many bytes the listing has in the output, or the line at fault.
+pub fn end_place(ended: Ended) -> u64
+    ensures { λ r. ⌜ r ≡ endPlace (endIn ended) ⌝ }
+{
+    match ended {
+        Ended::Ran(n) => n as u64,
+        Ended::Refused(line, _) => line as u64,
+    }
+}
+
+// Whether an event was carried out.
+pub fn answer_number(answer: Answer) -> u32
+    ensures { λ r. ⌜ r ≡ answerNumber (answerIn answer) ⌝ }
+{
+    match answer {
+        Answer::Now(_) => 0,
+        Answer::Taken(_) => 0,
+        Answer::Refused(cause) => refusal_number(cause),
+    }
+}
+
+// The new clock, or how many cells were evicted; 0 where the event was refused.
+pub fn answer_count(answer: Answer) -> u64
+    ensures { λ r. ⌜ r ≡ answerCount (answerIn answer) ⌝ }
+{
+    match answer {
+        Answer::Now(t) => t as u64,
+        Answer::Taken(n) => n as u64,
+        Answer::Refused(_) => 0,
+    }
+}
+
+// Whether a listing was written.
+pub fn written_number(answer: Writing) -> u32
+    ensures { λ r. ⌜ r ≡ writtenNumber (writing.answerIn answer) ⌝ }
+{
+    match answer {
+        Writing::Written(_) => 0,
+        Writing::Refused(cause) => refusal_number(cause),
+    }
+}
+
+// How many bytes of a listing were written; 0 where the text was refused.
+pub fn written_count(answer: Writing) -> u64
+    ensures { λ r. ⌜ r ≡ writtenCount (writing.answerIn answer) ⌝ }
+{
+    match answer {
+        Writing::Written(n) => n as u64,
+        Writing::Refused(_) => 0,
+    }
+}

@@ -1,0 +1,3 @@
+-- Laws of the layout: the round trips, and the steps of the code.
+pub mod RoundTrip
+mod Steps
