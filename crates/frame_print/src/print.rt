@@ -1,7 +1,7 @@
 // The listing of a whole text, written at the start of a borrowed output.
-use frame_borrowing::texts::run_text_borrowing;
 use frame_listing::listing::refused_line;
 use frame_text::whole::Ended;
+use frame_text::whole::run_text_by_value;
 use station::types::Head;
 use station::types::Preset;
 use station::types::Refusal;
@@ -26,7 +26,7 @@ fn list(text: &[u8], table: &mut [u16], out: &mut [u8]) -> usize
         mandatory: 0,
         optional: 0,
     }; 32];
-    let run = run_text_borrowing(text, head, presets, table, 1, out);
+    let run = run_text_by_value(text, head, presets, table, 1, out);
     let ended = run.ended;
     match ended {
         Ended::Ran(n) => n,

@@ -1,8 +1,7 @@
 -- A whole text where the preset records stand in a list, law by law.
 --
 -- In order: a text that is too long, fewer than 32 records, and enough of them (`text-long`, `text-few`, `text-enough`), and the claim (`list-claim`); the first 32
--- records as a text leaves them, written back to the list (`text-list`), and the entry `run_text` (`text-entry`); 32 records that it borrowed
--- (`text-by-value`).
+-- records as a text leaves them, written back to the list (`text-list`), and the entry `run_text` (`text-entry`).
 -- Assumes nothing.
 use Prim.Native.Nat.{ℕ, _≤_, _<_}
 use native.Mathlib.Omega.{arith}
@@ -66,10 +65,6 @@ module _ (n : ℕ) (text t out : List ℕ) where
     module _ {t₁ out₁ : List ℕ} where
       pub text-enough : 32 ≤ n → TextDone text head ps t clock out t₁ out₁ r → TextListed n text head ps t clock out t₁ out₁ r
       text-enough k d = subst (λ (w : Whole). Leaves w head ps t clock out t₁ out₁ r) (sym (listed-other k)) d
-
-      -- and back
-      text-done : 32 ≤ n → TextListed n text head ps t clock out t₁ out₁ r → TextDone text head ps t clock out t₁ out₁ r
-      text-done k d = subst (λ (w : Whole). Leaves w head ps t clock out t₁ out₁ r) (listed-other k) d
 
 -- ---- the records written back
 
@@ -135,11 +130,3 @@ module _ (ps : List record-of-preset.Preset) where
     done = subst (λ (b : answer.TextAnswer). TextListed (length ps) text head ps t clock out t₁ out₁ (textLeft b zs)) (sym a) (text-list text t out head clock x e);
     claim = list-claim (length ps) text t out;
   }
-
-  -- a list of 32 records that the entry borrowed: what is answered, with the list as it is left, is what the text comes to
-  pub text-by-value : (text t out : List ℕ) (head : record-of-head.Head) (clock : ℕ) {t₁ out₁ : List ℕ} {zs : List record-of-preset.Preset} {r : run.TextRun} {y : answer.TextAnswer}
-      → length ps ≡ 32 → TextEntry text head ps t clock out zs t₁ out₁ y → r ≡ textLeft y zs → TextDone text head ps t clock out t₁ out₁ r × TextClaim text t out
-  text-by-value text t out head clock {t₁} {out₁} {zs} {r} {y} long x e = (
-    subst (λ (z : run.TextRun). TextDone text head ps t clock out t₁ out₁ z) (sym e) (text-done (length ps) text t out head ps clock (omega (arith, long)) (x .done)),
-    x .claim .claim,
-  )

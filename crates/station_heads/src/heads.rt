@@ -1,10 +1,10 @@
 // Reading a head: one pass over the lines of a text, each of which is held against what the lines before it make.
+use station::bank::with_record;
 use station::types::Head;
 use station::types::Preset;
 use station::types::Refusal;
 use station_forms::forms::Line;
 use station_forms::forms::read_line;
-use station_presets::records::with_record;
 use station_scan::lines::line_at;
 ghost use mathlib.Core.Path.{_≡_};
 ghost use mathlib.Core.Bool.{true, not, _&&_};

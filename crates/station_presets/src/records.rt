@@ -1,5 +1,6 @@
 // The preset records of a borrowed slice: their number, one of them, and the first 32 by value. The functions that take the slice only copy records out of it or into
 // it: what works on records takes them by value.
+use station::bank::with_record;
 use station::types::Preset;
 ghost use mathlib.Core.Path.{_≡_};
 ghost use Prim.Native.Nat.{min};
@@ -15,7 +16,7 @@ pub fn record_count(presets: &[Preset]) -> usize
 }
 
 // The record at a place; past the end the record of zeros.
-pub fn record_at(presets: &[Preset], i: usize) -> Preset
+fn record_at(presets: &[Preset], i: usize) -> Preset
     ensures { λ r. ⌜ r ≡ getD (now (presets .entry)) i noRecord ⌝ }
 {
     if i < presets.len() {
@@ -30,7 +31,7 @@ pub fn record_at(presets: &[Preset], i: usize) -> Preset
 }
 
 // Replaces the record at a place; past the end nothing changes.
-pub fn set_record(presets: &mut [Preset], i: usize, given: Preset)
+fn set_record(presets: &mut [Preset], i: usize, given: Preset)
     ensures { λ _. ⌜ now (presets .exit) ≡ set (now (presets .entry)) i given ⌝ }
 {
     if i < presets.len() {
@@ -49,17 +50,6 @@ fn no_records() -> [Preset; 32]
         optional: 0,
     };
     [zeros; 32]
-}
-
-// The records with one of them replaced; past the end there is none, and they stay as they are.
-pub fn with_record(bank: [Preset; 32], at: usize, given: Preset) -> [Preset; 32]
-    ensures { λ r. ⌜ r ≡ set bank at given ⌝ }
-{
-    let mut after = bank;
-    if at < 32 {
-        after[at] = given;
-    }
-    after
 }
 
 // The record of the bank at a place; past the end the record of zeros.

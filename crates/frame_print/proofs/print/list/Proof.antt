@@ -5,8 +5,8 @@ use Rattle.frame_print.proofs.WriteListing.{lists-ran, lists-refused}
 use Rattle.frame_print.proofs.print.list.Statement.{statement}
 use Rattle.frame_print.proofs.print.list.Tie as tie
 
-run-text-borrowing-requires : tie.Need-run-text-borrowing-requires
-run-text-borrowing-requires c κs = search needs
+run-text-by-value-requires : tie.Need-run-text-by-value-requires
+run-text-by-value-requires c κs = search needs
 
 enum-known-ended : tie.Need-enum-known-ended
 enum-known-ended c = search needs
@@ -28,7 +28,7 @@ returns c =
     let e = c .before in
     let t = e .before .before .before .before .before .before in
     let a = t .before .before .before .before .before .before .args in
-    lists-ran (wholeBeside (a .text .now) (a .table .now) (a .out .now)) (t .run-text-borrowing .ensures .0) (e .ended .given .1)
+    lists-ran (wholeBeside (a .text .now) (a .table .now) (a .out .now)) (t .run-text-by-value .ensures .0) (e .ended .given .1)
 
 same-length-3 : tie.Need-same-length-3
 same-length-3 c = search needs
@@ -42,13 +42,13 @@ returns-2 c =
     let e = l .before .before .before in
     let t = e .before .before .before .before .before .before in
     let a = t .before .before .before .before .before .before .args in
-    lists-refused (wholeBeside (a .text .now) (a .table .now) (a .out .now)) (t .run-text-borrowing .ensures .0) (e .ended2 .given .1) (l .refused-line .ensures)
+    lists-refused (wholeBeside (a .text .now) (a .table .now) (a .out .now)) (t .run-text-by-value .ensures .0) (e .ended2 .given .1) (l .refused-line .ensures)
 
 pub list-spec : {M : Type 1} → statement M
 list-spec =
     tie.close
     (tie.spec
-    run-text-borrowing-requires
+    run-text-by-value-requires
     enum-known-ended
     enum-known-ended-2
     refused-line-requires

@@ -56,10 +56,10 @@ use Rattle.station_presets.proofs.records.record_at as record-at
 use Rattle.station_presets.proofs.records.record_at.Symbol as record-at-def
 use Rattle.station_presets.proofs.records.record_at.Symbol.{name as #record-at}
 use Rattle.station_presets.proofs.records.record_at.Met as record-at-thm
-use Rattle.station_presets.proofs.records.with_record as with-record
-use Rattle.station_presets.proofs.records.with_record.Symbol as with-record-def
-use Rattle.station_presets.proofs.records.with_record.Symbol.{name as #with-record}
-use Rattle.station_presets.proofs.records.with_record.Met as with-record-thm
+use Rattle.station.proofs.bank.with_record as with-record
+use Rattle.station.proofs.bank.with_record.Symbol as with-record-def
+use Rattle.station.proofs.bank.with_record.Symbol.{name as #with-record}
+use Rattle.station.proofs.bank.with_record.Met as with-record-thm
 use Rattle.station_presets.proofs.records.load.Key.{name as #load}
 use Rattle.station_presets.proofs.records.load as load
 use Rattle.station_presets.proofs.records.load.Statement as stated
@@ -223,4 +223,4 @@ load-spec 𝓤 H 𝓜 𝓖 𝓡 =
     (meets 𝓤 H (𝓖 .A) (givenOf 𝓤 H 𝓜 𝓖) (𝓜 .mem) (𝓡 .run) (tablesOf 𝓤 H 𝓜 (tables 𝓤 H 𝓜 𝓡 code.env))
     (cited 𝓤 H (NoRecords 𝓤 H (𝓖 .A) (𝓜 .mem) (𝓡 .run)) 𝓜 𝓡 code.env #no-records no-records-def.routine code.calls-station-presets·records·no-records (no-records-thm.met 𝓤 H 𝓜 𝓖 𝓡))
     (cited 𝓤 H (RecordAt 𝓤 H (𝓖 .A) (𝓜 .mem) (𝓡 .run)) 𝓜 𝓡 code.env #record-at record-at-def.routine code.calls-station-presets·records·record-at (record-at-thm.met 𝓤 H 𝓜 𝓖 𝓡))
-    (cited 𝓤 H (WithRecord 𝓤 H (𝓖 .A) (𝓜 .mem) (𝓡 .run)) 𝓜 𝓡 code.env #with-record with-record-def.routine code.calls-station-presets·records·with-record (with-record-thm.met 𝓤 H 𝓜 𝓖 𝓡)))
+    (cited 𝓤 H (WithRecord 𝓤 H (𝓖 .A) (𝓜 .mem) (𝓡 .run)) 𝓜 𝓡 code.env #with-record with-record-def.routine code.calls-station·bank·with-record (with-record-thm.met 𝓤 H 𝓜 𝓖 𝓡)))

@@ -1,2 +1,0 @@
--- The steps of walks by hand that it cites.
-pub mod Steps

@@ -1,0 +1,91 @@
+// The library's planner on small heads and tables.
+use placing_call::call::CallAnswer;
+use placing_call::call::call_by_value;
+use placing_plan::plan::PlanAnswer;
+use placing_plan::plan::Planned;
+use placing_plan::plan::plan_by_value;
+use small_frames::packed::field;
+use small_frames::tables::NO_TABLE;
+use small_records::cells::MARK;
+use small_records::cells::is_table;
+use small_records::cells::table_of;
+use small_records::records::grants_in;
+use small_records::records::head_of;
+use small_records::records::jobs_of;
+use small_records::records::presets_of;
+use small_records::records::refused;
+
+// What a plan reports: the cause in field 6, or the grants in field 7.
+fn plan_report(planned: Planned) -> usize {
+    let answer = planned.answer;
+    let grants = planned.grants;
+    match answer {
+        PlanAnswer::Granted => grants_in(grants) << 56,
+        PlanAnswer::Refused(cause) => refused(cause),
+    }
+}
+
+// What a call reports: the cause in field 6, or the number of evicted cells in field 7.
+fn call_report(answer: CallAnswer) -> usize {
+    match answer {
+        CallAnswer::Taken(evicted) => if evicted < 64 {
+            evicted << 56
+        } else {
+            NO_TABLE
+        },
+        CallAnswer::Refused(cause) => refused(cause),
+    }
+}
+
+// The library's answer as the second planner writes it: the table that is expected, if it is that, and what is reported.
+fn answer_with(frame: usize, table: [u16; 512], expected: usize, report: usize) -> usize {
+    if is_table(frame, expected, table) {
+        return expected & 0xffffffffffff | report;
+    }
+    NO_TABLE
+}
+
+// The frame whose cells a plan writes: one without cells where it is refused.
+fn written(frame: usize, plan: usize) -> usize {
+    if field(plan, 6) != 0 { 0 } else { frame }
+}
+
+// The library's plan. All cells are marks before, and stay so where the plan is refused.
+fn plan_answer(frame: usize, presets: usize, expected: usize) -> usize {
+    let mut table = [MARK; 512];
+    let planned = plan_by_value(head_of(frame, presets), presets_of(presets), &mut table);
+    answer_with(
+        written(frame, expected),
+        table,
+        expected,
+        plan_report(planned),
+    )
+}
+
+// What the library makes of a call on a table.
+fn call_answer(frame: usize, presets: usize, table: usize, call: usize, expected: usize) -> usize {
+    let mut cells = table_of(frame, table);
+    let answer = call_by_value(
+        head_of(frame, presets),
+        presets_of(presets),
+        &mut cells,
+        field(call, 6),
+        jobs_of(call),
+        field(call, 7),
+    );
+    answer_with(frame, cells, expected, call_report(answer))
+}
+
+// The library's answer to a call on a table, or its plan for call 0.
+pub fn library_answer(
+    frame: usize,
+    presets: usize,
+    table: usize,
+    call: usize,
+    expected: usize,
+) -> usize {
+    if call == 0 {
+        return plan_answer(frame, presets, expected);
+    }
+    call_answer(frame, presets, table, call, expected)
+}
