@@ -1,30 +1,29 @@
 -- Laws of the definitions of specs/Checking.antt, as the functions of src/check.rt cite them.
 --
--- In order: counts by value (`counted`), then those of a table's cells; a number new in its slot; places and rows of the frame; valid head records,
--- the presets and the counts of their numbers. That the whole check is the test `wellFormed` is in Checked.antt.
+-- In order: counts by value (`counted`), then those of a table's cells; places and rows of the frame; valid head records, the presets and the counts of
+-- their numbers. The walk over a slot is in Walked.antt; that the whole check is the test `wellFormed` is in Checked.antt.
 -- Assumes nothing.
-use Prim.Native.Nat.{ℕ, zero, suc, _+_, _*_, _≤_, _<_}
+use Prim.Native.Nat.{ℕ, zero, suc, _+_, _*_, _-_, _≤_, _<_}
 use native.Mathlib.Nat.{mul-le-mul, mul-le-mul-left, suc-mul}
 use native.Mathlib.Numerals.{add-one}
 use native.Mathlib.Omega.{arith}
 use mathlib.Core.Path.{_≡_, refl, sym, _∙_, ap}
-use mathlib.Core.Bool.{Bool, true, false, not, _&&_}
+use mathlib.Core.Bool.{Bool, true, false, _&&_}
 use mathlib.Core.List.{List, map}
 use lib.ListN.{length, take, getD, List·getD-map, length-map, replicate, length-set, length-replicate, getD-replicate, List·getD-eq-default}
 use lib.Seq.{length-take-le, getD-take, getD-set-same, getD-set-other, set-out}
 use lib.Dec.{eqb, ltb, leb}
 use Rattle.laws.specs.Sums.{bit, sum, count}
-use Rattle.laws.proofs.Sums.{Is, is-true, is-false, is, lt-of, ge-of, le-of, eq-of, ne-of, eqb-yes, eqb-no}
-use Rattle.laws.proofs.Sums.{left-of, right-of, count-le}
+use Rattle.laws.proofs.Sums.{Is, is-true, is-false, is, lt-of, ge-of, le-of, eq-of, ne-of, ltb-yes, ltb-no, eqb-yes, eqb-no}
+use Rattle.laws.proofs.Sums.{test-ext, left-of, right-of, count-le, count-ext}
 use Rattle.station.specs.declared.types.Preset as record-types
 use Rattle.station.specs.declared.types.Head as record-head
 use Rattle.station.proofs.Head.{valid-of}
 use Rattle.station.specs.Types.{presetIn, headIn, validRecord}
 use Rattle.station.specs.Head.{Preset, Valid, noPreset, valid}
 use Rattle.placing.proofs.Written.{place-below}
-use Rattle.laws.proofs.Every.{not-is-true, or-left, or-right, all-every}
-use Rattle.placing.specs.Table.{numberIn, mandatoryCell, optionalCell, presetCount}
-use Rattle.placing_check.specs.Checking.{bump, counted, tally, numbered, differs, isNew, isMet}
+use Rattle.placing.specs.Table.{presetCount}
+use Rattle.placing_check.specs.Checking.{bump, counted, placeOf, tally, numbered, isMet}
 
 -- ---- counts by value
 
@@ -75,46 +74,51 @@ module _ (m : ℕ) (f : ℕ → ℕ) where
   pub counted-skip : (n : ℕ) → m ≤ f n → counted m f (n + 1) ≡ counted m f n
   counted-skip n l = counted-more n ∙ set-out (counted m f n) (f n) (getD (counted m f n) (f n) 0 + 1) (omega (arith, counted-length n))
 
+-- where a cell is counted
+place-none : (v : ℕ) → v < 512 → placeOf v ≡ 768
+unfolding placeOf
+place-none v l = rw (ltb-yes v 512 l)
+
+place-some : (v : ℕ) → 512 ≤ v → placeOf v ≡ v - 512
+unfolding placeOf
+place-some v l = rw (ltb-no v 512 l)
+
+place-test : (v k : ℕ) → k < 768 → eqb (placeOf v) k ≡ eqb v (512 + k)
+place-test v k l = go (is (ltb v 512))
+  where
+    go : Is (ltb v 512) → eqb (placeOf v) k ≡ eqb v (512 + k)
+    go (is-true e) =
+        let w : v < 512 = lt-of v 512 e in
+        eqb-no (placeOf v) k (λ q. omega (arith, place-none v w, q)) ∙ sym (eqb-no v (512 + k) (λ q. omega arith))
+    go (is-false e) =
+        let w : 512 ≤ v = ge-of v 512 e in
+        test-ext (eqb (placeOf v) k) (eqb v (512 + k))
+        (λ q. eqb-yes v (512 + k) (omega (arith, place-some v w, eq-of (placeOf v) k q)))
+        (λ q. eqb-yes (placeOf v) k (omega (arith, place-some v w, eq-of v (512 + k) q)))
+
 -- the counts of a table's cells
 module _ (t : List ℕ) where
-  pub tally-at : (v : ℕ) → v < 1280 → (n : ℕ) → getD (tally t n) v 0 ≡ count n (λ i. eqb (getD t i 0) v)
+  pub tally-at : (k : ℕ) → k < 768 → (n : ℕ) → getD (tally t n) k 0 ≡ count n (λ i. eqb (getD t i 0) (512 + k))
   unfolding tally
-  tally-at v l n = counted-at 1280 (λ i. getD t i 0) v l n
+  tally-at k l n =
+      counted-at 768 (λ i. placeOf (getD t i 0)) k l n
+      ∙ count-ext n (λ i. eqb (placeOf (getD t i 0)) k) (λ i. eqb (getD t i 0) (512 + k)) (λ i m. place-test (getD t i 0) k l)
 
-  pub tally-le : (v n : ℕ) → getD (tally t n) v 0 ≤ n
+  pub tally-le : (k n : ℕ) → getD (tally t n) k 0 ≤ n
   unfolding tally
-  tally-le v n = counted-le 1280 (λ i. getD t i 0) v n
+  tally-le k n = counted-le 768 (λ i. placeOf (getD t i 0)) k n
 
-  pub tally-none : tally t 0 ≡ replicate 1280 0
+  pub tally-none : tally t 0 ≡ replicate 768 0
   unfolding tally
-  tally-none = counted-none 1280 (λ i. getD t i 0)
+  tally-none = counted-none 768 (λ i. placeOf (getD t i 0))
 
-  pub tally-more : (n : ℕ) → tally t (n + 1) ≡ bump (tally t n) (getD t n 0)
+  pub tally-more : (n : ℕ) → 512 ≤ getD t n 0 → tally t (n + 1) ≡ bump (tally t n) (getD t n 0 - 512)
   unfolding tally
-  tally-more n = counted-more 1280 (λ i. getD t i 0) n
+  tally-more n l = counted-more 768 (λ i. placeOf (getD t i 0)) n ∙ ap (bump (tally t n)) (place-some (getD t n 0) l)
 
-  pub tally-skip : (n : ℕ) → 1280 ≤ getD t n 0 → tally t (n + 1) ≡ tally t n
+  pub tally-skip : (n : ℕ) → getD t n 0 < 512 → tally t (n + 1) ≡ tally t n
   unfolding tally
-  tally-skip n l = counted-skip 1280 (λ i. getD t i 0) n l
-
--- ---- a slot
-
-module _ (t : List ℕ) (start n a : ℕ) where
-  pub differs-zero : n ≡ 0 → differs t start n a ≡ true
-  differs-zero z = or-right (not (eqb (numberIn (getD t (start + a) 0)) n)) (eqb n 0) (eqb-yes n 0 z)
-
-  pub differs-yes : (numberIn (getD t (start + a) 0) ≡ n → ⊥) → differs t start n a ≡ true
-  differs-yes h =
-      or-left (not (eqb (numberIn (getD t (start + a) 0)) n)) (eqb n 0)
-      (not-is-true (eqb (numberIn (getD t (start + a) 0)) n) (eqb-no (numberIn (getD t (start + a) 0)) n h))
-
-  pub differs-no : (n ≡ 0 → ⊥) → numberIn (getD t (start + a) 0) ≡ n → differs t start n a ≡ false
-  differs-no h e = rw (eqb-yes (numberIn (getD t (start + a) 0)) n e, eqb-no n 0 h)
-
--- a cell without a number is new
-pub new-zero : (t : List ℕ) (start b : ℕ) → numberIn (getD t (start + b) 0) ≡ 0 → isNew t start b ≡ true
-new-zero t start b z =
-    all-every b (differs t start (numberIn (getD t (start + b) 0))) (λ a l. differs-zero t start (numberIn (getD t (start + b) 0)) a z)
+  tally-skip n l = counted-skip 768 (λ i. placeOf (getD t i 0)) n (omega (arith, place-none (getD t n 0) l))
 
 -- ---- places and rows of the frame
 
@@ -170,11 +174,8 @@ module _ (ps : List Preset) where
   numbered-at v l n = counted-at 256 (λ i. getD ps i noPreset .number) v l n
 
 -- a preset's cells: the mandatory ones are as many as they should be, and what is left to test; or they are not
-pub met-exact : (c : List ℕ) (p : Preset) → getD c (mandatoryCell (p .number)) 0 ≡ p .mandatory
-    → isMet c p ≡ leb (getD c (optionalCell (p .number)) 0) (p .optional)
-met-exact c p e =
-    ap (λ (b : Bool). b && leb (getD c (optionalCell (p .number)) 0) (p .optional)) (eqb-yes (getD c (mandatoryCell (p .number)) 0) (p .mandatory) e)
+pub met-exact : (c : List ℕ) (p : Preset) → getD c (p .number) 0 ≡ p .mandatory → isMet c p ≡ leb (getD c (256 + p .number) 0) (p .optional)
+met-exact c p e = ap (λ (b : Bool). b && leb (getD c (256 + p .number) 0) (p .optional)) (eqb-yes (getD c (p .number) 0) (p .mandatory) e)
 
-pub met-not : (c : List ℕ) (p : Preset) → (getD c (mandatoryCell (p .number)) 0 ≡ p .mandatory → ⊥) → isMet c p ≡ false
-met-not c p h =
-    ap (λ (b : Bool). b && leb (getD c (optionalCell (p .number)) 0) (p .optional)) (eqb-no (getD c (mandatoryCell (p .number)) 0) (p .mandatory) h)
+pub met-not : (c : List ℕ) (p : Preset) → (getD c (p .number) 0 ≡ p .mandatory → ⊥) → isMet c p ≡ false
+met-not c p h = ap (λ (b : Bool). b && leb (getD c (256 + p .number) 0) (p .optional)) (eqb-no (getD c (p .number) 0) (p .mandatory) h)

@@ -7,7 +7,7 @@ ghost use Prim.Native.Nat.{_+_, _*_, _<_, _≤_};
 ghost use lib.ListN.{length};
 ghost use Rattle.laws.specs.Sums.{every, count};
 ghost use Rattle.station.specs.Types.{headIn, presetIn, validRecord};
-ghost use Rattle.placing_check.specs.Checking.{tally, numbered, cellFits, isNew, slotFits, isMet, presetMet, numberFits, hasCall};
+ghost use Rattle.placing_check.specs.Checking.{tally, numbered, cellFits, slotFits, Marks, isMet, presetMet, hasCall};
 ghost use Rattle.placing.specs.Table.{cell, wellFormed};
 
 // A cell is kind × 256 + number: the busy cell, the first cell of each kind that has numbers, and the first value past the last kind.
@@ -21,89 +21,76 @@ const CALL: usize = 1024;
 
 const VALUES: usize = 1280;
 
-// Whether a cell may hold v, by the counts of the slots before it: busy just where the head says so.
-fn cell_fits(v: usize, busy: bool, counts: &[u16; VALUES]) -> bool
-    ensures { λ r. ⌜ r ≡ cellFits (now (counts .entry)) busy v ⌝ }
+// The cells that have numbers are counted by value, from the first mandatory cell on: how many counts there are, and where those of the optional and of the
+// call cells begin.
+const COUNTS: usize = 768;
+
+const OPTIONALS: usize = 256;
+
+const CALLS: usize = 512;
+
+// Whether a cell may hold v, by the counts of the presets' numbers and of the cells before it: busy just where the head says so.
+fn cell_fits(v: usize, busy: bool, numbers: &[u8; 256], counts: &[u16; COUNTS]) -> bool
+    ensures { λ r. ⌜ r ≡ cellFits (now (numbers .entry)) (now (counts .entry)) busy v ⌝ }
 {
-    if v == BUSY {
-        return busy;
-    }
     if busy {
-        return false;
-    }
-    if v == 0 {
-        return true;
+        return v == BUSY;
     }
     if v < MANDATORY {
-        return false;
+        return v == 0;
     }
-    if VALUES <= v {
-        return false;
+    let number = v % 256;
+    if CALL <= v {
+        if v == CALL {
+            return false;
+        }
+        if VALUES <= v {
+            return false;
+        }
+        return numbers[number] == 0;
     }
-    if v == CALL {
+    if numbers[number] == 0 {
         return false;
     }
     if OPTIONAL <= v {
         return true;
     }
-    let optional = v + 256;
+    let optional = v - MANDATORY + OPTIONALS;
     counts[optional] == 0
 }
 
-// Whether the cell at `bridge` of the slot that begins at `start` has a number that no cell before it in the slot has, or none.
-fn is_new(table: &[u16], start: usize, bridge: usize) -> bool
-    requires { ⌜ start + bridge < length (now table) ⌝ }
-    ensures { λ r. ⌜ r ≡ isNew (now (table .entry)) start bridge ⌝ }
+// Whether every cell of the slot may stand there, by the cells before it. Those that have numbers are counted, and their numbers get the slot's mark in `last`,
+// so that a number which has it already stands in the slot twice.
+fn slot_fits(
+    table: &[u16],
+    slot: usize,
+    bridges: usize,
+    busy: &[u64; 8],
+    numbers: &[u8; 256],
+    counts: &mut [u16; COUNTS],
+    last: &mut [u8; 256],
+) -> bool
+    requires { ⌜ (slot < 64) × (bridges ≤ 8) × (512 ≤ length (now table)) × (now counts ≡ tally (now table) (slot * bridges)) × Marks slot (now last) ⌝ }
+    ensures { λ r. ⌜ (r ≡ slotFits bridges (now (busy .entry)) (now (numbers .entry)) (now (table .entry)) slot) × (r ≡ true → now (counts .exit) ≡ tally (now (table .entry)) (slot * bridges + bridges)) × Marks (slot + 1) (now (last .exit)) ⌝ }
 {
-    let at = start + bridge;
-    let number = table[at] % 256;
-    if number == 0 {
-        return true;
-    }
-    let mut a = 0;
-    while a < bridge {
-        let other = start + a;
-        if table[other] % 256 == number {
-            return false;
-        }
-        a += 1;
-    }
-    true
-}
-
-// Adds the cells from `from` up to `to` to the counts. A cell past the last value is not counted.
-fn count_cells(table: &[u16], from: usize, to: usize, counts: &mut [u16; VALUES])
-    requires { ⌜ (from ≤ to) × (to ≤ 512) × (to ≤ length (now table)) × (now counts ≡ tally (now table) from) ⌝ }
-    ensures { λ r. ⌜ now (counts .exit) ≡ tally (now (table .entry)) to ⌝ }
-{
-    let mut i = from;
-    while i < to {
-        let v = table[i] as usize;
-        if v < VALUES {
-            counts[v] += 1;
-        }
-        i += 1;
-    }
-}
-
-// Whether every cell of the slot may stand there, by the counts of the slots before it.
-fn slot_fits(head: Head, table: &[u16], slot: usize, counts: &[u16; VALUES]) -> bool
-    requires { ⌜ (slot < head .slots) × (head .slots ≤ 64) × (head .bridges ≤ 8) × (512 ≤ length (now table)) ⌝ }
-    ensures { λ r. ⌜ r ≡ slotFits (head .bridges) (head .busy) (now (table .entry)) (now (counts .entry)) slot ⌝ }
-{
-    let bridges = head.bridges;
-    let busy = head.busy;
     let start = slot * bridges;
+    let mark = slot as u8 + 1;
     let mut b = 0;
     while b < bridges {
         let at = start + b;
-        let taken = (busy[b] >> slot) % 2 == 1;
         let v = table[at] as usize;
-        if !cell_fits(v, taken, counts) {
+        let taken = (busy[b] >> slot) % 2 == 1;
+        if !cell_fits(v, taken, numbers, counts) {
             return false;
         }
-        if !is_new(table, start, b) {
-            return false;
+        if MANDATORY <= v {
+            let number = v % 256;
+            if last[number] == mark {
+                return false;
+            }
+            last[number] = mark;
+            let place = v - MANDATORY;
+            counts[place] += 1;
         }
         b += 1;
     }
@@ -128,19 +115,19 @@ fn preset_numbers(head: Head, presets: [Preset; 32]) -> [u8; 256]
 }
 
 // Whether the preset has just its mandatory cells and at most its optional ones, by the counts of the table.
-fn preset_met(preset: Preset, counts: &[u16; VALUES]) -> bool
+fn preset_met(preset: Preset, counts: &[u16; COUNTS]) -> bool
     ensures { λ r. ⌜ r ≡ isMet (now (counts .entry)) (presetIn preset) ⌝ }
 {
-    let mandatory = MANDATORY + preset.number as usize;
+    let mandatory = preset.number as usize;
     if counts[mandatory] != preset.mandatory as u16 {
         return false;
     }
-    let optional = OPTIONAL + preset.number as usize;
+    let optional = OPTIONALS + preset.number as usize;
     counts[optional] <= preset.optional as u16
 }
 
 // The same of every preset.
-fn presets_met(head: Head, presets: [Preset; 32], counts: &[u16; VALUES]) -> bool
+fn presets_met(head: Head, presets: [Preset; 32], counts: &[u16; COUNTS]) -> bool
     requires { ⌜ head .count ≤ 32 ⌝ }
     ensures { λ r. ⌜ r ≡ every (head .count) (presetMet (headIn head presets .presets) (now (counts .entry))) ⌝ }
 {
@@ -155,45 +142,14 @@ fn presets_met(head: Head, presets: [Preset; 32], counts: &[u16; VALUES]) -> boo
     true
 }
 
-// Whether the cells with the number n are those that its use allows: a preset's has no call cell, any other no preset's cell.
-fn number_fits(numbers: &[u8; 256], counts: &[u16; VALUES], n: usize) -> bool
-    requires { ⌜ n < 256 ⌝ }
-    ensures { λ r. ⌜ r ≡ numberFits (now (numbers .entry)) (now (counts .entry)) n ⌝ }
-{
-    let call = CALL + n;
-    if 0 < numbers[n] {
-        return counts[call] == 0;
-    }
-    let mandatory = MANDATORY + n;
-    if counts[mandatory] != 0 {
-        return false;
-    }
-    let optional = OPTIONAL + n;
-    counts[optional] == 0
-}
-
-// The same of every number.
-fn numbers_fit(numbers: &[u8; 256], counts: &[u16; VALUES]) -> bool
-    ensures { λ r. ⌜ r ≡ every 256 (numberFits (now (numbers .entry)) (now (counts .entry))) ⌝ }
-{
-    let mut n = 0;
-    while n < 256 {
-        if !number_fits(numbers, counts, n) {
-            return false;
-        }
-        n += 1;
-    }
-    true
-}
-
 // How many job numbers the table has.
-fn job_count(counts: &[u16; VALUES]) -> usize
+fn job_count(counts: &[u16; COUNTS]) -> u16
     ensures { λ r. ⌜ r ≡ count 256 (hasCall (now (counts .entry))) ⌝ }
 {
     let mut jobs = 0;
     let mut n = 0;
     while n < 256 {
-        let call = CALL + n;
+        let call = CALLS + n;
         if 0 < counts[call] {
             jobs += 1;
         }
@@ -202,28 +158,25 @@ fn job_count(counts: &[u16; VALUES]) -> usize
     jobs
 }
 
-// Whether the table is well-formed: slot by slot with the counts of the cells so far, then by the presets, then by the numbers.
+// Whether the table is well-formed: slot by slot, each cell by the cells before it, then by the presets and by the number of jobs.
 pub fn well_formed(head: Head, presets: [Preset; 32], table: &[u16]) -> bool
     requires { ⌜ (validRecord head presets ≡ true) × (512 ≤ length (now table)) ⌝ }
     ensures { λ r. ⌜ r ≡ wellFormed (headIn head presets) (cell (headIn head presets) (now (table .entry))) ⌝ }
 {
     let slots = head.slots;
     let bridges = head.bridges;
-    let mut counts = [0u16; VALUES];
+    let busy = head.busy;
+    let numbers = preset_numbers(head, presets);
+    let mut counts = [0u16; COUNTS];
+    let mut last = [0u8; 256];
     let mut s = 0;
     while s < slots {
-        if !slot_fits(head, table, s, &counts) {
+        if !slot_fits(table, s, bridges, &busy, &numbers, &mut counts, &mut last) {
             return false;
         }
-        let start = s * bridges;
-        count_cells(table, start, start + bridges, &mut counts);
         s += 1;
     }
     if !presets_met(head, presets, &counts) {
-        return false;
-    }
-    let numbers = preset_numbers(head, presets);
-    if !numbers_fit(&numbers, &counts) {
         return false;
     }
     job_count(&counts) <= 64

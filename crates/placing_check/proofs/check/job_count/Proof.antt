@@ -46,8 +46,8 @@ loop-again c =
     let n = c .before .before .before .loop .n in
     let more = sum-more n (λ k. bit (hasCall t k)) in
     ⊎-elim
-    (λ w. let one = ap bit (lt-ltb 0 (getD t (1024 + n) 0) (w .0 .taken)) in (omega arith, omega arith, omega arith))
-    (λ w. let one = ap bit (le-ltb 0 (getD t (1024 + n) 0) (w .0 .left)) in (omega arith, omega arith, omega arith))
+    (λ w. let one = ap bit (lt-ltb 0 (getD t (512 + n) 0) (w .0 .taken)) in (omega arith, omega arith, omega arith))
+    (λ w. let one = ap bit (le-ltb 0 (getD t (512 + n) 0) (w .0 .left)) in (omega arith, omega arith, omega arith))
     (c .if1 .came)
 
 returns : tie.Need-returns Inv-loop μ-loop

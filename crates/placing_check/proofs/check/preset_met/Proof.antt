@@ -6,13 +6,8 @@ use Rattle.placing_check.proofs.Checking.{met-exact, met-not}
 use Rattle.placing_check.proofs.check.preset_met.Statement.{statement}
 use Rattle.placing_check.proofs.check.preset_met.Tie as tie
 
--- `check::preset_met` meets its contract. Assumes nothing.
-
 cast-mandatory : tie.Need-cast-mandatory
 cast-mandatory c = search needs
-
-add-mandatory : tie.Need-add-mandatory
-add-mandatory c = search needs
 
 mul-if1 : tie.Need-mul-if1
 mul-if1 c = search needs
@@ -53,7 +48,6 @@ preset-met-spec =
     tie.close
     (tie.spec
     cast-mandatory
-    add-mandatory
     mul-if1
     element-copy-out-if1
     cast-if1
