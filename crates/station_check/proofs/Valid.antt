@@ -1,21 +1,21 @@
 -- Laws of the test of a head record, as its loops meet it.
 --
 -- In order: a mask below a power of two (`shifted-out`); the masks from one bridge on (`masks-fault`, `masks-next`, `masks-end`); the presets from one
--- record on: their limits (`limits-fault`, `limits-next`, `limits-end`), a number among them (`number-found`, `number-next`, `number-end`), no number twice
--- (`distinct-fault`, `distinct-next`, `distinct-end`); the whole record (`valid-count`, `valid-frame`, `valid-masks`, `valid-limits`, `valid-distinct`), and
--- what a valid one says (`valid-head`, `valid-few`).
+-- record on: their limits (`limits-fault`, `limits-next`, `limits-end`), no number twice (`Marked`, `marked-none`, `marked-fault`, `marked-more`); the
+-- whole record (`valid-count`, `valid-frame`, `valid-masks`, `valid-limits`, `valid-distinct`), and what a valid one says (`valid-head`, `valid-few`).
 -- Assumes nothing.
-use Prim.Native.Nat.{ℕ, suc, _-_, _/_, _^_, _≤_, _<_}
+use Prim.Native.Nat.{ℕ, zero, suc, _-_, _/_, _^_, _≤_, _<_}
 use native.Mathlib.Nat.{div-eq-of-lt, div-lt-iff-lt-mul}
 use native.Mathlib.Omega.{arith}
-use mathlib.Core.Path.{_≡_, refl, sym, _∙_}
-use mathlib.Core.Bool.{true, false, _&&_}
-use mathlib.Core.List.{List, _∷_, map}
-use lib.ListN.{length, take, drop, getD, length-map}
+use mathlib.Core.Path.{_≡_, refl, sym, _∙_, ap}
+use mathlib.Core.Bool.{true, false, not, _&&_}
+use mathlib.Core.List.{List, [], _∷_, map}
+use lib.ListN.{length, take, drop, getD, set, replicate, length-map, length-set, length-replicate}
 use lib.Dec.{eqb, ltb, leb}
 use lib.Pow.{pow-pos}
-use lib.Seq.{drop-cons, drop-length, length-take-le}
-use Rattle.laws.proofs.Sums.{Is, is, is-true, is-false, lt-of, ge-of, eq-of, ltb-yes, le-of, leb-yes, leb-no, eqb-yes, eqb-no, clash, both, left-of, right-of}
+use lib.Seq.{drop-cons, drop-length, length-take-le, getD-set-same, getD-set-other}
+use Rattle.laws.proofs.Filled.{zeros}
+use Rattle.laws.proofs.Sums.{Is, is, is-true, is-false, lt-of, ge-of, eq-of, ne-of, ltb-yes, le-of, leb-yes, leb-no, eqb-yes, eqb-no, clash, both, left-of, right-of}
 use Rattle.laws.proofs.Sums.{not-true, test-ext}
 use Rattle.station.specs.declared.types.Preset.{Preset}
 use Rattle.station.specs.declared.types.Head.{Head}
@@ -76,37 +76,62 @@ module _ (i n : ℕ) (ps : List Preset) (h : i < n) (l : n ≤ length ps) where
   unfolding allInLimits
   limits-next e = rw (records-step i n ps h l, e) refl
 
-  pub number-found : (x : ℕ) → x ≡ getD ps i noRecord .number → hasNumber x (map presetIn (drop i (take n ps))) ≡ true
-  unfolding hasNumber
-  number-found x e = rw (records-step i n ps h l, eqb-yes x (getD ps i noRecord .number) e) refl
-
-  pub number-next : (x : ℕ) → (x ≡ getD ps i noRecord .number → ⊥)
-      → hasNumber x (map presetIn (drop i (take n ps))) ≡ hasNumber x (map presetIn (drop (suc i) (take n ps)))
-  unfolding hasNumber
-  number-next x e = rw (records-step i n ps h l, eqb-no x (getD ps i noRecord .number) e) refl
-
-  pub distinct-fault : hasNumber (getD ps i noRecord .number) (map presetIn (drop (suc i) (take n ps))) ≡ true
-      → allDistinct (map presetIn (drop i (take n ps))) ≡ false
-  unfolding allDistinct
-  distinct-fault e = rw (records-step i n ps h l, e) refl
-
-  pub distinct-next : hasNumber (getD ps i noRecord .number) (map presetIn (drop (suc i) (take n ps))) ≡ false
-      → allDistinct (map presetIn (drop i (take n ps))) ≡ allDistinct (map presetIn (drop (suc i) (take n ps)))
-  unfolding allDistinct
-  distinct-next e = rw (records-step i n ps h l, e) refl
-
 module _ (n : ℕ) (ps : List Preset) (l : n ≤ length ps) where
   pub limits-end : allInLimits (map presetIn (drop n (take n ps))) ≡ true
   unfolding allInLimits
   limits-end = rw (records-end n ps l) refl
 
-  pub number-end : (x : ℕ) → hasNumber x (map presetIn (drop n (take n ps))) ≡ false
-  unfolding hasNumber
-  number-end x = rw (records-end n ps l) refl
+-- ---- no number twice
 
-  pub distinct-end : allDistinct (map presetIn (drop n (take n ps))) ≡ true
+-- of some presets, those from one on
+distinct-later : (l : List Preset) (i : ℕ) → allDistinct (map presetIn l) ≡ true → allDistinct (map presetIn (drop i l)) ≡ true
+unfolding allDistinct
+distinct-later l zero e = e
+distinct-later [] (suc i) e = refl
+distinct-later (p ∷ l) (suc i) e = distinct-later l i (right-of (not (hasNumber (p .number) (map presetIn l))) (allDistinct (map presetIn l)) e)
+
+-- of the first n presets, those from i on have different numbers, and theirs are marked
+pub record Marked (n : ℕ) (ps : List Preset) (i : ℕ) (marks : List ℕ) : Type 0 where
+  pub size : length marks ≡ 256
+  pub seen : (x : ℕ) → x < 256 → eqb (getD marks x 0) 1 ≡ hasNumber x (map presetIn (drop i (take n ps)))
+  pub distinct : allDistinct (map presetIn (drop i (take n ps))) ≡ true
+
+pub marked-none : (n : ℕ) (ps : List Preset) → n ≤ length ps → Marked n ps n (replicate 256 0)
+unfolding hasNumber allDistinct
+marked-none n ps l =
+    record {
+      size = length-replicate {A = ℕ} 256 0;
+      seen = λ x h. rw (records-end n ps l) (eqb-no (getD {A = ℕ} (replicate 256 0) x 0) 1 (λ e. omega (arith, zeros 256 x)));
+      distinct = rw (records-end n ps l) refl;
+    }
+
+module _ (i n : ℕ) (ps : List Preset) (h : i < n) (l : n ≤ length ps) (marks : List ℕ) (m : Marked n ps (suc i) marks) where
+  abbrev number : ℕ
+  number = getD ps i noRecord .number
+
+  -- one number more is marked already, or is marked now
+  pub marked-fault : number < 256 → getD marks number 0 ≡ 1 → allDistinct (presetsIn n ps) ≡ false
   unfolding allDistinct
-  distinct-end = rw (records-end n ps l) refl
+  marked-fault k e =
+      not-true (allDistinct (presetsIn n ps))
+      (λ d. clash (sym (rw (records-step i n ps h l, sym (m .seen number k) ∙ eqb-yes (getD marks number 0) 1 e) at (distinct-later (take n ps) i d))))
+
+  pub marked-more : number < 256 → (getD marks number 0 ≡ 1 → ⊥) → Marked n ps i (set marks number 1)
+  unfolding hasNumber allDistinct
+  marked-more k ne =
+      record {
+        size = length-set marks number 1 ∙ m .size;
+        seen = λ x b. go x b (is (eqb x number));
+        distinct = rw (records-step i n ps h l, sym (m .seen number k) ∙ eqb-no (getD marks number 0) 1 ne) (m .distinct);
+      }
+    where
+      go : (x : ℕ) → x < 256 → Is (eqb x number) → eqb (getD (set marks number 1) x 0) 1 ≡ hasNumber x (map presetIn (drop i (take n ps)))
+      go x b (is-true e) =
+          rw (records-step i n ps h l, e)
+          (eqb-yes (getD (set marks number 1) x 0) 1 (rw (eq-of x number e) (getD-set-same marks number 1 0 (omega (arith, m .size)))))
+      go x b (is-false e) =
+          rw (records-step i n ps h l, e)
+          (ap (λ (v : ℕ). eqb v 1) (getD-set-other marks number x 1 0 (ne-of x number e)) ∙ m .seen x b)
 
 -- ---- the whole record
 

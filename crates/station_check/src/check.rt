@@ -4,10 +4,9 @@ use station::types::Preset;
 ghost use Prim.Native.Nat.{_≤_, _^_};
 ghost use mathlib.Core.Path.{_≡_};
 ghost use mathlib.Core.Bool.{_&&_};
-ghost use mathlib.Core.List.{map};
-ghost use lib.ListN.{length, take, drop};
+ghost use lib.ListN.{length};
 ghost use lib.Dec.{eqb, ltb};
-ghost use Rattle.station.specs.Head.{within, inLimits, hasNumber, allInLimits, allDistinct, masksIn};
+ghost use Rattle.station.specs.Head.{within, inLimits, allInLimits, allDistinct, masksIn};
 ghost use Rattle.station_check.specs.Check.{maskIn};
 ghost use Rattle.station.specs.Types.{presetIn, presetsIn, validRecord};
 
@@ -93,34 +92,21 @@ fn all_in_limits(presets: [Preset; 32], count: usize) -> bool
     true
 }
 
-// One of the presets from `from` up to `count` has the number.
-fn has_number(presets: [Preset; 32], from: usize, count: usize, number: u8) -> bool
-    requires { ⌜ (from ≤ count) × (count ≤ 32) ⌝ }
-    ensures { λ r. ⌜ r ≡ hasNumber number (map presetIn (drop from (take count presets))) ⌝ }
-{
-    let mut i = from;
-    while i < count {
-        let preset = presets[i];
-        if number == preset.number {
-            return true;
-        }
-        i += 1;
-    }
-    false
-}
-
-// No two of the first `count` presets have one number.
+// No two of the first `count` presets have one number. They are walked from the last on, and each number met is marked.
 fn all_distinct(presets: [Preset; 32], count: usize) -> bool
     requires { ⌜ count ≤ 32 ⌝ }
     ensures { λ r. ⌜ r ≡ allDistinct (presetsIn count presets) ⌝ }
 {
-    let mut i = 0;
-    while i < count {
+    let mut marks = [0u8; 256];
+    let mut i = count;
+    while 0 < i {
+        i -= 1;
         let preset = presets[i];
-        if has_number(presets, i + 1, count, preset.number) {
+        let n = preset.number as usize;
+        if marks[n] == 1 {
             return false;
         }
-        i += 1;
+        marks[n] = 1;
     }
     true
 }

@@ -1,24 +1,25 @@
--- `check::all_distinct` meets its contract. The invariant: the answer is that of the presets from i on. Assumes nothing.
-use Prim.Native.Nat.{_-_, _≤_}
-use native.Mathlib.Numerals.{add-one}
+-- `check::all_distinct` meets its contract. The invariant: the presets from i on have different numbers, and theirs are marked. Assumes nothing.
+use Prim.Native.Nat.{suc, _-_, _≤_}
 use native.Mathlib.Omega.{arith}
-use mathlib.Core.Path.{_≡_, refl, sym, _∙_}
-use lib.ListN.{length, take, drop}
-use mathlib.Core.List.{map}
-use Rattle.station.specs.Head.{allDistinct}
-use Rattle.station.specs.Types.{presetIn, presetsIn}
-use Rattle.station_check.proofs.Valid.{distinct-fault, distinct-next, distinct-end}
+use mathlib.Core.Path.{_≡_, sym, subst}
+use lib.ListN.{length}
+use Rattle.station_check.proofs.Valid.{Marked, marked-none, marked-fault, marked-more}
 use Rattle.station_check.proofs.check.all_distinct.Statement.{statement}
 use Rattle.station_check.proofs.check.all_distinct.Tie as tie
 
 abbrev Inv-loop : tie.InvT-loop
-Inv-loop count presets i₀ i = (i ≤ count) × (allDistinct (map presetIn (drop i (take count presets))) ≡ allDistinct (presetsIn count presets))
+Inv-loop count presets marks₀ i₀ marks i = (i ≤ count) × Marked count presets i marks
 
 abbrev μ-loop : tie.MeasureT-loop
-μ-loop count presets i₀ i = count - i
+μ-loop count presets marks₀ i₀ marks i = i
 
 loop-holds : tie.Need-loop-holds Inv-loop μ-loop
-loop-holds c = (omega arith, refl)
+loop-holds c =
+    let n : length (c .args .t1) ≡ 32 = omega arith in
+    (omega arith, marked-none (c .args .count) (c .args .t1) (omega arith))
+
+sub-i : tie.Need-sub-i Inv-loop μ-loop
+sub-i c = omega arith
 
 mul-preset : tie.Need-mul-preset Inv-loop μ-loop
 mul-preset c = omega arith
@@ -26,45 +27,46 @@ mul-preset c = omega arith
 array-copy-out-preset : tie.Need-array-copy-out-preset Inv-loop μ-loop
 array-copy-out-preset c = omega arith
 
-add-has-number : tie.Need-add-has-number Inv-loop μ-loop
-add-has-number c = omega arith
+cast-n : tie.Need-cast-n Inv-loop μ-loop
+cast-n c = omega arith
 
-has-number-requires : tie.Need-has-number-requires Inv-loop μ-loop
-has-number-requires c κs = omega arith
+array-read-if1 : tie.Need-array-read-if1 Inv-loop μ-loop
+array-read-if1 c = omega arith
+
+-- the presets after the one at hand
+later : (c : tie.In-loop Inv-loop μ-loop) → Marked (c .before .before .args .count) (c .before .before .args .t1) (suc (c .before .loop .i - 1)) (c .before .loop .marks)
+later c =
+    let a = c .before .before .args in
+    let e : c .before .loop .i ≡ suc (c .before .loop .i - 1) = omega arith in
+    subst (λ k. Marked (a .count) (a .t1) k (c .before .loop .marks)) e (c .before .loop .inv .1)
 
 returns : tie.Need-returns Inv-loop μ-loop
-returns c = let a = c .before .before .before .before .before .args in
-    let loop = c .before .before .before .before .loop in
+returns c =
+    let k = c .before .before .before in
+    let a = k .before .before .args in
     let n : length (a .t1) ≡ 32 = omega arith in
-    sym
-    (distinct-fault (loop .i) (a .count) (a .t1) (c .before .before .before .loop-test .taken) (omega arith)
-    (sym (rw add-one at (c .before .has-number .ensures)) ∙ c .if1 .taken))
-    ∙ loop .inv .1
+    sym (marked-fault (k .before .loop .i - 1) (a .count) (a .t1) (omega arith) (omega arith) (k .before .loop .marks) (later k) (omega arith) (c .if1 .taken))
 
-add-i : tie.Need-add-i Inv-loop μ-loop
-add-i c = omega arith
+array-write-marks : tie.Need-array-write-marks Inv-loop μ-loop
+array-write-marks c = omega arith
 
 loop-less : tie.Need-loop-less Inv-loop μ-loop
 loop-less c = omega arith
 
 loop-again : tie.Need-loop-again Inv-loop μ-loop
-loop-again c = let a = c .before .before .before .before .before .args in
-    let loop = c .before .before .before .before .loop in
+loop-again c =
+    let k = c .before .before .before in
+    let a = k .before .before .args in
     let n : length (a .t1) ≡ 32 = omega arith in (
       omega arith,
-      rw add-one
-          (sym
-          (distinct-next (loop .i) (a .count) (a .t1) (c .before .before .before .loop-test .taken) (omega arith)
-          (sym (rw add-one at (c .before .has-number .ensures)) ∙ c .if1 .left))
-          ∙ loop .inv .1),
+      marked-more (k .before .loop .i - 1) (a .count) (a .t1) (omega arith) (omega arith) (k .before .loop .marks) (later k) (omega arith) (c .if1 .left),
     )
 
 returns-2 : tie.Need-returns-2 Inv-loop μ-loop
-returns-2 c = let a = c .before .before .args in
-    let loop = c .before .loop in
-    let n : length (a .t1) ≡ 32 = omega arith in
-    let e : loop .i ≡ a .count = omega arith in
-    sym (distinct-end (a .count) (a .t1) (omega arith)) ∙ (rw e at (loop .inv .1))
+returns-2 c =
+    let a = c .before .before .args in
+    let e : c .before .loop .i ≡ 0 = omega arith in
+    sym (subst (λ k. Marked (a .count) (a .t1) k (c .before .loop .marks)) e (c .before .loop .inv .1) .distinct)
 
 pub all-distinct-spec : {M : Type 1} → statement M
 all-distinct-spec =
@@ -73,12 +75,13 @@ all-distinct-spec =
     Inv-loop
     μ-loop
     loop-holds
+    sub-i
     mul-preset
     array-copy-out-preset
-    add-has-number
-    has-number-requires
+    cast-n
+    array-read-if1
     returns
-    add-i
+    array-write-marks
     loop-less
     loop-again
     returns-2)
