@@ -8,7 +8,7 @@ use Prim.Native.Nat.{ℕ, suc, _+_, _-_, _≤_, _<_}
 use native.Mathlib.Omega.{arith}
 use mathlib.Core.Path.{_≡_, refl, _∙_, ap}
 use mathlib.Core.List.{List, [], _∷_}
-use lib.ListN.{length, take, drop, getD, drop-of-length-le, length-drop}
+use lib.ListN.{length, take, drop, getD, drop-of-length-le, length-drop, length-take}
 use lib.Seq.{drop-cons, drop-drop}
 use lib.Dec.{eqb}
 use Rattle.laws.proofs.Sums.{Is, is, is-true, is-false, eqb-yes, eqb-no}
@@ -92,8 +92,10 @@ line-other b t e = rw (eqb-no b 10 e) refl
 pub line-here : (t : List ℕ) (i : ℕ) → i < length t → getD t i 0 ≡ 10 → length (lineOf (drop i t)) ≡ 1
 line-here t i h e = rw (drop-cons t i 0 h) (line-ten (getD t i 0) (drop (suc i) t) e)
 
-pub line-further : (t : List ℕ) (i : ℕ) → i < length t → (getD t i 0 ≡ 10 → ⊥) → length (lineOf (drop i t)) ≡ suc (length (lineOf (drop (suc i) t)))
-line-further t i h e = rw (drop-cons t i 0 h) (line-other (getD t i 0) (drop (suc i) t) e)
+pub line-further : (t : List ℕ) (i j : ℕ) → i + 1 ≡ j → i < length t → (getD t i 0 ≡ 10 → ⊥) → length (lineOf (drop i t)) ≡ suc (length (lineOf (drop j t)))
+line-further t i j s h e =
+    let n : j ≡ suc i = omega arith in
+    rw (n, drop-cons t i 0 h) (line-other (getD t i 0) (drop (suc i) t) e)
 
 pub line-past : (t : List ℕ) (i : ℕ) → length t ≤ i → length (lineOf (drop i t)) ≡ 0
 line-past t i h = rw (drop-of-length-le t h) line-nil
@@ -107,7 +109,9 @@ line-none t i h = rw (drop-of-length-le t h) refl
 pub line-within : (t : List ℕ) (i : ℕ) → i ≤ length t → i + length (lineOf (drop i t)) ≤ length t
 line-within t i h = omega (arith, line-length (drop i t), length-drop i t)
 
-pub line-part : (t : List ℕ) (i e : ℕ) → e ≡ i + length (lineOf (drop i t)) → take (e - i) (drop i t) ≡ lineOf (drop i t)
-line-part t i e h =
-    let n : e - i ≡ length (lineOf (drop i t)) = omega arith in
-    rw n (line-front (drop i t))
+-- the first line as the code takes it from a text, by its length
+pub line-part : (t : List ℕ) (n : ℕ) → n ≡ length (lineOf t) → take n t ≡ lineOf t
+line-part t n h = rw h (line-front t)
+
+pub line-short : (t : List ℕ) (n : ℕ) → n ≡ length (lineOf t) → n ≡ length (take n t)
+line-short t n h = omega (arith, length-take n t, line-length t)

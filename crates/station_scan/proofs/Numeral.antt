@@ -1,17 +1,17 @@
 -- Laws of words and numbers at a place of a text, for the code that reads them byte by byte.
 --
--- In order: a word byte by byte (`starts-more`, `starts-other`, `starts-past`, `starts-done`, `starts-length`,
--- `closes-left`); a digit at a place (`leads-at`, `leads-past`,
+-- In order: a word byte by byte (`starts-more`, `starts-other`, `starts-done`, `starts-length`, `starts-longer`,
+-- `starts-none`, `closes-short`); a digit at a place (`leads-at`, `leads-past`,
 -- `lead`); the digits from a place on (`count-more`, `count-none`, `front-more`, `front-none`); when they are a number (`plain-none`,
--- `plain-other`, `plain-zero`, `plain-some`, `plain-inside`); a value that stops at 65,535 (`seen-from`), and that this is harmless (`seen-leb`, `seen-leb-of`, `seen-eqb`,
+-- `plain-digits`, `plain-some`, `plain-inside`); a value that stops at 65,535 (`seen-from`, `seen-more`), and that this is harmless (`seen-leb`, `seen-leb-of`, `seen-eqb`,
 -- `seen-within`); the answers of `number_then` and `number_last` (`then-..`, `last-..`).
 -- Assumes nothing.
 use Prim.Native.Nat.{ℕ, suc, _+_, _-_, _*_, _≤_, _<_}
 use native.Mathlib.Omega.{arith}
 use mathlib.Core.Path.{_≡_, refl, sym, _∙_, ap}
-use mathlib.Core.Bool.{true, false}
+use mathlib.Core.Bool.{Bool, true, false, not, _&&_, _||_}
 use mathlib.Core.List.{List, [], _∷_}
-use lib.ListN.{length, drop, getD, drop-of-length-le, length-drop}
+use lib.ListN.{length, take, drop, getD, drop-of-length-le, length-drop}
 use lib.Seq.{drop-cons}
 use lib.Dec.{eqb, leb}
 use Rattle.laws.proofs.Sums.{Is, is, is-true, is-false, clash, eqb-yes, eqb-no, eq-of, ne-of, le-of, gt-of, leb-yes, right-of}
@@ -49,9 +49,6 @@ module _ (w t : List ℕ) (i j : ℕ) where
   pub starts-other : i < length w → j < length t → (getD w i 0 ≡ getD t j 0 → ⊥) → starts (drop i w) (drop j t) ≡ false
   starts-other h l e = rw (drop-cons w i 0 h, drop-cons t j 0 l) (starts-unlike (getD w i 0) (getD t j 0) (drop (suc i) w) (drop (suc j) t) e)
 
-  pub starts-past : i < length w → length t ≤ j → starts (drop i w) (drop j t) ≡ false
-  starts-past h l = rw (drop-cons w i 0 h, drop-of-length-le t l) (starts-nil (getD w i 0) (drop (suc i) w))
-
   pub starts-done : length w ≤ i → starts (drop i w) (drop j t) ≡ true
   starts-done h = rw (drop-of-length-le w h) (starts-empty (drop j t))
 
@@ -62,11 +59,26 @@ starts-length [] l e = omega arith
 starts-length (c ∷ w) [] e = absurd (clash (sym e))
 starts-length (c ∷ w) (b ∷ l) e = omega (arith, starts-length w l (right-of (eqb c b) (starts w l) e))
 
--- a word at a place ends the text
-pub closes-left : (at n k : ℕ) → at ≤ n → leb (n - at) k ≡ leb n (at + k)
-closes-left at n k h =
-    test-ext (leb (n - at) k) (leb n (at + k)) (λ e. leb-yes n (at + k) (omega (arith, le-of (n - at) k e)))
-    (λ e. leb-yes (n - at) k (omega (arith, le-of n (at + k) e)))
+-- and so no longer word stands there; past the end of a text only the empty one does
+pub starts-longer : (w l : List ℕ) → length l < length w → starts w l ≡ false
+starts-longer w l h = go (is (starts w l))
+  where
+    go : Is (starts w l) → starts w l ≡ false
+    go (is-true e) = absurd (omega (arith, starts-length w l e))
+    go (is-false e) = e
+
+pub starts-none : (w t : List ℕ) (i : ℕ) → length t ≤ i → eqb (length w) 0 ≡ starts w (drop i t)
+unfolding starts
+starts-none [] t i h = refl
+starts-none (c ∷ w) t i h = rw (drop-of-length-le t h, eqb-no (suc (length w)) 0 (λ e. omega arith)) refl
+
+-- a word that reaches the end of the text ends it where it stands
+pub closes-short : (w t : List ℕ) (i : ℕ) → length t ≤ i + length w → closes w t i ≡ starts w (drop i t)
+closes-short w t i h = go (starts w (drop i t)) (leb (length t) (i + length w)) (leb-yes (length t) (i + length w) h)
+  where
+    go : (a b : Bool) → b ≡ true → (a && b) ≡ a
+    go true b e = e
+    go false b e = refl
 
 -- ---- a digit at a place
 
@@ -147,42 +159,21 @@ plain-stop (b ∷ l) e = go (is (isDigit b))
     go (is-true d) = absurd (let z : suc (digitCount l) ≡ 0 = rw d at e in omega arith)
     go (is-false d) = rw d refl
 
-plain-cons : (b : ℕ) (l : List ℕ) → 0 < digitCount (b ∷ l) → (b ≡ 48 → ⊥) → plain (b ∷ l) ≡ true
-unfolding plain digitCount
-plain-cons b l h e = go (is (isDigit b))
-  where
-    go : Is (isDigit b) → plain (b ∷ l) ≡ true
-    go (is-true d) = rw (d, eqb-no b 48 e) refl
-    go (is-false d) = absurd (let z : 0 < 0 = rw d at h in omega arith)
-
-suc-eqb : (n : ℕ) → eqb n 0 ≡ eqb (suc n) 1
-suc-eqb n = test-ext (eqb n 0) (eqb (suc n) 1) (λ e. eqb-yes (suc n) 1 (omega (arith, eq-of n 0 e))) (λ e. eqb-yes n 0 (omega (arith, eq-of (suc n) 1 e)))
-
-plain-alone : (b : ℕ) (l : List ℕ) → 0 < digitCount (b ∷ l) → b ≡ 48 → plain (b ∷ l) ≡ eqb (digitCount (b ∷ l)) 1
-unfolding plain digitCount
-plain-alone b l h e = go (is (isDigit b))
-  where
-    go : Is (isDigit b) → plain (b ∷ l) ≡ eqb (digitCount (b ∷ l)) 1
-    go (is-true d) = rw (d, eqb-yes b 48 e) (suc-eqb (digitCount l))
-    go (is-false d) = absurd (let z : 0 < 0 = rw d at h in omega arith)
-
 module _ (t : List ℕ) (i : ℕ) where
   pub plain-none : digitCount (drop i t) ≡ 0 → plain (drop i t) ≡ false
   plain-none e = plain-stop (drop i t) e
 
-  -- digits lie in the text
-  pub count-inside : 0 < digitCount (drop i t) → i < length t
-  count-inside h = omega (arith, count-length (drop i t), length-drop i t)
-
-  pub plain-other : 0 < digitCount (drop i t) → (getD t i 0 ≡ 48 → ⊥) → plain (drop i t) ≡ true
-  plain-other h e =
-      let c : drop i t ≡ getD t i 0 ∷ drop (suc i) t = drop-cons t i 0 (count-inside h) in
-      ap plain c ∙ plain-cons (getD t i 0) (drop (suc i) t) (rw c at h) e
-
-  pub plain-zero : 0 < digitCount (drop i t) → getD t i 0 ≡ 48 → plain (drop i t) ≡ eqb (digitCount (drop i t)) 1
-  plain-zero h e =
-      let c : drop i t ≡ getD t i 0 ∷ drop (suc i) t = drop-cons t i 0 (count-inside h) in
-      ap plain c ∙ plain-alone (getD t i 0) (drop (suc i) t) (rw c at h) e ∙ ap (λ (l : List ℕ). eqb (digitCount l) 1) (sym c)
+  -- digits up to a place are a number if the first is no zero, or is all of them
+  pub plain-digits : (j : ℕ) → leads (drop i t) ≡ true → i + digitCount (drop i t) ≡ j → (not (eqb (getD t i 0) 48) || eqb j (i + 1)) ≡ plain (drop i t)
+  unfolding plain
+  plain-digits j e h =
+      let b = getD t i 0 in
+      let l : i < length t = lead t i e .inside in
+      let n = digitCount (drop (suc i) t) in
+      let one : eqb j (i + 1) ≡ eqb n 0 =
+      test-ext (eqb j (i + 1)) (eqb n 0) (λ q. eqb-yes n 0 (omega (arith, eq-of j (i + 1) q, count-more t i e)))
+      (λ q. eqb-yes j (i + 1) (omega (arith, eq-of n 0 q, count-more t i e))) in
+      rw (one, drop-cons t i 0 l, sym (leads-at t i l) ∙ e) refl
 
   -- a number has a digit, and lies in the text
   pub plain-some : plain (drop i t) ≡ true → 0 < digitCount (drop i t)
@@ -204,6 +195,13 @@ seen-from v [] = omega arith
 seen-from v (d ∷ ds) =
     let e : seen (seen v * 10 + (d - 48)) ≡ seen (v * 10 + (d - 48)) = omega arith in
     sym (seen-from (seen v * 10 + (d - 48)) ds) ∙ ap (λ (x : ℕ). seen (valueFrom x ds)) e ∙ seen-from (v * 10 + (d - 48)) ds
+
+-- one more digit, as it is read
+pub seen-more : (t : List ℕ) (i v w : ℕ) → leads (drop i t) ≡ true → w ≡ seen (v * 10 + (getD t i 0 - 48))
+    → seen (frontFrom w (drop (suc i) t)) ≡ seen (frontFrom v (drop i t))
+seen-more t i v w e h =
+    let ds = take (digitCount (drop (suc i) t)) (drop (suc i) t) in
+    ap (λ (x : ℕ). seen (valueFrom x ds)) h ∙ seen-from (v * 10 + (getD t i 0 - 48)) ds ∙ ap seen (sym (front-more t i v e))
 
 -- and no limit below it is missed
 pub seen-leb : (v k : ℕ) → k < 65535 → leb (seen v) k ≡ leb v k

@@ -2,7 +2,6 @@
 ghost use mathlib.Core.Path.{_≡_};
 ghost use Prim.Native.Nat.{_+_, _-_, _*_, _≤_};
 ghost use lib.ListN.{drop};
-ghost use Rattle.station.specs.Decimal.{digitCount, plain};
 ghost use Rattle.station.specs.Form.{starts};
 ghost use Rattle.station_scan.specs.Numeral.{seen, leads, closes, noNumeral, numeralAt, numeralThen, numeralLast};
 
@@ -17,17 +16,18 @@ pub struct Numeral {
 pub fn starts_at(text: &[u8], at: usize, word: &[u8]) -> bool
     ensures { λ r. ⌜ r ≡ starts (now (word .entry)) (drop at (now (text .entry))) ⌝ }
 {
+    if text.len() < at {
+        return word.len() == 0;
+    }
+    if text.len() - at < word.len() {
+        return false;
+    }
     let mut i = 0;
-    let mut j = at;
     while i < word.len() {
-        if text.len() <= j {
-            return false;
-        }
-        if word[i] != text[j] {
+        if word[i] != text[at + i] {
             return false;
         }
         i += 1;
-        j += 1;
     }
     true
 }
@@ -36,13 +36,13 @@ pub fn starts_at(text: &[u8], at: usize, word: &[u8]) -> bool
 pub fn closes_at(text: &[u8], at: usize, word: &[u8]) -> bool
     ensures { λ r. ⌜ r ≡ closes (now (word .entry)) (now (text .entry)) at ⌝ }
 {
-    if !starts_at(text, at, word) {
+    if text.len() < at {
+        return word.len() == 0;
+    }
+    if word.len() < text.len() - at {
         return false;
     }
-    if text.len() < at {
-        return true;
-    }
-    text.len() - at <= word.len()
+    starts_at(text, at, word)
 }
 
 // Whether a digit stands at `at`.
@@ -68,31 +68,25 @@ fn with_digit(v: u32, b: u8) -> u32
     if more < 65535 { more } else { 65535 }
 }
 
-// Whether the digits from `at` to `end` are a number: at least one, and no leading zero.
-fn is_plain(text: &[u8], at: usize, end: usize) -> bool
-    requires { ⌜ end ≡ at + digitCount (drop at (now text)) ⌝ }
-    ensures { λ r. ⌜ r ≡ plain (drop at (now (text .entry))) ⌝ }
-{
-    if end <= at {
-        return false;
-    }
-    if text[at] != 48 {
-        return true;
-    }
-    end - at == 1
-}
-
 // The number at `at`: not found where no digit stands there or a zero leads.
 pub fn number_at(text: &[u8], at: usize) -> Numeral
     ensures { λ r. ⌜ r ≡ numeralAt (now (text .entry)) at ⌝ }
 {
-    let mut value: u32 = 0;
-    let mut i = at;
+    if !digit_at(text, at) {
+        return Numeral {
+            found: false,
+            value: 0,
+            next: at,
+        };
+    }
+    let mut value = with_digit(0, text[at]);
+    let mut i = at + 1;
     while digit_at(text, i) {
         value = with_digit(value, text[i]);
         i += 1;
     }
-    let found = is_plain(text, at, i);
+    // No zero leads. Both tests are made: a branch between them would cost more.
+    let found = (text[at] != 48) | (i == at + 1);
     Numeral {
         found,
         value,

@@ -1,7 +1,11 @@
 -- `line_at` meets its contract: the line is a part of the text.
 -- Assumes nothing.
+use Prim.Native.Nat.{_-_}
 use native.Mathlib.Omega.{arith}
-use Rattle.station_scan.proofs.Line.{line-none, line-within, line-part}
+use mathlib.Core.Path.{_≡_}
+use lib.ListN.{length, take, drop, length-drop}
+use lib.Seq.{take-all}
+use Rattle.station_scan.proofs.Line.{line-none, line-part, line-short}
 use borrow.Author.Needs.{needs}
 use Rattle.station_scan.proofs.lines.line_at.Statement.{statement}
 use Rattle.station_scan.proofs.lines.line_at.Tie as tie
@@ -12,20 +16,29 @@ slice-aggregate-result c = search needs
 returns : tie.Need-returns
 returns c = line-none (c .before .before .before .args .text .now) (c .before .before .before .args .at) (omega arith)
 
-line-end-requires : tie.Need-line-end-requires
-line-end-requires c κs = search needs
+sub-rest : tie.Need-sub-rest
+sub-rest c = search needs
 
-sub-result : tie.Need-sub-result
-sub-result c = search needs
+part-rest-start : tie.Need-part-rest-start
+part-rest-start c = search needs
 
-part-result-start : tie.Need-part-result-start
-part-result-start c = search needs
+part-rest-end : tie.Need-part-rest-end
+part-rest-end c = search needs
 
-part-result-end : tie.Need-part-result-end
-part-result-end c = omega (arith, line-within (c .before .before .before .args .text .now) (c .before .before .before .args .at) (omega arith))
+line-length-requires : tie.Need-line-length-requires
+line-length-requires c κs = search needs
+
+slice-aggregate-result-2 : tie.Need-slice-aggregate-result-2
+slice-aggregate-result-2 c =
+    let s = c .before .before .before .before .before .args in
+    line-short (take (length (s .text .now) - s .at) (drop (s .at) (s .text .now))) (c .before .line-length .result) (c .before .line-length .ensures)
 
 returns-2 : tie.Need-returns-2
-returns-2 c = line-part (c .before .before .before .before .args .text .now) (c .before .before .before .before .args .at) (c .before .line-end .result) (c .before .line-end .ensures)
+returns-2 c =
+    let s = c .before .before .before .before .before .args in
+    let t = s .text .now in
+    let rest : take (length t - s .at) (drop (s .at) t) ≡ drop (s .at) t = take-all (length t - s .at) (drop (s .at) t) (omega (arith, length-drop (s .at) t)) in
+    rw (rest) (line-part (drop (s .at) t) (c .before .line-length .result) (rw rest at (c .before .line-length .ensures)))
 
 pub line-at-spec : {M : Type 1} → statement M
 line-at-spec =
@@ -33,8 +46,9 @@ line-at-spec =
     (tie.spec
     slice-aggregate-result
     returns
-    line-end-requires
-    sub-result
-    part-result-start
-    part-result-end
+    sub-rest
+    part-rest-start
+    part-rest-end
+    line-length-requires
+    slice-aggregate-result-2
     returns-2)

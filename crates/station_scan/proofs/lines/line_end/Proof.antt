@@ -3,8 +3,7 @@
 -- Assumes nothing.
 use Prim.Native.Nat.{_+_, _-_}
 use native.Mathlib.Omega.{arith}
-use native.Mathlib.Numerals.{add-one}
-use mathlib.Core.Path.{_≡_}
+use mathlib.Core.Path.{_≡_, refl}
 use lib.ListN.{length, drop}
 use Rattle.station_scan.specs.Line.{lineOf}
 use Rattle.station_scan.proofs.Line.{line-here, line-further, line-past}
@@ -39,7 +38,7 @@ loop-again : tie.Need-loop-again Inv-loop μ-loop
 loop-again c =
     let t = c .before .before .before .before .args .text .now in
     let i = c .before .before .before .loop .i in
-    rw add-one (omega (arith, line-further t i (omega arith) (c .if1 .left)))
+    omega (arith, line-further t i (i + 1) refl (omega arith) (c .if1 .left))
 
 returns-2 : tie.Need-returns-2 Inv-loop μ-loop
 returns-2 c =

@@ -2,14 +2,15 @@
 -- number, as it is read. The measure is what is left of the text.
 -- Assumes nothing.
 use borrow.Author.Needs.{needs}
-use Prim.Native.Nat.{ℕ, suc, _+_, _-_, _*_, _≤_}
+use Prim.Native.Nat.{_+_, _-_, _≤_}
 use native.Mathlib.Omega.{arith}
 use native.Mathlib.Numerals.{add-one}
-use mathlib.Core.Path.{_≡_, refl, sym, _∙_, ap}
-use lib.ListN.{length, drop, take, getD}
-use Rattle.station.specs.Decimal.{digitCount, valueFrom}
+use mathlib.Core.Path.{_≡_, refl, sym, _∙_}
+use lib.ListN.{length, drop}
+use Rattle.laws.proofs.Every.{false-of-not, true-of-not}
+use Rattle.station.specs.Decimal.{digitCount}
 use Rattle.station_scan.specs.Numeral.{seen, front, frontFrom}
-use Rattle.station_scan.proofs.Numeral.{lead, count-more, count-none, front-more, front-none, seen-from}
+use Rattle.station_scan.proofs.Numeral.{lead, count-more, count-none, front-none, plain-none, plain-digits, seen-more}
 use Rattle.station_scan.proofs.numbers.number_at.Statement.{statement}
 use Rattle.station_scan.proofs.numbers.number_at.Tie as tie
 
@@ -19,72 +20,119 @@ Inv-loop text at value₀ i₀ value i = (value ≤ 65535) × (i + digitCount (d
 abbrev μ-loop : tie.MeasureT-loop
 μ-loop text at value₀ i₀ value i = length text - i
 
-loop-holds : tie.Need-loop-holds Inv-loop μ-loop
-loop-holds c = (omega arith, refl, refl)
-
 digit-at-requires : tie.Need-digit-at-requires Inv-loop μ-loop
 digit-at-requires c κs = search needs
 
+returns : tie.Need-returns Inv-loop μ-loop
+returns c =
+    let s = c .before .before .before .args in
+    let t = s .text .now in
+    let d = c .before .digit-at in
+    let no = sym (d .ensures) ∙ false-of-not (d .result) (c .if1 .taken) in
+    let n = count-none t (s .at) no in
+    let e : s .at + digitCount (drop (s .at) t) ≡ s .at = omega arith in
+    rw (plain-none t (s .at) n, e, front-none t (s .at) 0 no) refl
+
 shared-slice-read-with-digit : tie.Need-shared-slice-read-with-digit Inv-loop μ-loop
 shared-slice-read-with-digit c =
-    let s = c .before .before .before .before .before .args in
-    let l = c .before .before .before .loop in
-    lead (s .text .now) (l .i) (sym (c .before .before .digit-at .ensures) ∙ c .before .if1 .taken) .inside
+    let s = c .before .before .before .before .args in
+    let d = c .before .before .digit-at in
+    let yes = sym (d .ensures) ∙ true-of-not (d .result) (c .before .if1 .left) in
+    lead (s .text .now) (s .at) yes .inside
 
 with-digit-requires : tie.Need-with-digit-requires Inv-loop μ-loop
 with-digit-requires c κs =
-    let s = c .before .before .before .before .before .args in
-    let l = c .before .before .before .loop in
-    let d = lead (s .text .now) (l .i) (sym (c .before .before .digit-at .ensures) ∙ c .before .if1 .taken) in
-    (l .inv .0, d .low)
+    let s = c .before .before .before .before .args in
+    let d = c .before .before .digit-at in
+    let yes = sym (d .ensures) ∙ true-of-not (d .result) (c .before .if1 .left) in
+    (omega arith, lead (s .text .now) (s .at) yes .low)
 
 add-i : tie.Need-add-i Inv-loop μ-loop
 add-i c =
-    let s = c .before .before .before .before .before .before .args in
+    let s = c .before .before .before .before .before .args in
+    let d = c .before .before .before .digit-at in
+    let yes = sym (d .ensures) ∙ true-of-not (d .result) (c .before .before .if1 .left) in
+    let h = lead (s .text .now) (s .at) yes in
+    omega arith
+
+loop-holds : tie.Need-loop-holds Inv-loop μ-loop
+loop-holds c =
+    let s = c .before .before .before .before .before .args in
+    let d = c .before .before .before .digit-at in
+    let yes = sym (d .ensures) ∙ true-of-not (d .result) (c .before .before .if1 .left) in
+    let t = s .text .now in
+    let w = c .with-digit .ensures in
+    rw (add-one (s .at)) (omega arith, omega (arith, count-more t (s .at) yes), seen-more t (s .at) 0 (c .with-digit .result) yes w)
+
+digit-at-requires-2 : tie.Need-digit-at-requires-2 Inv-loop μ-loop
+digit-at-requires-2 c κs = search needs
+
+shared-slice-read-with-digit-2 : tie.Need-shared-slice-read-with-digit-2 Inv-loop μ-loop
+shared-slice-read-with-digit-2 c =
+    let s = c .before .before .before .before .before .before .before .before .before .args in
+    let l = c .before .before .before .loop in
+    let yes = sym (c .before .before .digit-at2 .ensures) ∙ c .before .if2 .taken in
+    lead (s .text .now) (l .i) yes .inside
+
+with-digit-requires-2 : tie.Need-with-digit-requires-2 Inv-loop μ-loop
+with-digit-requires-2 c κs =
+    let s = c .before .before .before .before .before .before .before .before .before .args in
+    let l = c .before .before .before .loop in
+    let yes = sym (c .before .before .digit-at2 .ensures) ∙ c .before .if2 .taken in
+    (l .inv .0, lead (s .text .now) (l .i) yes .low)
+
+add-i-2 : tie.Need-add-i-2 Inv-loop μ-loop
+add-i-2 c =
+    let s = c .before .before .before .before .before .before .before .before .before .before .args in
     let l = c .before .before .before .before .loop in
-    let d = lead (s .text .now) (l .i) (sym (c .before .before .before .digit-at .ensures) ∙ c .before .before .if1 .taken) in
+    let yes = sym (c .before .before .before .digit-at2 .ensures) ∙ c .before .before .if2 .taken in
+    let h = lead (s .text .now) (l .i) yes in
     omega arith
 
 loop-less : tie.Need-loop-less Inv-loop μ-loop
 loop-less c =
-    let s = c .before .before .before .before .before .before .args in
+    let s = c .before .before .before .before .before .before .before .before .before .before .args in
     let l = c .before .before .before .before .loop in
-    let d = lead (s .text .now) (l .i) (sym (c .before .before .before .digit-at .ensures) ∙ c .before .before .if1 .taken) in
+    let yes = sym (c .before .before .before .digit-at2 .ensures) ∙ c .before .before .if2 .taken in
+    let h = lead (s .text .now) (l .i) yes in
     omega arith
 
 loop-again : tie.Need-loop-again Inv-loop μ-loop
 loop-again c =
-    let s = c .before .before .before .before .before .before .args in
+    let s = c .before .before .before .before .before .before .before .before .before .before .args in
     let l = c .before .before .before .before .loop in
+    let yes = sym (c .before .before .before .digit-at2 .ensures) ∙ c .before .before .if2 .taken in
     let t = s .text .now in
-    let yes = sym (c .before .before .before .digit-at .ensures) ∙ c .before .before .if1 .taken in
-    let w = c .with-digit .ensures in
-    let ds = take (digitCount (drop (suc (l .i)) t)) (drop (suc (l .i)) t) in
-    rw (add-one (l .i)) (
-      omega arith,
-      omega (arith, count-more t (l .i) yes),
-      ap (λ (x : ℕ). seen (valueFrom x ds)) w
-          ∙ seen-from (l .value * 10 + (getD t (l .i) 0 - 48)) ds
-          ∙ ap seen (sym (front-more t (l .i) (l .value) yes))
-          ∙ l .inv .2,
-    )
+    let w = c .with-digit2 .ensures in
+    rw (add-one (l .i))
+    (omega arith, omega (arith, count-more t (l .i) yes), seen-more t (l .i) (l .value) (c .with-digit2 .result) yes w ∙ l .inv .2)
 
-is-plain-requires : tie.Need-is-plain-requires Inv-loop μ-loop
-is-plain-requires c κs =
-    let s = c .before .before .before .before .args in
-    let l = c .before .before .loop in
-    let no = sym (c .before .digit-at .ensures) ∙ c .if1 .left in
-    omega (arith, count-none (s .text .now) (l .i) no)
+shared-slice-read-found : tie.Need-shared-slice-read-found Inv-loop μ-loop
+shared-slice-read-found c =
+    let s = c .before .before .before .before .before .before .before .before .before .args in
+    let d = c .before .before .before .before .before .before .before .digit-at in
+    let yes = sym (d .ensures) ∙ true-of-not (d .result) (c .before .before .before .before .before .before .if1 .left) in
+    lead (s .text .now) (s .at) yes .inside
 
-returns : tie.Need-returns Inv-loop μ-loop
-returns c =
-    let s = c .before .before .before .before .before .args in
+add-found : tie.Need-add-found Inv-loop μ-loop
+add-found c =
+    let s = c .before .before .before .before .before .before .before .before .before .args in
+    let d = c .before .before .before .before .before .before .before .digit-at in
+    let yes = sym (d .ensures) ∙ true-of-not (d .result) (c .before .before .before .before .before .before .if1 .left) in
+    let h = lead (s .text .now) (s .at) yes in
+    omega arith
+
+returns-2 : tie.Need-returns-2 Inv-loop μ-loop
+returns-2 c =
+    let s = c .before .before .before .before .before .before .before .before .before .args in
+    let d = c .before .before .before .before .before .before .before .digit-at in
+    let yes = sym (d .ensures) ∙ true-of-not (d .result) (c .before .before .before .before .before .before .if1 .left) in
+    let t = s .text .now in
     let l = c .before .before .before .loop in
-    let t = s .text .now in
-    let no = sym (c .before .before .digit-at .ensures) ∙ c .before .if1 .left in
+    let no = sym (c .before .before .digit-at2 .ensures) ∙ c .before .if2 .left in
     let n : l .i ≡ s .at + digitCount (drop (s .at) t) = omega (arith, count-none t (l .i) no) in
     let v : l .value ≡ seen (front (drop (s .at) t)) = omega (arith, front-none t (l .i) (l .value) no, l .inv .2) in
-    rw (n, v, c .is-plain .ensures) refl
+    rw (plain-digits t (s .at) (l .i) yes (sym n), n, v) refl
 
 pub number-at-spec : {M : Type 1} → statement M
 number-at-spec =
@@ -92,12 +140,18 @@ number-at-spec =
     (tie.spec
     Inv-loop
     μ-loop
-    loop-holds
     digit-at-requires
+    returns
     shared-slice-read-with-digit
     with-digit-requires
     add-i
+    loop-holds
+    digit-at-requires-2
+    shared-slice-read-with-digit-2
+    with-digit-requires-2
+    add-i-2
     loop-less
     loop-again
-    is-plain-requires
-    returns)
+    shared-slice-read-found
+    add-found
+    returns-2)
