@@ -7,7 +7,7 @@
 use Prim.Native.Nat.{ℕ, zero, suc, _+_, _≤_}
 use native.Mathlib.Omega.{arith}
 use mathlib.Core.Path.{_≡_, refl, sym, _∙_, ap}
-use mathlib.Core.Bool.{true, false}
+use mathlib.Core.Bool.{Bool, true, false, _&&_, and-true, and-assoc}
 use mathlib.Core.Option.{Option, none, some}
 use mathlib.Core.List.{List, [], _∷_, _++_, append-assoc, append-nil}
 use lib.ListN.{length, drop, set, length-append}
@@ -19,7 +19,8 @@ use Rattle.station.specs.Head as meant
 use Rattle.station.specs.Form.{Pairs, last, next, also, readBrackets, jobsOf}
 use Rattle.station_scan.specs.Numeral.{seen}
 use Rattle.station_brackets.specs.declared.brackets.Bracket.{Bracket}
-use Rattle.station_scan.specs.Jobs.{jobIn, noJob, padded, noJobs}
+use Rattle.station_scan.specs.Jobs.{jobIn, jobInLimits, jobsInLimits, noJob, padded, noJobs}
+use Rattle.station_scan.proofs.Numeral.{seen-within}
 use Rattle.station_brackets.specs.Bracket.{jobsRead, BracketAt, no-bracket, last-bracket, next-bracket}
 
 -- jobs stored from place n on
@@ -50,51 +51,60 @@ stored-padded l = stored-after [] 8 0 l refl
 
 -- ---- the jobs so far, and those that are left
 
--- what the whole line makes
-abbrev pub counted : ℕ → List Job → Option Pairs → Jobs
-counted n js none = record { found = false; count = 0; jobs = noJobs }
-counted n js (some p) = record { found = true; count = seen (n + length (jobsOf p)); jobs = stored n js (jobsOf p) }
+-- a job as it is read is within its limits just if it is
+fits-seen : (a b : ℕ) → jobInLimits (record { number = seen a; slots = seen b }) ≡ jobInLimits (record { number = a; slots = b })
+fits-seen a b = rw (seen-within 1 255 a (omega arith) (omega arith), seen-within 1 64 b (omega arith) (omega arith)) refl
 
-pub counted-start : (o : Option Pairs) → counted 0 noJobs o ≡ jobsRead o
+-- what the whole line makes
+abbrev pub counted : ℕ → Bool → List Job → Option Pairs → Jobs
+counted n f js none = record { found = false; count = 0; fit = false; jobs = noJobs }
+counted n f js (some p) =
+    record { found = true; count = seen (n + length (jobsOf p)); fit = f && jobsInLimits (jobsOf p); jobs = stored n js (jobsOf p) }
+
+pub counted-start : (o : Option Pairs) → counted 0 true noJobs o ≡ jobsRead o
 counted-start none = refl
 counted-start (some p) =
     let e : 0 + length (jobsOf p) ≡ length (jobsOf p) = omega arith in
     rw (e, stored-padded (jobsOf p)) refl
 
-module _ (n : ℕ) (js : List Job) (a b : ℕ) where
+module _ (n : ℕ) (f : Bool) (js : List Job) (a b : ℕ) where
   abbrev job : Job
   job = record { number = seen a; slots = seen b }
 
-  pub counted-next : (o : Option Pairs) → counted n js (also a b o) ≡ counted (n + 1) (set js n job) o
-  unfolding jobsOf stored
+  abbrev fit : Bool
+  fit = f && jobInLimits (record { number = seen a; slots = seen b })
+
+  pub counted-next : (o : Option Pairs) → counted n f js (also a b o) ≡ counted (n + 1) fit (set js n job) o
+  unfolding jobsOf jobsInLimits stored
   counted-next none = refl
   counted-next (some p) =
       let e : n + suc (length (jobsOf p)) ≡ suc n + length (jobsOf p) = omega arith in
       let i : suc n ≡ n + 1 = omega arith in
-      rw (← i, e) refl
+      rw (← i, e, fits-seen a b, and-assoc f (jobInLimits (record { number = a; slots = b })) (jobsInLimits (jobsOf p))) refl
 
-  pub counted-last : counted n js (some (last a b)) ≡ record { found = true; count = seen (n + 1); jobs = set js n job }
-  unfolding jobsOf stored
-  counted-last = refl
+  pub counted-last : counted n f js (some (last a b)) ≡ record { found = true; count = seen (n + 1); fit = fit; jobs = set js n job }
+  unfolding jobsOf jobsInLimits stored
+  counted-last = rw (fits-seen a b, and-true (jobInLimits (record { number = a; slots = b }))) refl
 
 -- ---- by the bracket that was read
 
-module _ (n : ℕ) (js : List Job) {t : List ℕ} {at : ℕ} {b : Bracket} where
-  pub read-none : BracketAt t at b → b .found ≡ false → record { found = false; count = 0; jobs = noJobs } ≡ counted n js (readBrackets (drop at t))
-  read-none (no-bracket f e) y = rw e refl
-  read-none (last-bracket c d f l x w h i e) y = absurd (clash (sym f ∙ y))
-  read-none (next-bracket c d f l x w h i e) y = absurd (clash (sym f ∙ y))
+module _ (n : ℕ) (f : Bool) (js : List Job) {t : List ℕ} {at : ℕ} {b : Bracket} where
+  pub read-none : BracketAt t at b → b .found ≡ false
+      → record { found = false; count = 0; fit = false; jobs = noJobs } ≡ counted n f js (readBrackets (drop at t))
+  read-none (no-bracket g e) y = rw e refl
+  read-none (last-bracket c d g l x w h i e) y = absurd (clash (sym g ∙ y))
+  read-none (next-bracket c d g l x w h i e) y = absurd (clash (sym g ∙ y))
 
   pub read-last : BracketAt t at b → b .found ≡ true → b .last ≡ true
-      → record { found = true; count = seen (n + 1); jobs = set js n (record { number = b .first; slots = b .second }) }
-      ≡ counted n js (readBrackets (drop at t))
-  read-last (no-bracket f e) y z = absurd (clash (sym y ∙ f))
-  read-last (last-bracket c d f l x w h i e) y z = rw (e, x, w) (sym (counted-last n js c d))
-  read-last (next-bracket c d f l x w h i e) y z = absurd (clash (sym z ∙ l))
+      → record { found = true; count = seen (n + 1); fit = f && jobInLimits (record { number = b .first; slots = b .second }); jobs = set js n (record { number = b .first; slots = b .second }) }
+      ≡ counted n f js (readBrackets (drop at t))
+  read-last (no-bracket g e) y z = absurd (clash (sym y ∙ g))
+  read-last (last-bracket c d g l x w h i e) y z = rw (e, x, w) (sym (counted-last n f js c d))
+  read-last (next-bracket c d g l x w h i e) y z = absurd (clash (sym z ∙ l))
 
   pub read-next : BracketAt t at b → b .found ≡ true → b .last ≡ false
-      → counted (n + 1) (set js n (record { number = b .first; slots = b .second })) (readBrackets (drop (b .next) t))
-      ≡ counted n js (readBrackets (drop at t))
-  read-next (no-bracket f e) y z = absurd (clash (sym y ∙ f))
-  read-next (last-bracket c d f l x w h i e) y z = absurd (clash (sym l ∙ z))
-  read-next (next-bracket c d f l x w h i e) y z = rw (e, x, w) (sym (counted-next n js c d (readBrackets (drop (b .next) t))))
+      → counted (n + 1) (f && jobInLimits (record { number = b .first; slots = b .second })) (set js n (record { number = b .first; slots = b .second })) (readBrackets (drop (b .next) t))
+      ≡ counted n f js (readBrackets (drop at t))
+  read-next (no-bracket g e) y z = absurd (clash (sym y ∙ g))
+  read-next (last-bracket c d g l x w h i e) y z = absurd (clash (sym l ∙ z))
+  read-next (next-bracket c d g l x w h i e) y z = rw (e, x, w) (sym (counted-next n f js c d (readBrackets (drop (b .next) t))))

@@ -15,7 +15,7 @@ use Rattle.station_brackets.specs.declared.brackets.Jobs.{Jobs}
 use Rattle.station.specs.Form.{Pairs, last, next, also, readBrackets, jobsOf}
 use Rattle.station.specs.Writing.{maskTo, maskOf, ordered}
 use Rattle.station_scan.specs.Numeral.{seen}
-use Rattle.station_scan.specs.Jobs.{padded, noJobs}
+use Rattle.station_scan.specs.Jobs.{jobsInLimits, padded, noJobs}
 
 -- no bracket was found
 abbrev pub noBracket : Bracket
@@ -61,7 +61,7 @@ takenIn hi (some p) = record { found = true; mask = cond (ordered 1 hi p) (maskO
 
 -- ---- jobs
 
--- the jobs of a call: how many, and the first eight
+-- the jobs of a call: how many, whether each is within its limits, and the first eight
 abbrev pub jobsRead : Option Pairs → Jobs
-jobsRead none = record { found = false; count = 0; jobs = noJobs }
-jobsRead (some p) = record { found = true; count = seen (length (jobsOf p)); jobs = padded 8 (jobsOf p) }
+jobsRead none = record { found = false; count = 0; fit = false; jobs = noJobs }
+jobsRead (some p) = record { found = true; count = seen (length (jobsOf p)); fit = jobsInLimits (jobsOf p); jobs = padded 8 (jobsOf p) }

@@ -6,11 +6,11 @@ use station_scan::numbers::number_then;
 use station_scan::numbers::starts_at;
 ghost use mathlib.Core.Path.{_≡_};
 ghost use mathlib.Core.Bool.{false};
-ghost use Prim.Native.Nat.{_+_, _^_, _≤_, _<_};
-ghost use lib.ListN.{length, drop, set};
+ghost use Prim.Native.Nat.{_+_, _≤_};
+ghost use lib.ListN.{drop};
 ghost use Rattle.station.specs.Form.{readBrackets};
 ghost use Rattle.station_scan.specs.Numeral.{seen};
-ghost use Rattle.station_scan.specs.Jobs.{noJobs};
+ghost use Rattle.station_scan.specs.Jobs.{jobInLimits, noJobs};
 ghost use Rattle.station.specs.Writing.{maskTo};
 ghost use Rattle.station_brackets.specs.Bracket.{noBracket, BracketAt, notOrdered, MaskedSoFar, stretched, takenIn, jobsRead};
 
@@ -37,16 +37,11 @@ pub struct Taken {
     pub ordered: bool,
 }
 
-// The jobs of a call, if it has its form: how many, and the first eight.
+// The jobs of a call, if it has its form: how many, whether each is within its limits, and the first eight.
 pub struct Jobs {
     pub found: bool,
     pub count: u32,
-    pub jobs: [Job; 8],
-}
-
-// The jobs so far: how many, and the first eight.
-pub struct JobList {
-    pub count: usize,
+    pub fit: bool,
     pub jobs: [Job; 8],
 }
 
@@ -178,18 +173,20 @@ pub fn stretches_at(text: &[u8], at: usize, slots: u32) -> Taken
     }
 }
 
-// The jobs with one more. It is kept while there is a place for it, and counted in any case.
-fn with_job(list: JobList, job: Job) -> JobList
-    requires { ⌜ (list .count < 2 ^ 63) × (length (list .jobs) ≡ 8) ⌝ }
-    ensures { λ r. ⌜ r ≡ (record { count = list .count + 1; jobs = set (list .jobs) (list .count) job }) ⌝ }
+// Whether a job of these numbers is within its limits.
+fn job_fits(number: u32, slots: u32) -> bool
+    ensures { λ r. ⌜ r ≡ jobInLimits (record { number = number; slots = slots }) ⌝ }
 {
-    let n = list.count;
-    let mut jobs = list.jobs;
-    if 8 <= n {
-        return JobList { count: n + 1, jobs };
+    if number < 1 {
+        return false;
     }
-    jobs[n] = job;
-    JobList { count: n + 1, jobs }
+    if 255 < number {
+        return false;
+    }
+    if slots < 1 {
+        return false;
+    }
+    slots <= 64
 }
 
 // A count as it is read: it stops at 65,535.
@@ -201,11 +198,12 @@ fn seen_count(n: usize) -> u32
 
 // What is handed back where the brackets lack their form.
 fn no_jobs() -> Jobs
-    ensures { λ r. ⌜ r ≡ (record { found = false; count = 0; jobs = noJobs }) ⌝ }
+    ensures { λ r. ⌜ r ≡ (record { found = false; count = 0; fit = false; jobs = noJobs }) ⌝ }
 {
     Jobs {
         found: false,
         count: 0,
+        fit: false,
         jobs: [Job {
             number: 0,
             slots: 0,
@@ -217,29 +215,31 @@ fn no_jobs() -> Jobs
 pub fn jobs_at(text: &[u8], at: usize) -> Jobs
     ensures { λ r. ⌜ r ≡ jobsRead (readBrackets (drop at (now (text .entry)))) ⌝ }
 {
-    let mut list = JobList {
-        count: 0,
-        jobs: [Job {
-            number: 0,
-            slots: 0,
-        }; 8],
-    };
+    let mut jobs = [Job {
+        number: 0,
+        slots: 0,
+    }; 8];
+    let mut count = 0;
+    let mut fit = true;
     let mut i = at;
     loop {
         let b = bracket_at(text, i);
         if !b.found {
             return no_jobs();
         }
-        let job = Job {
-            number: b.first as u16,
-            slots: b.second as u16,
-        };
-        list = with_job(list, job);
+        fit = fit & job_fits(b.first, b.second);
+        if count < 8 {
+            jobs[count] = Job {
+                number: b.first as u16,
+                slots: b.second as u16,
+            };
+        }
+        count += 1;
         if b.last {
-            let jobs = list.jobs;
             return Jobs {
                 found: true,
-                count: seen_count(list.count),
+                count: seen_count(count),
+                fit,
                 jobs,
             };
         }

@@ -1,17 +1,17 @@
 -- What the code makes of an event line by itself, before the table and the clock are looked at. Document 01, "The station text" and "Causes".
 -- Assumes nothing.
-use Prim.Native.Nat.{ℕ, zero, suc}
 use mathlib.Core.Bool.{Bool, true, false, _&&_}
 use mathlib.Core.Option.{Option, none, some}
-use mathlib.Core.List.{List, [], _∷_}
+use mathlib.Core.List.{List}
 use lib.ListN.{length}
 use lib.Dec.{leb}
 use Rattle.station.specs.Head as meant
-use Rattle.station.specs.Head.{within}
 use Rattle.station.specs.Form.{Form, frameLine, busyLine, presetLine, clockLine, callLine, jobsOf}
 use Rattle.station_scan.specs.Numeral.{seen}
 use Rattle.station_scan.specs.Jobs.{padded, noJobs}
-use Rattle.station.specs.declared.types.Job.{Job}
+pub use Rattle.station_scan.specs.Jobs.{jobInLimits}
+unfoldable pub use Rattle.station_scan.specs.Jobs.{jobsInLimits}
+use Rattle.station_brackets.specs.declared.brackets.Jobs.{Jobs}
 use Rattle.station.specs.declared.types.Refusal.{Refusal}
 use Rattle.station.specs.declared.types.Refusal.the-variants as refusal
 use Rattle.station_forms.specs.declared.forms.Line.{Line}
@@ -26,15 +26,6 @@ fault r = record { event = Fault r; jobs = noJobs }
 abbrev pub pickEvent : Bool → EventRead → EventRead → EventRead
 pickEvent true a b = a
 pickEvent false a b = b
-
--- "c: from 1 to 64; preset or job number: from 1 to 255"
-abbrev pub jobInLimits : meant.Job → Bool
-jobInLimits j = within 1 255 (j .number) && within 1 64 (j .slots)
-
--- every job is within its limits
-unfoldable pub jobsInLimits : List meant.Job → Bool
-jobsInLimits [] = true
-jobsInLimits (j ∷ l) = jobInLimits j && jobsInLimits l
 
 -- "jobs in a call: from 1 to 8", which a form has at least, and each within its limits; else "a value .. outside its limits", "a ninth job in a call"
 abbrev pub callInLimits : List meant.Job → Bool
@@ -55,25 +46,15 @@ eventIn (some (callLine p)) = callMeant (jobsOf p)
 
 -- ---- the same by what was read of the line
 
--- a job that was read is within its limits
-abbrev pub jobFits : Job → Bool
-jobFits j = within 1 255 (j .number) && within 1 64 (j .slots)
+-- the jobs of a call that has its form
+abbrev pub callEvent : Jobs → EventRead
+callEvent j = pickEvent (leb (j .count) 8 && j .fit) (record { event = Place (j .count); jobs = j .jobs }) (fault refusal.OutOfLimits)
 
--- the first n jobs are
-unfoldable pub firstFit : ℕ → List Job → Bool
-firstFit zero l = true
-firstFit (suc n) [] = true
-firstFit (suc n) (j ∷ l) = jobFits j && firstFit n l
-
--- a call of n jobs, with the first eight
-abbrev pub callEvent : ℕ → List Job → EventRead
-callEvent n js = pickEvent (leb n 8 && firstFit n js) (record { event = Place n; jobs = js }) (fault refusal.OutOfLimits)
-
--- the event of what was read
-abbrev pub lineEvent : Line → List Job → EventRead
-lineEvent NoForm js = fault refusal.NoForm
-lineEvent (Frame s b) js = fault refusal.OutOfPlace
-lineEvent (Busy b m o) js = fault refusal.OutOfPlace
-lineEvent (Preset n p m o) js = fault refusal.OutOfPlace
-lineEvent (Clock t) js = record { event = SetClock t; jobs = js }
-lineEvent (Call n) js = callEvent n js
+-- any other line: of a call nothing is said
+abbrev pub lineEvent : Line → EventRead
+lineEvent NoForm = fault refusal.NoForm
+lineEvent (Frame s b) = fault refusal.OutOfPlace
+lineEvent (Busy b m o) = fault refusal.OutOfPlace
+lineEvent (Preset n p m o) = fault refusal.OutOfPlace
+lineEvent (Clock t) = record { event = SetClock t; jobs = noJobs }
+lineEvent (Call n) = fault refusal.NoForm

@@ -1,14 +1,14 @@
 // Event lines: a clock, a call, or what is wrong with the line itself.
 use crate::forms::Line;
-use crate::forms::Read;
 use crate::forms::read_line;
 use station::types::Job;
 use station::types::Refusal;
+use station_brackets::brackets::Jobs;
+use station_brackets::brackets::jobs_at;
+use station_scan::numbers::starts_at;
 ghost use mathlib.Core.Path.{_≡_};
-ghost use Prim.Native.Nat.{_≤_};
-ghost use lib.ListN.{length};
 ghost use Rattle.station.specs.Form.{form};
-ghost use Rattle.station_forms.specs.Event.{fault, jobFits, firstFit, callEvent, lineEvent, eventIn};
+ghost use Rattle.station_forms.specs.Event.{fault, callEvent, lineEvent, eventIn};
 
 // What an event line asks: to set the clock, or to place the first jobs of the array, so many of them; or the refusal that it meets by itself,
 // whatever the table and the clock are.
@@ -37,63 +37,28 @@ fn refused(cause: Refusal) -> EventRead
     }
 }
 
-// Whether a job is within its limits.
-fn job_fits(job: Job) -> bool
-    ensures { λ r. ⌜ r ≡ jobFits job ⌝ }
+// A call whose jobs were read: out of limits with a ninth job, or a job that is.
+fn call_event(list: Jobs) -> EventRead
+    ensures { λ r. ⌜ r ≡ callEvent list ⌝ }
 {
-    if job.number < 1 {
-        return false;
-    }
-    if 255 < job.number {
-        return false;
-    }
-    if job.slots < 1 {
-        return false;
-    }
-    job.slots <= 64
-}
-
-// Whether the first `n` jobs are within their limits.
-fn jobs_fit(jobs: [Job; 8], n: usize) -> bool
-    requires { ⌜ (n ≤ 8) × (length jobs ≡ 8) ⌝ }
-    ensures { λ r. ⌜ r ≡ firstFit n jobs ⌝ }
-{
-    let mut i = 0;
-    while i < n {
-        let job = jobs[i];
-        if !job_fits(job) {
-            return false;
-        }
-        i += 1;
-    }
-    true
-}
-
-// A call of `n` jobs, the first eight in the array: out of limits with a ninth job, or a job that is.
-fn call_event(n: u32, jobs: [Job; 8]) -> EventRead
-    requires { ⌜ length jobs ≡ 8 ⌝ }
-    ensures { λ r. ⌜ r ≡ callEvent n jobs ⌝ }
-{
+    let n = list.count;
     if 8 < n {
         return refused(Refusal::OutOfLimits);
     }
-    let count = n as usize;
-    if !jobs_fit(jobs, count) {
+    if !list.fit {
         return refused(Refusal::OutOfLimits);
     }
+    let jobs = list.jobs;
     EventRead {
-        event: Event::Place(count),
+        event: Event::Place(n as usize),
         jobs,
     }
 }
 
-// The event of a line that was read: a head's line is out of its place.
-fn line_event(read: Read) -> EventRead
-    requires { ⌜ length (read .jobs) ≡ 8 ⌝ }
-    ensures { λ r. ⌜ r ≡ lineEvent (read .line) (read .jobs) ⌝ }
+// The event of a line that does not begin as a call: a head's line is out of its place.
+fn line_event(said: Line) -> EventRead
+    ensures { λ r. ⌜ r ≡ lineEvent said ⌝ }
 {
-    let said = read.line;
-    let jobs = read.jobs;
     match said {
         Line::NoForm => refused(Refusal::NoForm),
         Line::Frame(_, _) => refused(Refusal::OutOfPlace),
@@ -101,16 +66,29 @@ fn line_event(read: Read) -> EventRead
         Line::Preset(_, _, _, _) => refused(Refusal::OutOfPlace),
         Line::Clock(t) => EventRead {
             event: Event::SetClock(t),
-            jobs,
+            jobs: [Job {
+                number: 0,
+                slots: 0,
+            }; 8],
         },
-        Line::Call(n) => call_event(n, jobs),
+        Line::Call(_) => refused(Refusal::NoForm),
     }
 }
 
 // The event of a line, byte 10 included: a clock with its slot as it is read, a call with its jobs, or `Fault`. No form is `NoForm`, a head's
-// line `OutOfPlace`, a call with a ninth job or with a number or length outside its limits `OutOfLimits`.
+// line `OutOfPlace`, a call with a ninth job or with a number or length outside its limits `OutOfLimits`. Most events are calls: they are
+// told by their first word, which no other form has.
 pub fn read_event(line: &[u8]) -> EventRead
     ensures { λ r. ⌜ r ≡ eventIn (form (now (line .entry))) ⌝ }
 {
-    line_event(read_line(line, 64))
+    if !starts_at(line, 0, b"(call ") {
+        let read = read_line(line, 64);
+        let said = read.line;
+        return line_event(said);
+    }
+    let list = jobs_at(line, 6);
+    if !list.found {
+        return refused(Refusal::NoForm);
+    }
+    call_event(list)
 }

@@ -9,7 +9,7 @@
 use Prim.Native.Nat.{ℕ, suc, _+_, _-_, _*_, _≤_, _<_}
 use native.Mathlib.Omega.{arith}
 use mathlib.Core.Path.{_≡_, refl, sym, _∙_, ap}
-use mathlib.Core.Bool.{Bool, true, false, not, _&&_, _||_}
+use mathlib.Core.Bool.{true, false, not, _||_, and-true}
 use mathlib.Core.List.{List, [], _∷_}
 use lib.ListN.{length, take, drop, getD, drop-of-length-le, length-drop}
 use lib.Seq.{drop-cons}
@@ -74,11 +74,7 @@ starts-none (c ∷ w) t i h = rw (drop-of-length-le t h, eqb-no (suc (length w))
 
 -- a word that reaches the end of the text ends it where it stands
 pub closes-short : (w t : List ℕ) (i : ℕ) → length t ≤ i + length w → closes w t i ≡ starts w (drop i t)
-closes-short w t i h = go (starts w (drop i t)) (leb (length t) (i + length w)) (leb-yes (length t) (i + length w) h)
-  where
-    go : (a b : Bool) → b ≡ true → (a && b) ≡ a
-    go true b e = e
-    go false b e = refl
+closes-short w t i h = rw (leb-yes (length t) (i + length w) h) (and-true (starts w (drop i t)))
 
 -- ---- a digit at a place
 

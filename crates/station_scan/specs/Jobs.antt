@@ -1,10 +1,21 @@
--- The jobs of a call as the code reads them, into an array of eight. Document 01, "The station text".
+-- The jobs of a call: their limits, and as the code reads them, into an array of eight. Document 01, "The station text" and "Limits".
 -- Assumes nothing.
 use Prim.Native.Nat.{ℕ, zero, suc}
+use mathlib.Core.Bool.{Bool, true, _&&_}
 use mathlib.Core.List.{List, [], _∷_}
 use Rattle.station.specs.Head as meant
+use Rattle.station.specs.Head.{within}
 use Rattle.station_scan.specs.Numeral.{seen}
 use Rattle.station.specs.declared.types.Job.{Job}
+
+-- "c: from 1 to 64; preset or job number: from 1 to 255"
+abbrev pub jobInLimits : meant.Job → Bool
+jobInLimits j = within 1 255 (j .number) && within 1 64 (j .slots)
+
+-- every job is within its limits
+unfoldable pub jobsInLimits : List meant.Job → Bool
+jobsInLimits [] = true
+jobsInLimits (j ∷ l) = jobInLimits j && jobsInLimits l
 
 -- "A call is a list of jobs, each with a number and a length c": a job as it is read
 abbrev pub jobIn : meant.Job → Job

@@ -3,9 +3,11 @@
 -- Assumes nothing.
 use Prim.Native.Nat.{_-_, _≤_}
 use native.Mathlib.Omega.{arith}
-use mathlib.Core.Path.{_≡_, refl, _∙_}
+use mathlib.Core.Path.{_≡_, refl, sym, _∙_}
+use mathlib.Core.Logic.{⊎-elim}
 use borrow.Author.Needs.{needs}
-use lib.ListN.{length, drop, length-set}
+use lib.ListN.{length, drop, set, length-set}
+use lib.Seq.{set-out}
 use Rattle.laws.proofs.Every.{false-of-not, true-of-not}
 use Rattle.station.specs.Form.{readBrackets}
 use Rattle.station_brackets.specs.Bracket.{jobsRead}
@@ -15,10 +17,10 @@ use Rattle.station_brackets.proofs.brackets.jobs_at.Statement.{statemen
 use Rattle.station_brackets.proofs.brackets.jobs_at.Tie as tie
 
 abbrev Inv-loop : tie.InvT-loop
-Inv-loop text at list₀ i₀ list i = (list .count ≤ i) × (length (list .jobs) ≡ 8) × (counted (list .count) (list .jobs) (readBrackets (drop i text)) ≡ jobsRead (readBrackets (drop at text)))
+Inv-loop text at jobs₀ count₀ fit₀ i₀ jobs count fit i = (count ≤ i) × (length jobs ≡ 8) × (counted count fit jobs (readBrackets (drop i text)) ≡ jobsRead (readBrackets (drop at text)))
 
 abbrev μ-loop : tie.MeasureT-loop
-μ-loop text at list₀ i₀ list i = length text - i
+μ-loop text at jobs₀ count₀ fit₀ i₀ jobs count fit i = length text - i
 
 loop-holds : tie.Need-loop-holds Inv-loop μ-loop
 loop-holds c = (omega arith, refl, counted-start (readBrackets (drop (c .before .args .at) (c .before .args .text .now))))
@@ -33,58 +35,69 @@ returns : tie.Need-returns Inv-loop μ-loop
 returns c =
     let b = c .before .before .before .bracket-at in
     let l = c .before .before .before .before .loop in
-    c .no-jobs .ensures ∙ read-none (l .list .count) (l .list .jobs) (b .ensures) (false-of-not (b .result .found) (c .before .if1 .taken)) ∙ l .inv .2
+    c .no-jobs .ensures ∙ read-none (l .count) (l .fit) (l .jobs) (b .ensures) (false-of-not (b .result .found) (c .before .if1 .taken)) ∙ l .inv .2
+
+job-fits-requires : tie.Need-job-fits-requires Inv-loop μ-loop
+job-fits-requires c κs = search needs
+
+cast-t10 : tie.Need-cast-t10 Inv-loop μ-loop
+cast-t10 c =
+    let b = c .before .before .before .before .before .bracket-at in
+    let h = first-small (b .ensures) (true-of-not (b .result .found) (c .before .before .before .if1 .left)) in
+    omega arith
 
 cast-t11 : tie.Need-cast-t11 Inv-loop μ-loop
 cast-t11 c =
-    let e = c .before in
-    let b = e .before .before .bracket-at in
-    let h = first-small (b .ensures) (true-of-not (b .result .found) (e .if1 .left)) in
+    let b = c .before .before .before .before .before .before .bracket-at in
+    let h = second-small (b .ensures) (true-of-not (b .result .found) (c .before .before .before .before .if1 .left)) in
     omega arith
 
-cast-t12 : tie.Need-cast-t12 Inv-loop μ-loop
-cast-t12 c =
-    let e = c .before .before in
-    let b = e .before .before .bracket-at in
-    let h = second-small (b .ensures) (true-of-not (b .result .found) (e .if1 .left)) in
-    omega arith
+mul-jobs : tie.Need-mul-jobs Inv-loop μ-loop
+mul-jobs c = omega arith
 
-with-job-requires : tie.Need-with-job-requires Inv-loop μ-loop
-with-job-requires c κs =
-    let e = c .before .before in
-    let b = e .before .before .bracket-at in
-    let l = e .before .before .before .loop in
-    let h = next-inside (b .ensures) (true-of-not (b .result .found) (e .if1 .left)) in
-    (omega (arith, e .before .before .before .before .before .good), l .inv .1)
+array-set-from-jobs : tie.Need-array-set-from-jobs Inv-loop μ-loop
+array-set-from-jobs c = omega arith
+
+add-count : tie.Need-add-count Inv-loop μ-loop
+add-count c =
+    let b = c .before .before .before .before .bracket-at in
+    let l = c .before .before .before .before .before .loop in
+    let h = next-inside (b .ensures) (true-of-not (b .result .found) (c .before .before .if1 .left)) in
+    omega (arith, c .before .before .before .before .before .before .before .good)
 
 seen-count-requires : tie.Need-seen-count-requires Inv-loop μ-loop
 seen-count-requires c κs = search needs
 
 returns-2 : tie.Need-returns-2 Inv-loop μ-loop
 returns-2 c =
-    let e = c .before .before .before .before .before .before in
-    let b = e .before .before .bracket-at in
-    let l = e .before .before .before .loop in
-    rw (c .seen-count .ensures, c .before .before .before .with-job .ensures)
-    (read-last (l .list .count) (l .list .jobs) (b .ensures) (true-of-not (b .result .found) (e .if1 .left)) (c .before .before .if2 .taken) ∙ l .inv .2)
+    let e = c .before .before in
+    let b = e .before .before .before .before .bracket-at in
+    let l = e .before .before .before .before .before .loop in
+    let y = true-of-not (b .result .found) (e .before .before .if1 .left) in
+    let kept : e .if2 .jobs ≡ set (l .jobs) (l .count) (record { number = b .result .first; slots = b .result .second }) =
+    ⊎-elim (λ w. w .3) (λ w. let left = w .0 in w .1 ∙ sym (set-out (l .jobs) (l .count) _ (omega arith))) (e .if2 .came) in
+    rw (c .seen-count .ensures, kept, e .before .job-fits .ensures)
+    (read-last (l .count) (l .fit) (l .jobs) (b .ensures) y (c .before .if3 .taken) ∙ l .inv .2)
 
 loop-less : tie.Need-loop-less Inv-loop μ-loop
 loop-less c =
-    let e = c .before .before .before .before in
-    let b = e .before .before .bracket-at in
-    let h = next-inside (b .ensures) (true-of-not (b .result .found) (e .if1 .left)) in
+    let b = c .before .before .before .before .before .bracket-at in
+    let h = next-inside (b .ensures) (true-of-not (b .result .found) (c .before .before .before .if1 .left)) in
     omega arith
 
 loop-again : tie.Need-loop-again Inv-loop μ-loop
 loop-again c =
-    let e = c .before .before .before .before in
-    let b = e .before .before .bracket-at in
-    let l = e .before .before .before .loop in
-    let h = next-inside (b .ensures) (true-of-not (b .result .found) (e .if1 .left)) in
-    rw (c .before .with-job .ensures) (
+    let e = c .before in
+    let b = e .before .before .before .before .bracket-at in
+    let l = e .before .before .before .before .before .loop in
+    let y = true-of-not (b .result .found) (e .before .before .if1 .left) in
+    let kept : e .if2 .jobs ≡ set (l .jobs) (l .count) (record { number = b .result .first; slots = b .result .second }) =
+    ⊎-elim (λ w. w .3) (λ w. let left = w .0 in w .1 ∙ sym (set-out (l .jobs) (l .count) _ (omega arith))) (e .if2 .came) in
+    let h = next-inside (b .ensures) y in
+    rw (kept, e .before .job-fits .ensures) (
       omega arith,
       simp length-set (l .inv .1),
-      read-next (l .list .count) (l .list .jobs) (b .ensures) (true-of-not (b .result .found) (e .if1 .left)) (c .if2 .left) ∙ l .inv .2,
+      read-next (l .count) (l .fit) (l .jobs) (b .ensures) y (c .if3 .left) ∙ l .inv .2,
     )
 
 pub jobs-at-spec : {M : Type 1} → statement M
@@ -97,9 +110,12 @@ jobs-at-spec =
     bracket-at-requires
     no-jobs-requires
     returns
+    job-fits-requires
+    cast-t10
     cast-t11
-    cast-t12
-    with-job-requires
+    mul-jobs
+    array-set-from-jobs
+    add-count
     seen-count-requires
     returns-2
     loop-less

@@ -12,27 +12,24 @@ refused-requires : tie.Need-refused-requires
 refused-requires c κs = search needs
 
 returns : tie.Need-returns
-returns c = rw (leb-no (c .before .before .args .n) 8 (omega arith)) (c .refused .ensures)
-
-jobs-fit-requires : tie.Need-jobs-fit-requires
-jobs-fit-requires c κs = search needs
+returns c = rw (leb-no (c .before .before .args .list .count) 8 (omega arith)) (c .refused .ensures)
 
 refused-requires-2 : tie.Need-refused-requires-2
 refused-requires-2 c κs = search needs
 
 returns-2 : tie.Need-returns-2
 returns-2 c =
-    let f = c .before .before .jobs-fit in
-    let s = c .before .before .before .before .args in
-    rw (leb-yes (s .n) 8 (omega arith), ← f .ensures, false-of-not (f .result) (c .before .if2 .taken)) (c .refused2 .ensures)
+    let l = c .before .before .before .before .args .list in
+    rw (leb-yes (l .count) 8 (omega arith), false-of-not (l .fit) (c .before .if2 .taken)) (c .refused2 .ensures)
+
+cast-t7 : tie.Need-cast-t7
+cast-t7 c = search needs
 
 returns-3 : tie.Need-returns-3
 returns-3 c =
-    let f = c .before .jobs-fit in
-    let s = c .before .before .before .args in
-    rw (leb-yes (s .n) 8 (omega arith), ← f .ensures, true-of-not (f .result) (c .if2 .left)) refl
+    let l = c .before .before .before .before .args .list in
+    rw (leb-yes (l .count) 8 (omega arith), true-of-not (l .fit) (c .before .if2 .left)) refl
 
 pub call-event-spec : {M : Type 1} → statement M
 call-event-spec =
-    tie.close
-    (tie.spec refused-requires returns jobs-fit-requires refused-requires-2 returns-2 returns-3)
+    tie.close (tie.spec refused-requires returns refused-requires-2 returns-2 cast-t7 returns-3)

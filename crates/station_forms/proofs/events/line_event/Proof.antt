@@ -1,7 +1,6 @@
 -- `line_event` meets its contract, case by case.
 -- Assumes nothing.
 use mathlib.Core.Path.{sym, _∙_, ap}
-use Rattle.station_forms.specs.declared.forms.Line.{Line}
 use Rattle.station_forms.specs.Event.{lineEvent}
 use borrow.Author.Needs.{needs}
 use Rattle.station_forms.proofs.events.line_event.Statement.{statement}
@@ -34,41 +33,29 @@ refused-requires-4 c κs = search needs
 enum-known-said : tie.Need-enum-known-said
 enum-known-said c = search needs
 
-enum-known-said-2 : tie.Need-enum-known-said-2
-enum-known-said-2 c = search needs
+enum-told-5 : tie.Need-enum-told-5
+enum-told-5 c = search needs
 
-call-event-requires : tie.Need-call-event-requires
-call-event-requires c κs = search needs
+refused-requires-5 : tie.Need-refused-requires-5
+refused-requires-5 c κs = search needs
 
 returns : tie.Need-returns
-returns c =
-    let s = c .before .before .before .before .args in
-    c .refused .ensures ∙ ap (λ (l : Line). lineEvent l (s .read .jobs)) (sym (c .before .enum-told .given .1))
+returns c = c .refused .ensures ∙ ap lineEvent (sym (c .before .enum-told .given .1))
 
 returns-2 : tie.Need-returns-2
-returns-2 c =
-    let s = c .before .before .before .before .args in
-    c .refused2 .ensures ∙ ap (λ (l : Line). lineEvent l (s .read .jobs)) (sym (c .before .enum-told2 .given .1))
+returns-2 c = c .refused2 .ensures ∙ ap lineEvent (sym (c .before .enum-told2 .given .1))
 
 returns-3 : tie.Need-returns-3
-returns-3 c =
-    let s = c .before .before .before .before .args in
-    c .refused3 .ensures ∙ ap (λ (l : Line). lineEvent l (s .read .jobs)) (sym (c .before .enum-told3 .given .1))
+returns-3 c = c .refused3 .ensures ∙ ap lineEvent (sym (c .before .enum-told3 .given .1))
 
 returns-4 : tie.Need-returns-4
-returns-4 c =
-    let s = c .before .before .before .before .args in
-    c .refused4 .ensures ∙ ap (λ (l : Line). lineEvent l (s .read .jobs)) (sym (c .before .enum-told4 .given .1))
+returns-4 c = c .refused4 .ensures ∙ ap lineEvent (sym (c .before .enum-told4 .given .1))
 
 returns-5 : tie.Need-returns-5
-returns-5 c =
-    let s = c .before .before .before .before .args in
-    ap (λ (l : Line). lineEvent l (s .read .jobs)) (sym (c .before .said .given .1))
+returns-5 c = ap lineEvent (sym (c .before .said .given .1))
 
 returns-6 : tie.Need-returns-6
-returns-6 c =
-    let s = c .before .before .before .before .before .args in
-    c .call-event .ensures ∙ ap (λ (l : Line). lineEvent l (s .read .jobs)) (sym (c .before .before .said2 .given .1))
+returns-6 c = c .refused5 .ensures ∙ ap lineEvent (sym (c .before .enum-told5 .given .1))
 
 pub line-event-spec : {M : Type 1} → statement M
 line-event-spec =
@@ -83,8 +70,8 @@ line-event-spec =
     enum-told-4
     refused-requires-4
     enum-known-said
-    enum-known-said-2
-    call-event-requires
+    enum-told-5
+    refused-requires-5
     returns
     returns-2
     returns-3
