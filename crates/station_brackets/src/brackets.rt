@@ -6,7 +6,7 @@ use station_scan::numbers::number_then;
 use station_scan::numbers::starts_at;
 ghost use mathlib.Core.Path.{_≡_};
 ghost use mathlib.Core.Bool.{false};
-ghost use Prim.Native.Nat.{_+_, _≤_};
+ghost use Prim.Native.Nat.{_+_, _≤_, min};
 ghost use lib.ListN.{drop};
 ghost use Rattle.station.specs.Form.{readBrackets};
 ghost use Rattle.station_scan.specs.Numeral.{seen};
@@ -141,11 +141,18 @@ fn with_stretch(s: Stretches, first: u32, last: u32, slots: u32) -> Stretches
     }
 }
 
-// The stretches from `at` to the end of the line, in a frame of `slots` slots.
-pub fn stretches_at(text: &[u8], at: usize, slots: u32) -> Taken
-    requires { ⌜ slots ≤ 64 ⌝ }
-    ensures { λ r. ⌜ r ≡ takenIn slots (readBrackets (drop at (now (text .entry)))) ⌝ }
+// The frame's slots as far as masks go.
+fn at_most_64(slots: usize) -> u32
+    ensures { λ r. ⌜ r ≡ min slots 64 ⌝ }
 {
+    if slots < 64 { slots as u32 } else { 64 }
+}
+
+// The stretches from `at` to the end of the line, in a frame of `slots` slots, 64 at most.
+pub fn stretches_at(text: &[u8], at: usize, slots: usize) -> Taken
+    ensures { λ r. ⌜ r ≡ takenIn (min slots 64) (readBrackets (drop at (now (text .entry)))) ⌝ }
+{
+    let last = at_most_64(slots);
     let mut s = Stretches {
         from: 1,
         mask: 0,
@@ -161,7 +168,7 @@ pub fn stretches_at(text: &[u8], at: usize, slots: u32) -> Taken
                 ordered: false,
             };
         }
-        s = with_stretch(s, b.first, b.second, slots);
+        s = with_stretch(s, b.first, b.second, last);
         if b.last {
             return Taken {
                 found: true,

@@ -6,7 +6,7 @@ use station_scan::numbers::number_last;
 use station_scan::numbers::number_then;
 use station_scan::numbers::starts_at;
 ghost use mathlib.Core.Path.{_≡_};
-ghost use Prim.Native.Nat.{ℕ, min, _≤_};
+ghost use Prim.Native.Nat.{ℕ, min};
 ghost use Rattle.station.specs.Form.{frameIn, busyIn, presetIn, clockIn, callIn, form};
 ghost use Rattle.station_scan.specs.Jobs.{noJobs};
 ghost use Rattle.station_forms.specs.Read.{readIn, hasForm, headForm, eventForm};
@@ -108,10 +108,9 @@ fn preset_line(line: &[u8]) -> Read
     ))
 }
 
-// `(busy b (f t) (f t))` in a frame of `slots` slots
-fn busy_line(line: &[u8], slots: u32) -> Read
-    requires { ⌜ slots ≤ 64 ⌝ }
-    ensures { λ r. ⌜ r ≡ readIn slots (busyIn (now (line .entry))) ⌝ }
+// `(busy b (f t) (f t))` in a frame of `slots` slots, 64 at most
+fn busy_line(line: &[u8], slots: usize) -> Read
+    ensures { λ r. ⌜ r ≡ readIn (min slots 64) (busyIn (now (line .entry))) ⌝ }
 {
     if !starts_at(line, 0, b"(busy ") {
         return without_jobs(Line::NoForm);
@@ -160,10 +159,9 @@ fn has_form(line: Line) -> bool
     }
 }
 
-// A line of the head, in a frame of `slots` slots; `NoForm` where it is none.
-fn head_line(line: &[u8], slots: u32) -> Read
-    requires { ⌜ slots ≤ 64 ⌝ }
-    ensures { λ r. ⌜ r ≡ readIn slots (headForm (now (line .entry))) ⌝ }
+// A line of the head, in a frame of `slots` slots, 64 at most; `NoForm` where it is none.
+fn head_line(line: &[u8], slots: usize) -> Read
+    ensures { λ r. ⌜ r ≡ readIn (min slots 64) (headForm (now (line .entry))) ⌝ }
 {
     let frame = frame_line(line);
     let f = frame.line;
@@ -190,18 +188,11 @@ fn event_line(line: &[u8]) -> Read
     call_line(line)
 }
 
-// The frame's slots as far as masks go.
-fn at_most_64(slots: usize) -> u32
-    ensures { λ r. ⌜ r ≡ min slots 64 ⌝ }
-{
-    if slots < 64 { slots as u32 } else { 64 }
-}
-
 // What a line says, byte 10 included, in a frame of `slots` slots, 64 at most; `NoForm` where it is none of the five forms or lacks its end.
 pub fn read_line(line: &[u8], slots: usize) -> Read
     ensures { λ r. ⌜ r ≡ readIn (min slots 64) (form (now (line .entry))) ⌝ }
 {
-    let head = head_line(line, at_most_64(slots));
+    let head = head_line(line, slots);
     let h = head.line;
     if has_form(h) {
         return head;

@@ -1,7 +1,7 @@
 -- `stretches_at` meets its contract. The invariant: the stretches so far and those from `i` on make what the stretches from `at` on make.
 -- The measure is what is left of the text.
 -- Assumes nothing.
-use Prim.Native.Nat.{_-_}
+use Prim.Native.Nat.{_-_, _≤_, min}
 use native.Mathlib.Omega.{arith}
 use mathlib.Core.Path.{_≡_, _∙_}
 use borrow.Author.Needs.{needs}
@@ -15,13 +15,18 @@ use Rattle.station_brackets.proofs.brackets.stretches_at.Statement.{sta
 use Rattle.station_brackets.proofs.brackets.stretches_at.Tie as tie
 
 abbrev Inv-loop : tie.InvT-loop
-Inv-loop text at slots s₀ i₀ s i = MaskedSoFar s × (folded slots s (readBrackets (drop i text)) ≡ takenIn slots (readBrackets (drop at text)))
+Inv-loop text at slots last s₀ i₀ s i = MaskedSoFar s × (folded last s (readBrackets (drop i text)) ≡ takenIn (min slots 64) (readBrackets (drop at text)))
 
 abbrev μ-loop : tie.MeasureT-loop
-μ-loop text at slots s₀ i₀ s i = length text - i
+μ-loop text at slots last s₀ i₀ s i = length text - i
+
+at-most-64-requires : tie.Need-at-most-64-requires Inv-loop μ-loop
+at-most-64-requires c κs = search needs
 
 loop-holds : tie.Need-loop-holds Inv-loop μ-loop
-loop-holds c = (start-masked, folded-start (c .before .args .slots) (readBrackets (drop (c .before .args .at) (c .before .args .text .now))))
+loop-holds c =
+    let s = c .before .before .args in
+    (start-masked, rw (c .at-most-64 .ensures) (folded-start (min (s .slots) 64) (readBrackets (drop (s .at) (s .text .now)))))
 
 bracket-at-requires : tie.Need-bracket-at-requires Inv-loop μ-loop
 bracket-at-requires c κs = search needs
@@ -30,20 +35,22 @@ returns : tie.Need-returns Inv-loop μ-loop
 returns c =
     let b = c .before .before .bracket-at in
     let l = c .before .before .before .loop in
-    read-none (c .before .before .before .before .before .args .slots) (l .s) (b .ensures) (false-of-not (b .result .found) (c .if1 .taken)) ∙ l .inv .1
+    read-none (c .before .before .before .before .at-most-64 .result) (l .s) (b .ensures) (false-of-not (b .result .found) (c .if1 .taken)) ∙ l .inv .1
 
 with-stretch-requires : tie.Need-with-stretch-requires Inv-loop μ-loop
 with-stretch-requires c κs =
-    (c .before .before .before .loop .inv .0, search needs)
+    let e = c .before .before .before .before .at-most-64 .ensures in
+    (c .before .before .before .loop .inv .0, omega arith)
 
 returns-2 : tie.Need-returns-2 Inv-loop μ-loop
 returns-2 c =
     let e = c .before .before in
     let b = e .before .before .bracket-at in
     let l = e .before .before .before .loop in
-    let s = e .before .before .before .before .before .args in
+    let hi = e .before .before .before .before .at-most-64 .result in
+    let high : hi ≤ 64 = omega (arith, e .before .before .before .before .at-most-64 .ensures) in
     rw (c .before .with-stretch .ensures)
-    (read-last (s .slots) (l .s) (search needs) (l .inv .0) (b .ensures) (true-of-not (b .result .found) (e .if1 .left)) (c .if2 .taken) ∙ l .inv .1)
+    (read-last hi (l .s) high (l .inv .0) (b .ensures) (true-of-not (b .result .found) (e .if1 .left)) (c .if2 .taken) ∙ l .inv .1)
 
 loop-less : tie.Need-loop-less Inv-loop μ-loop
 loop-less c =
@@ -57,10 +64,11 @@ loop-again c =
     let e = c .before .before in
     let b = e .before .before .bracket-at in
     let l = e .before .before .before .loop in
-    let s = e .before .before .before .before .before .args in
+    let hi = e .before .before .before .before .at-most-64 .result in
+    let high : hi ≤ 64 = omega (arith, e .before .before .before .before .at-most-64 .ensures) in
     rw (c .before .with-stretch .ensures) (
-      stretched-masked (s .slots) (l .s) (b .result .first) (b .result .second) (search needs) (l .inv .0),
-      read-next (s .slots) (l .s) (search needs) (l .inv .0) (b .ensures) (true-of-not (b .result .found) (e .if1 .left)) (c .if2 .left) ∙ l .inv .1,
+      stretched-masked hi (l .s) (b .result .first) (b .result .second) high (l .inv .0),
+      read-next hi (l .s) high (l .inv .0) (b .ensures) (true-of-not (b .result .found) (e .if1 .left)) (c .if2 .left) ∙ l .inv .1,
     )
 
 pub stretches-at-spec : {M : Type 1} → statement M
@@ -69,6 +77,7 @@ stretches-at-spec =
     (tie.spec
     Inv-loop
     μ-loop
+    at-most-64-requires
     loop-holds
     bracket-at-requires
     returns

@@ -1,5 +1,6 @@
 -- `busy_line` meets its contract: each answer is the recogniser's, step by step.
 -- Assumes nothing.
+use Prim.Native.Nat.{min}
 use mathlib.Core.Path.{refl, sym, _∙_, ap}
 use lib.ListN.{drop}
 use Rattle.laws.proofs.Every.{false-of-not, true-of-not}
@@ -26,7 +27,7 @@ returns : tie.Need-returns
 unfolding bytes busyIn
 returns c =
     let w = c .before .before .starts-at in
-    let hi = c .before .before .before .before .before .args .slots in
+    let hi = min (c .before .before .before .before .before .args .slots) 64 in
     c .without-jobs .ensures
     ∙ ap (readIn hi) (sym (word-no _ (bytes "(busy ") 0 _ (sym (w .ensures) ∙ false-of-not (w .result) (c .before .if1 .taken))))
 
@@ -47,7 +48,7 @@ returns-2 c =
     let w = e .before .starts-at in
     let s = e .before .before .before .before .args in
     c .without-jobs2 .ensures
-    ∙ ap (readIn (s .slots)) (sym (word-yes (s .line .now) (bytes "(busy ") 0 6 _ (sym (w .ensures) ∙ true-of-not (w .result) (e .if1 .left)) refl
+    ∙ ap (readIn (min (s .slots) 64)) (sym (word-yes (s .line .now) (bytes "(busy ") 0 6 _ (sym (w .ensures) ∙ true-of-not (w .result) (e .if1 .left)) refl
     ∙ then-no (s .line .now) (bytes " ") 6 (n .result) (n .ensures) (false-of-not (n .result .found) (c .before .if2 .taken)) _))
 
 stretches-at-requires : tie.Need-stretches-at-requires
@@ -67,9 +68,9 @@ returns-3 c =
     let s = e .before .before .before .before .args in
     let t = s .line .now in
     c .without-jobs3 .ensures
-    ∙ ap (readIn (s .slots)) (sym (word-yes t (bytes "(busy ") 0 6 _ (sym (w .ensures) ∙ true-of-not (w .result) (e .if1 .left)) refl
+    ∙ ap (readIn (min (s .slots) 64)) (sym (word-yes t (bytes "(busy ") 0 6 _ (sym (w .ensures) ∙ true-of-not (w .result) (e .if1 .left)) refl
     ∙ then-yes t (bytes " ") 6 (n .result) (n .ensures) (true-of-not (n .result .found) (d .if2 .left)) _
-    ∙ busy-none (s .slots) (front (drop 6 t)) (readBrackets (drop (n .result .next) t)) (p .result) (p .ensures) (false-of-not (p .result .found) (c .before .if3 .taken))))
+    ∙ busy-none (min (s .slots) 64) (front (drop 6 t)) (readBrackets (drop (n .result .next) t)) (p .result) (p .ensures) (false-of-not (p .result .found) (c .before .if3 .taken))))
 
 without-jobs-requires-4 : tie.Need-without-jobs-requires-4
 without-jobs-requires-4 c κs = search needs
@@ -86,8 +87,8 @@ returns-4 c =
     let t = s .line .now in
     let f = true-of-not (n .result .found) (d .if2 .left) in
     rw (then-value t (bytes " ") 6 (n .result) (n .ensures) f) at (c .without-jobs4 .ensures)
-    ∙ busy-some (s .slots) (front (drop 6 t)) (readBrackets (drop (n .result .next) t)) (p .result) (p .ensures) (true-of-not (p .result .found) (c .before .if3 .left))
-    ∙ ap (readIn (s .slots)) (sym (word-yes t (bytes "(busy ") 0 6 _ (sym (w .ensures) ∙ true-of-not (w .result) (e .if1 .left)) refl
+    ∙ busy-some (min (s .slots) 64) (front (drop 6 t)) (readBrackets (drop (n .result .next) t)) (p .result) (p .ensures) (true-of-not (p .result .found) (c .before .if3 .left))
+    ∙ ap (readIn (min (s .slots) 64)) (sym (word-yes t (bytes "(busy ") 0 6 _ (sym (w .ensures) ∙ true-of-not (w .result) (e .if1 .left)) refl
     ∙ then-yes t (bytes " ") 6 (n .result) (n .ensures) f _))
 
 pub busy-line-spec : {M : Type 1} → statement M

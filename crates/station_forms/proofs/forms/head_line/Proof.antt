@@ -1,5 +1,6 @@
 -- `head_line` meets its contract: the first form that is there.
 -- Assumes nothing.
+use Prim.Native.Nat.{min}
 use mathlib.Core.Path.{sym, _∙_}
 use Rattle.station.specs.Form.{_orElse_, frameIn, busyIn, presetIn}
 use Rattle.station_forms.proofs.Read.{read-first, read-second}
@@ -18,7 +19,8 @@ returns c =
     let r = c .before .before .frame-line in
     let s = c .before .before .before .before .args in
     let t = s .line .now in
-    read-first (s .slots) (frameIn t) (busyIn t orElse presetIn t) (r .result) (r .ensures (s .slots)) (sym (c .before .has-form .ensures) ∙ c .if1 .taken)
+    let hi = min (s .slots) 64 in
+    read-first hi (frameIn t) (busyIn t orElse presetIn t) (r .result) (r .ensures hi) (sym (c .before .has-form .ensures) ∙ c .if1 .taken)
 
 busy-line-requires : tie.Need-busy-line-requires
 busy-line-requires c κs = search needs
@@ -33,9 +35,10 @@ returns-2 c =
     let r = e .before .before .frame-line in
     let s = e .before .before .before .before .args in
     let t = s .line .now in
-    read-second (s .slots) (frameIn t) (busyIn t orElse presetIn t) (r .result) (b .result)
-    (read-first (s .slots) (busyIn t) (presetIn t) (b .result) (b .ensures) (sym (c .before .has-form2 .ensures) ∙ c .if2 .taken))
-    (r .ensures (s .slots)) (sym (e .before .has-form .ensures) ∙ e .if1 .left)
+    let hi = min (s .slots) 64 in
+    read-second hi (frameIn t) (busyIn t orElse presetIn t) (r .result) (b .result)
+    (read-first hi (busyIn t) (presetIn t) (b .result) (b .ensures) (sym (c .before .has-form2 .ensures) ∙ c .if2 .taken))
+    (r .ensures hi) (sym (e .before .has-form .ensures) ∙ e .if1 .left)
 
 preset-line-requires : tie.Need-preset-line-requires
 preset-line-requires c κs = search needs
@@ -48,11 +51,12 @@ returns-3 c =
     let r = e .before .before .frame-line in
     let s = e .before .before .before .before .args in
     let t = s .line .now in
+    let hi = min (s .slots) 64 in
     let p = c .preset-line in
-    read-second (s .slots) (frameIn t) (busyIn t orElse presetIn t) (r .result) (p .result)
-    (read-second (s .slots) (busyIn t) (presetIn t) (b .result) (p .result) (p .ensures (s .slots)) (b .ensures)
+    read-second hi (frameIn t) (busyIn t orElse presetIn t) (r .result) (p .result)
+    (read-second hi (busyIn t) (presetIn t) (b .result) (p .result) (p .ensures hi) (b .ensures)
     (sym (d .before .has-form2 .ensures) ∙ d .if2 .left))
-    (r .ensures (s .slots)) (sym (e .before .has-form .ensures) ∙ e .if1 .left)
+    (r .ensures hi) (sym (e .before .has-form .ensures) ∙ e .if1 .left)
 
 pub head-line-spec : {M : Type 1} → statement M
 head-line-spec =

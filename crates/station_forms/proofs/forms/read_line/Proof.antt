@@ -8,9 +8,6 @@ use borrow.Author.Needs.{needs}
 use Rattle.station_forms.proofs.forms.read_line.Statement.{statement}
 use Rattle.station_forms.proofs.forms.read_line.Tie as tie
 
-at-most-64-requires : tie.Need-at-most-64-requires
-at-most-64-requires c κs = search needs
-
 head-line-requires : tie.Need-head-line-requires
 head-line-requires c κs = search needs
 
@@ -20,12 +17,11 @@ has-form-requires c κs = search needs
 returns : tie.Need-returns
 returns c =
     let r = c .before .before .head-line in
-    let e = c .before .before .before in
-    let s = e .before .before .args in
+    let s = c .before .before .before .before .args in
     let t = s .line .now in
     let hi = min (s .slots) 64 in
     rw (form-parts t)
-    (read-first hi (headForm t) (eventForm t) (r .result) (rw (e .at-most-64 .ensures) at (r .ensures)) (sym (c .before .has-form .ensures) ∙ c .if1 .taken))
+    (read-first hi (headForm t) (eventForm t) (r .result) (r .ensures) (sym (c .before .has-form .ensures) ∙ c .if1 .taken))
 
 event-line-requires : tie.Need-event-line-requires
 event-line-requires c κs = search needs
@@ -34,19 +30,17 @@ returns-2 : tie.Need-returns-2
 returns-2 c =
     let d = c .before in
     let r = d .before .before .head-line in
-    let e = d .before .before .before in
-    let s = e .before .before .args in
+    let s = d .before .before .before .before .args in
     let t = s .line .now in
     let hi = min (s .slots) 64 in
     rw (form-parts t)
-    (read-second hi (headForm t) (eventForm t) (r .result) (c .event-line .result) (c .event-line .ensures hi) (rw (e .at-most-64 .ensures) at (r .ensures))
+    (read-second hi (headForm t) (eventForm t) (r .result) (c .event-line .result) (c .event-line .ensures hi) (r .ensures)
     (sym (d .before .has-form .ensures) ∙ d .if1 .left))
 
 pub read-line-spec : {M : Type 1} → statement M
 read-line-spec =
     tie.close
     (tie.spec
-    at-most-64-requires
     head-line-requires
     has-form-requires
     returns
