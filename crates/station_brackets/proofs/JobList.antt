@@ -1,7 +1,7 @@
 -- Laws of jobs that are read one after the other into an array of eight.
 --
--- In order: jobs stored from a place on (`stored`), past the end (`stored-past`) and into an array of zeros (`stored-padded`); the jobs so far and
--- those that are left (`counted`): at the start (`counted-start`), one more (`counted-next`), the last
+-- In order: jobs stored from a place on (`stored`), past the end (`stored-past`) and into an array of zeros (`stored-padded`); a
+-- job's limits by what was read of it (`fits-seen`); the jobs so far and those that are left (`counted`): at the start (`counted-start`), one more (`counted-next`), the last
 -- (`counted-last`), and so by the bracket that was read (`read-none`, `read-next`, `read-last`).
 -- Assumes nothing.
 use Prim.Native.Nat.{ℕ, zero, suc, _+_, _≤_}

@@ -50,7 +50,7 @@ eventIn (some (callLine p)) = callMeant (jobsOf p)
 abbrev pub callEvent : Jobs → EventRead
 callEvent j = pickEvent (leb (j .count) 8 && j .fit) (record { event = Place (j .count); jobs = j .jobs }) (fault refusal.OutOfLimits)
 
--- any other line: of a call nothing is said
+-- any other line; no call is among them, so that it does not matter what is said of one
 abbrev pub lineEvent : Line → EventRead
 lineEvent NoForm = fault refusal.NoForm
 lineEvent (Frame s b) = fault refusal.OutOfPlace

@@ -2,9 +2,9 @@
 --
 -- In order: it is a front of the text (`line-front`, `line-length`) and not empty where the text is not (`line-some`); the lines of a text one
 -- after the other (`lines-first`), and from a place on (`lines-at`, `lines-past`); how long the line at a place is (`line-here`, `line-further`,
--- `line-past`), and that it is a part of the text (`line-none`, `line-within`, `line-part`).
+-- `line-past`), and that it is a part of the text (`line-none`, `line-within`, `line-part`, `line-short`).
 -- Assumes nothing.
-use Prim.Native.Nat.{ℕ, suc, _+_, _-_, _≤_, _<_}
+use Prim.Native.Nat.{ℕ, suc, _+_, _≤_, _<_}
 use native.Mathlib.Omega.{arith}
 use mathlib.Core.Path.{_≡_, refl, _∙_, ap}
 use mathlib.Core.List.{List, [], _∷_}

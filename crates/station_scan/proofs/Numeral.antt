@@ -1,10 +1,10 @@
 -- Laws of words and numbers at a place of a text, for the code that reads them byte by byte.
 --
--- In order: a word byte by byte (`starts-more`, `starts-other`, `starts-done`, `starts-length`, `starts-longer`,
--- `starts-none`, `closes-short`); a digit at a place (`leads-at`, `leads-past`,
--- `lead`); the digits from a place on (`count-more`, `count-none`, `front-more`, `front-none`); when they are a number (`plain-none`,
--- `plain-digits`, `plain-some`, `plain-inside`); a value that stops at 65,535 (`seen-from`, `seen-more`), and that this is harmless (`seen-leb`, `seen-leb-of`, `seen-eqb`,
--- `seen-within`); the answers of `number_then` and `number_last` (`then-..`, `last-..`).
+-- In order: a word byte by byte (`starts-more`, `starts-other`, `starts-done`, `starts-length`, `starts-longer`, `starts-none`,
+-- `closes-short`); a digit at a place (`leads-at`, `leads-past`, `lead`); the digits from a place on (`count-more`, `count-none`,
+-- `front-more`, `front-none`); when they are a number (`plain-none`, `plain-digits`, `plain-some`, `plain-inside`); a value that stops at
+-- 65,535 (`seen-from`, `seen-more`), and that this is harmless (`seen-leb`, `seen-leb-of`, `seen-within`); the answers of `number_then` and
+-- `number_last` (`then-..`, `last-..`).
 -- Assumes nothing.
 use Prim.Native.Nat.{ℕ, suc, _+_, _-_, _*_, _≤_, _<_}
 use native.Mathlib.Omega.{arith}
@@ -33,10 +33,6 @@ starts-same c b w l e = rw (eqb-yes c b e) refl
 starts-unlike : (c b : ℕ) (w l : List ℕ) → (c ≡ b → ⊥) → starts (c ∷ w) (b ∷ l) ≡ false
 unfolding starts
 starts-unlike c b w l e = rw (eqb-no c b e) refl
-
-starts-nil : (c : ℕ) (w : List ℕ) → starts (c ∷ w) [] ≡ false
-unfolding starts
-starts-nil c w = refl
 
 starts-empty : (l : List ℕ) → starts [] l ≡ true
 unfolding starts
@@ -207,10 +203,6 @@ seen-leb v k h =
 pub seen-leb-of : (k v : ℕ) → k < 65535 → leb k (seen v) ≡ leb k v
 seen-leb-of k v h =
     test-ext (leb k (seen v)) (leb k v) (λ e. leb-yes k v (omega (arith, le-of k (seen v) e))) (λ e. leb-yes k (seen v) (omega (arith, le-of k v e)))
-
-pub seen-eqb : (v k : ℕ) → k < 65535 → eqb (seen v) k ≡ eqb v k
-seen-eqb v k h =
-    test-ext (eqb (seen v) k) (eqb v k) (λ e. eqb-yes v k (omega (arith, eq-of (seen v) k e))) (λ e. eqb-yes (seen v) k (omega (arith, eq-of v k e)))
 
 pub seen-within : (lo hi v : ℕ) → lo < 65535 → hi < 65535 → within lo hi (seen v) ≡ within lo hi v
 seen-within lo hi v l h = rw (seen-leb-of lo v l, seen-leb v hi h) refl

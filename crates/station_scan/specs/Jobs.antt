@@ -1,4 +1,4 @@
--- The jobs of a call: their limits, and as the code reads them, into an array of eight. Document 01, "The station text" and "Limits".
+-- The jobs of a call: their limits by document 01's table, and as the code reads them, into an array of eight. Document 01, "The station text".
 -- Assumes nothing.
 use Prim.Native.Nat.{ℕ, zero, suc}
 use mathlib.Core.Bool.{Bool, true, _&&_}
