@@ -184,16 +184,7 @@ pub fn stretches_at(text: &[u8], at: usize, slots: usize) -> Taken
 fn job_fits(number: u32, slots: u32) -> bool
     ensures { λ r. ⌜ r ≡ jobInLimits (record { number = number; slots = slots }) ⌝ }
 {
-    if number < 1 {
-        return false;
-    }
-    if 255 < number {
-        return false;
-    }
-    if slots < 1 {
-        return false;
-    }
-    slots <= 64
+    ((1 <= number) & (number <= 255)) & ((1 <= slots) & (slots <= 64))
 }
 
 // A count as it is read: it stops at 65,535.

@@ -53,10 +53,7 @@ fn digit_at(text: &[u8], at: usize) -> bool
         return false;
     }
     let b = text[at];
-    if b < 48 {
-        return false;
-    }
-    b <= 57
+    (48 <= b) & (b <= 57)
 }
 
 // A number with one more digit.

@@ -1,9 +1,7 @@
 -- `digit_at` meets its contract: past the end stands nothing, and a digit is one of 48 to 57.
 -- Assumes nothing.
 use native.Mathlib.Omega.{arith}
-use mathlib.Core.Path.{refl, sym, _∙_}
-use lib.ListN.{getD}
-use Rattle.laws.proofs.Sums.{leb-yes, leb-no}
+use mathlib.Core.Path.{sym}
 use Rattle.station_scan.proofs.Numeral.{leads-at, leads-past}
 use borrow.Author.Needs.{needs}
 use Rattle.station_scan.proofs.numbers.digit_at.Statement.{statement}
@@ -16,14 +14,7 @@ shared-slice-read-b : tie.Need-shared-slice-read-b
 shared-slice-read-b c = search needs
 
 returns-2 : tie.Need-returns-2
-returns-2 c =
-    let s = c .before .before .before .args in
-    sym (leads-at (s .text .now) (s .at) (omega arith) ∙ (rw (leb-no 48 (getD (s .text .now) (s .at) 0) (omega arith)) refl))
-
-returns-3 : tie.Need-returns-3
-returns-3 c =
-    let s = c .before .before .before .args in
-    sym (leads-at (s .text .now) (s .at) (omega arith) ∙ (rw (leb-yes 48 (getD (s .text .now) (s .at) 0) (omega arith)) refl))
+returns-2 c = sym (leads-at (c .before .before .args .text .now) (c .before .before .args .at) (omega arith))
 
 pub digit-at-spec : {M : Type 1} → statement M
-digit-at-spec = tie.close (tie.spec returns shared-slice-read-b returns-2 returns-3)
+digit-at-spec = tie.close (tie.spec returns shared-slice-read-b returns-2)
