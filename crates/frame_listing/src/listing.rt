@@ -5,9 +5,9 @@
 use frame::types::Answer;
 use station::types::Preset;
 use station::types::Refusal;
+use station_output::output::lettered;
 use station_output::output::number;
-use station_output::output::put;
-use station_output::output::two_numbers;
+use station_output::output::numbers_end;
 use station_output::output::word;
 ghost use mathlib.Core.Path.{_≡_};
 ghost use Prim.Native.Nat.{_≤_, _<_};
@@ -50,21 +50,13 @@ fn number_line(out: &mut [u8], at: usize, start: &[u8], n: usize) -> usize
     word(out, end, b")\n")
 }
 
-// Writes a line that begins as `start` says and has two numbers. Answers the next place.
-fn numbers_line(out: &mut [u8], at: usize, start: &[u8], m: usize, n: usize) -> usize
-    ensures { λ r. ⌜ Wrote (now (out .entry)) at (now (start .entry) then digits m then bytes " " then digits n then bytes ")\n") (now (out .exit)) r ⌝ }
-{
-    let first = word(out, at, start);
-    let end = two_numbers(out, first, m, n);
-    word(out, end, b")\n")
-}
-
 // Writes `(refused N C)`, the line and the cause's number. Answers the next place.
 pub fn refused_line(out: &mut [u8], at: usize, line: usize, cause: Refusal) -> usize
     ensures { λ r. ⌜ Wrote (now (out .entry)) at (refusedLine line (refusalIn cause)) (now (out .exit)) r ⌝ }
 {
     let n = cause_number(cause);
-    numbers_line(out, at, b"(refused ", line, n)
+    let numbers = word(out, at, b"(refused ");
+    numbers_end(out, numbers, line, n)
 }
 
 // Writes the line of an answer: `(now T)`, `(taken K)`, or the refused line. Answers the next place.
@@ -82,7 +74,8 @@ pub fn answer_line(out: &mut [u8], at: usize, line: usize, answer: Answer) -> us
 pub fn granted_line(out: &mut [u8], at: usize, preset: usize, slots: usize) -> usize
     ensures { λ r. ⌜ Wrote (now (out .entry)) at (grantedLine preset slots) (now (out .exit)) r ⌝ }
 {
-    numbers_line(out, at, b"(granted ", preset, slots)
+    let numbers = word(out, at, b"(granted ");
+    numbers_end(out, numbers, preset, slots)
 }
 
 // Writes the granted lines of the first `count` presets, in file order. Answers the next place.
@@ -136,22 +129,6 @@ fn letter(kind: u16) -> u8
     b'c'
 }
 
-// Writes a cell: `0` empty, `-` busy, else the kind's letter and the number. Answers the next place.
-fn cell_text(out: &mut [u8], at: usize, value: u16) -> usize
-    ensures { λ r. ⌜ Wrote (now (out .entry)) at (cellText (kindOf value) (numberIn value)) (now (out .exit)) r ⌝ }
-{
-    let kind = value / 256;
-    if kind == 0 {
-        return put(out, at, b'0');
-    }
-    if kind == 1 {
-        return put(out, at, b'-');
-    }
-    let first = letter(kind);
-    let next = put(out, at, first);
-    number(out, next, (value % 256) as usize)
-}
-
 // The cell of the table at a place; 0, an empty one, past its end.
 fn cell_at(table: &[u16], place: usize) -> u16
     ensures { λ r. ⌜ r ≡ getD (now (table .entry)) place 0 ⌝ }
@@ -162,12 +139,19 @@ fn cell_at(table: &[u16], place: usize) -> u16
     0
 }
 
-// Writes a blank and a cell. Answers the next place.
+// Writes a blank and a cell: `0` empty, `-` busy, else the kind's letter and the number. Answers the next place.
 fn next_cell(out: &mut [u8], at: usize, value: u16) -> usize
     ensures { λ r. ⌜ Wrote (now (out .entry)) at (bytes " " then cellText (kindOf value) (numberIn value)) (now (out .exit)) r ⌝ }
 {
-    let first = put(out, at, b' ');
-    cell_text(out, first, value)
+    let kind = value / 256;
+    if kind == 0 {
+        return word(out, at, b" 0");
+    }
+    if kind == 1 {
+        return word(out, at, b" -");
+    }
+    let first = letter(kind);
+    lettered(out, at, first, (value % 256) as u8)
 }
 
 // Writes the cells of a slot, counted from 0, each after a blank. Answers the next place: the end of the line is left to write.

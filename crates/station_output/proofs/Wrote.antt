@@ -7,7 +7,7 @@ use Prim.Native.Nat.{ℕ, suc, _+_, _≤_, _<_}
 use native.Mathlib.Omega.{arith}
 use mathlib.Core.Path.{_≡_, refl, sym, _∙_, ap}
 use mathlib.Core.List.{List, [], _∷_, _++_, append-assoc}
-use lib.ListN.{length, set, drop, length-append}
+use lib.ListN.{length, set, drop, length-set, length-append}
 use lib.Dec.{leb}
 use lib.Seq.{sets, length-sets, sets-eq}
 use Rattle.laws.proofs.Stores.{sets-out, sets-append}
@@ -93,6 +93,21 @@ left-then h w = record { output = w .output ∙ h .output; place = w .place ∙ 
 pub wrote-then : {l : List ℕ} {at : ℕ} {a : List ℕ} {l₁ : List ℕ} {r : ℕ} {b : List ℕ} {l₂ : List ℕ} {r₂ : ℕ}
     → Wrote l at a l₁ r → Wrote l₁ r b l₂ r₂ → Wrote l at (a ++ b) l₂ r₂
 wrote-then {l} {at} {a} {l₁} {r} {b} v w = left-then (left-wrote a b (left-all l at (a ++ b)) v) w
+
+-- two bytes within the output
+pub wrote-two : (l : List ℕ) (at a b : ℕ) → at + 2 ≤ length l → Wrote l at (a ∷ b ∷ []) (set (set l at a) (at + 1) b) (at + 2)
+wrote-two l at a b h =
+    let e : at + 1 + 1 ≡ at + 2 = omega arith in
+    rw e at (wrote-then (wrote-byte l at a (omega arith)) (wrote-byte (set l at a) (at + 1) b (omega (arith, length-set l at a))))
+
+-- as many bytes as were there
+pub wrote-length : {l : List ℕ} {at : ℕ} {bs : List ℕ} {l₁ : List ℕ} {r : ℕ} → Wrote l at bs l₁ r → length l₁ ≡ length l
+wrote-length {l} {at} {bs} w = ap length (w .output) ∙ length-sets l at bs
+
+-- bytes that fit have their place after them
+pub wrote-place : {l : List ℕ} {at : ℕ} {bs : List ℕ} {l₁ : List ℕ} {r : ℕ} → Wrote l at bs l₁ r → at + length bs ≤ length l → r ≡ at + length bs
+unfolding moved
+wrote-place {l} {at} {bs} w h = omega (arith, w .place)
 
 -- the texts of one list of lines and then another
 pub join-append : (a b : List (List ℕ)) → join (a ++ b) ≡ join a ++ join b

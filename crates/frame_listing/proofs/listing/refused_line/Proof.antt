@@ -1,5 +1,6 @@
 -- `listing::refused_line` meets its contract. Assumes nothing.
 use Rattle.station.specs.Text.{bytes}
+use Rattle.station_output.proofs.Wrote.{wrote-then}
 use Rattle.frame.specs.Listing.{refusedLine}
 use borrow.Author.Needs.{needs}
 use Rattle.frame_listing.proofs.listing.refused_line.Statement.{statement}
@@ -8,25 +9,29 @@ use Rattle.frame_listing.proofs.listing.refused_line.Tie as tie
 cause-number-requires : tie.Need-cause-number-requires
 cause-number-requires c κs = search needs
 
-slice-aggregate-numbers-line : tie.Need-slice-aggregate-numbers-line
-slice-aggregate-numbers-line c = search needs
+slice-aggregate-word : tie.Need-slice-aggregate-word
+slice-aggregate-word c = search needs
 
-numbers-line-requires : tie.Need-numbers-line-requires
-numbers-line-requires c κs = search needs
+word-requires : tie.Need-word-requires
+word-requires c κs = search needs
+
+numbers-end-requires : tie.Need-numbers-end-requires
+numbers-end-requires c κs = search needs
 
 same-length : tie.Need-same-length
 same-length c = search needs
 
 returns : tie.Need-returns
 unfolding refusedLine bytes
-returns c = rw (c .before .before .before .before .before .cause-number .ensures) at (c .before .before .numbers-line .ensures)
+returns c = wrote-then (c .before .before .before .before .before .before .word .ensures) (rw (c .before .before .before .before .before .before .before .before .before .cause-number .ensures) at (c .before .before .numbers-end .ensures))
 
 pub refused-line-spec : {M : Type 1} → statement M
 refused-line-spec =
     tie.close
     (tie.spec
     cause-number-requires
-    slice-aggregate-numbers-line
-    numbers-line-requires
+    slice-aggregate-word
+    word-requires
+    numbers-end-requires
     same-length
     returns)
