@@ -1,3 +1,3 @@
 -- The laws of writers of bytes, and of the digits that they write.
-pub mod ShortNumber
+pub mod Digits
 pub mod Wrote

@@ -65,34 +65,13 @@ pub fn word(out: &mut [u8], at: usize, text: &[u8]) -> usize
 }
 
 // Writes the two digits of a number below 100, a leading zero too, where the output has room for them. Answers the next place.
-fn two_digits(out: &mut [u8], at: usize, n: u32) -> usize
+fn two_digits(out: &mut [u8], at: usize, n: usize) -> usize
     requires { ⌜ (n < 100) × (at + 2 ≤ length (now out)) ⌝ }
     ensures { λ r. ⌜ Wrote (now (out .entry)) at ((48 + n / 10) ∷ (48 + n % 10) ∷ []) (now (out .exit)) r ⌝ }
 {
     out[at] = 48 + (n / 10) as u8;
     out[at + 1] = 48 + (n % 10) as u8;
     at + 2
-}
-
-// Writes a number of at most four digits where the output has room for four. Answers the next place.
-fn short_number(out: &mut [u8], at: usize, number: usize) -> usize
-    requires { ⌜ (number < 10000) × (at + 4 ≤ length (now out)) ⌝ }
-    ensures { λ r. ⌜ Wrote (now (out .entry)) at (digits number) (now (out .exit)) r ⌝ }
-{
-    let n = number as u32;
-    if n < 10 {
-        out[at] = 48 + n as u8;
-        return at + 1;
-    }
-    if n < 100 {
-        return two_digits(out, at, n);
-    }
-    if n < 1000 {
-        out[at] = 48 + (n / 100) as u8;
-        return two_digits(out, at + 1, n % 100);
-    }
-    let next = two_digits(out, at, n / 100);
-    two_digits(out, next, n % 100)
 }
 
 // Writes a number of any length in decimals: the digits before the last one, and the last. Answers the next place.
@@ -106,17 +85,38 @@ fn long_number(out: &mut [u8], at: usize, n: usize) -> usize
     put(out, last, 48 + (n % 10) as u8)
 }
 
+// Writes a number where the output has room for four digits: up to four are stored two at a time. Answers the next place.
+fn number_within(out: &mut [u8], at: usize, n: usize) -> usize
+    requires { ⌜ at + 4 ≤ length (now out) ⌝ }
+    ensures { λ r. ⌜ Wrote (now (out .entry)) at (digits n) (now (out .exit)) r ⌝ }
+{
+    if n < 10 {
+        out[at] = 48 + n as u8;
+        return at + 1;
+    }
+    if n < 100 {
+        return two_digits(out, at, n);
+    }
+    if 9999 < n {
+        return long_number(out, at, n);
+    }
+    let last = n % 100;
+    if n < 1000 {
+        out[at] = 48 + (n / 100) as u8;
+        return two_digits(out, at + 1, last);
+    }
+    let next = two_digits(out, at, n / 100);
+    two_digits(out, next, last)
+}
+
 // Writes a number in decimals. Answers the next place.
 pub fn number(out: &mut [u8], at: usize, n: usize) -> usize
     ensures { λ r. ⌜ Wrote (now (out .entry)) at (digits n) (now (out .exit)) r ⌝ }
 {
-    if 9999 < n {
-        return long_number(out, at, n);
-    }
     if places_before(out.len(), 4) <= at {
         return long_number(out, at, n);
     }
-    short_number(out, at, n)
+    number_within(out, at, n)
 }
 
 // Writes two numbers with a blank between them. Answers the next place.
@@ -128,30 +128,17 @@ pub fn two_numbers(out: &mut [u8], at: usize, m: usize, n: usize) -> usize
     number(out, second, n)
 }
 
-// Writes two numbers with a blank between them and the end of their line, whatever their lengths. Answers the next place.
-fn long_end(out: &mut [u8], at: usize, m: usize, n: usize) -> usize
-    ensures { λ r. ⌜ Wrote (now (out .entry)) at (digits m then bytes " " then digits n then bytes ")\n") (now (out .exit)) r ⌝ }
-{
-    let end = two_numbers(out, at, m, n);
-    word(out, end, b")\n")
-}
-
-// Writes two numbers with a blank between them and the end of their line. Answers the next place.
+// Writes two numbers with a blank between them and the end of their line. Answers the next place. No number has more than twenty digits.
 pub fn numbers_end(out: &mut [u8], at: usize, m: usize, n: usize) -> usize
     ensures { λ r. ⌜ Wrote (now (out .entry)) at (digits m then bytes " " then digits n then bytes ")\n") (now (out .exit)) r ⌝ }
 {
-    if 9999 < m {
-        return long_end(out, at, m, n);
+    if places_before(out.len(), 43) <= at {
+        let last = two_numbers(out, at, m, n);
+        return word(out, last, b")\n");
     }
-    if 9999 < n {
-        return long_end(out, at, m, n);
-    }
-    if places_before(out.len(), 12) <= at {
-        return long_end(out, at, m, n);
-    }
-    let blank = short_number(out, at, m);
+    let blank = number_within(out, at, m);
     out[blank] = b' ';
-    let end = short_number(out, blank + 1, n);
+    let end = number_within(out, blank + 1, n);
     out[end] = b')';
     out[end + 1] = b'\n';
     end + 2
@@ -164,7 +151,7 @@ pub fn lettered(out: &mut [u8], at: usize, letter: u8, n: u8) -> usize
     if at < places_before(out.len(), 6) {
         out[at] = b' ';
         out[at + 1] = letter;
-        return short_number(out, at + 2, n as usize);
+        return number_within(out, at + 2, n as usize);
     }
     let first = put(out, at, b' ');
     let next = put(out, first, letter);

@@ -21,18 +21,18 @@ add-out c = search needs
 slice-write-out-2 : tie.Need-slice-write-out-2
 slice-write-out-2 c = simp length-set (omega arith)
 
-add-short-number : tie.Need-add-short-number
-add-short-number c = search needs
+add-number-within : tie.Need-add-number-within
+add-number-within c = search needs
 
-short-number-requires : tie.Need-short-number-requires
-short-number-requires c κs = (omega arith, simp length-set (omega arith))
+number-within-requires : tie.Need-number-within-requires
+number-within-requires c κs = simp length-set (omega arith)
 
 same-length : tie.Need-same-length
-same-length c = wrote-length (c .before .before .short-number .ensures) ∙ simp length-set
+same-length c = wrote-length (c .before .before .number-within .ensures) ∙ simp length-set
 
 returns : tie.Need-returns
 unfolding bytes
-returns c = let a = c .before .before .before .before .before .before .before .args in wrote-then (wrote-two (now (a .out)) (a .at) 32 (a .letter) (omega arith)) (c .before .before .short-number .ensures)
+returns c = let a = c .before .before .before .before .before .before .before .args in wrote-then (wrote-two (now (a .out)) (a .at) 32 (a .letter) (omega arith)) (c .before .before .number-within .ensures)
 
 put-requires : tie.Need-put-requires
 put-requires c κs = search needs
@@ -58,8 +58,8 @@ lettered-spec =
     slice-write-out
     add-out
     slice-write-out-2
-    add-short-number
-    short-number-requires
+    add-number-within
+    number-within-requires
     same-length
     returns
     put-requires

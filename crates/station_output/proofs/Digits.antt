@@ -1,9 +1,8 @@
--- Laws of the digits of short numbers, two by two.
+-- Laws of the digits of a number, two by two.
 --
--- In order: a number of two digits (`digits-two`); a number from 100 on, its last two digits apart (`digits-hundreds`); where the output goes on after a number of
--- at most four (`after-short`).
+-- In order: a number of two digits (`digits-two`); a number from 100 on, its last two digits apart (`digits-hundreds`); the place after a number (`after-number`).
 -- Assumes nothing.
-use Prim.Native.Nat.{ℕ, _+_, _/_, _%_, _≤_, _<_}
+use Prim.Native.Nat.{ℕ, _+_, _/_, _%_, _^_, _≤_, _<_}
 use native.Mathlib.Omega.{arith}
 use mathlib.Core.Path.{_≡_, refl}
 use mathlib.Core.List.{List, [], _∷_, _++_, append-assoc}
@@ -23,6 +22,6 @@ digits-hundreds n l =
     let u : n % 10 ≡ n % 100 % 10 = omega arith in
     rw (digits-step n (omega arith), digits-step (n / 10) (omega arith), e, t, u, append-assoc) refl
 
-pub after-short : (n : ℕ) {l : List ℕ} {at : ℕ} {l₁ : List ℕ} {r : ℕ} → n < 10000 → Wrote l at (digits n) l₁ r → (r ≤ at + 4) × (length l₁ ≡ length l)
+pub after-number : (n : ℕ) {l : List ℕ} {at : ℕ} {l₁ : List ℕ} {r : ℕ} → n < 10 ^ 20 → Wrote l at (digits n) l₁ r → (r ≤ at + 20) × (length l₁ ≡ length l)
 unfolding moved
-after-short n h w = (omega (arith, w .place, digits-length 4 n (omega arith) h), wrote-length w)
+after-number n h w = (omega (arith, w .place, digits-length 20 n (omega arith) h), wrote-length w)
