@@ -1,7 +1,8 @@
 -- Laws of writers: bytes that are written one run after the other.
 --
--- In order: nothing or one byte written (`wrote-none`, `wrote-byte`, `wrote-out`); what is still to be written (`left-all`, `left-wrote`, `left-none`, `left-then`);
--- one run and then another (`wrote-then`); lines put together (`join-append`); bytes that find room (`wrote-fits`).
+-- In order: nothing or one byte written (`wrote-none`, `wrote-byte`, `wrote-out`); what a run leaves (`wrote-length`, `wrote-place`); what is still to be written
+-- (`left-all`, `left-wrote`, `left-none`, `left-then`); one run and then another (`wrote-then`), two bytes (`wrote-two`); lines put together (`join-append`);
+-- bytes that find room (`wrote-fits`).
 -- Assumes nothing.
 use Prim.Native.Nat.{ℕ, suc, _+_, _≤_, _<_}
 use native.Mathlib.Omega.{arith}
@@ -49,6 +50,15 @@ pub wrote-out : (l : List ℕ) (at : ℕ) (bs : List ℕ) → length l ≤ at �
 unfolding moved
 wrote-out l at bs h = record { output = sym (sets-out l at bs h); place = omega arith }
 
+-- the output stays as long as it was
+pub wrote-length : {l : List ℕ} {at : ℕ} {bs : List ℕ} {l₁ : List ℕ} {r : ℕ} → Wrote l at bs l₁ r → length l₁ ≡ length l
+wrote-length {l} {at} {bs} w = ap length (w .output) ∙ length-sets l at bs
+
+-- the next place after bytes that fit
+pub wrote-place : {l : List ℕ} {at : ℕ} {bs : List ℕ} {l₁ : List ℕ} {r : ℕ} → Wrote l at bs l₁ r → at + length bs ≤ length l → r ≡ at + length bs
+unfolding moved
+wrote-place {l} {at} {bs} w h = omega (arith, w .place)
+
 -- all is still to be written
 pub left-all : (l : List ℕ) (at : ℕ) (a : List ℕ) → Left l at a l at a
 left-all l at a = record { output = refl; place = refl; size = refl }
@@ -58,7 +68,7 @@ pub left-wrote : {l : List ℕ} {at : ℕ} {all : List ℕ} {l₁ : List ℕ} {r
     → Left l at all l₁ r (a ++ b) → Wrote l₁ r a l₂ r₂ → Left l at all l₂ r₂ b
 unfolding moved
 left-wrote {l} {at} {all} {l₁} {r} a b {l₂} {r₂} h w =
-    let same : length l₂ ≡ length l₁ = ap length (w .output) ∙ length-sets l₁ r a in
+    let same = wrote-length w in
     let size : length (a ++ b) ≡ length a + length b = length-append a b in
     let place = w .place in
     let total : moved (length l₁) r (length (a ++ b)) ≡ moved (length l) at (length all) = h .place in
@@ -99,15 +109,6 @@ pub wrote-two : (l : List ℕ) (at a b : ℕ) → at + 2 ≤ length l → Wrote 
 wrote-two l at a b h =
     let e : at + 1 + 1 ≡ at + 2 = omega arith in
     rw e at (wrote-then (wrote-byte l at a (omega arith)) (wrote-byte (set l at a) (at + 1) b (omega (arith, length-set l at a))))
-
--- as many bytes as were there
-pub wrote-length : {l : List ℕ} {at : ℕ} {bs : List ℕ} {l₁ : List ℕ} {r : ℕ} → Wrote l at bs l₁ r → length l₁ ≡ length l
-wrote-length {l} {at} {bs} w = ap length (w .output) ∙ length-sets l at bs
-
--- bytes that fit have their place after them
-pub wrote-place : {l : List ℕ} {at : ℕ} {bs : List ℕ} {l₁ : List ℕ} {r : ℕ} → Wrote l at bs l₁ r → at + length bs ≤ length l → r ≡ at + length bs
-unfolding moved
-wrote-place {l} {at} {bs} w h = omega (arith, w .place)
 
 -- the texts of one list of lines and then another
 pub join-append : (a b : List (List ℕ)) → join (a ++ b) ≡ join a ++ join b

@@ -1,10 +1,10 @@
 // Writing bytes into a borrowed output: a byte, a text, a number.
 //
 // Each writer takes the output and a place, and answers the next place. It is total: bytes past the end of the output are left out, and the place
-// then stays at the end. So no writer asks for room; an entry that promises a whole text shows that it has it.
+// then stays at the end. So no writer that another crate calls asks for room; an entry that promises a whole text shows that it has it.
 //
-// Nearly always the output goes on past what is written. So the writers of a text and of a number ask once whether it does, and then store byte after byte with
-// no further question; near the end of the output they go byte by byte.
+// Nearly always the output goes on past what is written. So the writers of a text and of numbers test once whether it does, and then store byte after byte with
+// no further test; near the end of the output they go byte by byte.
 ghost use Prim.Native.Nat.{_+_, _-_, _/_, _%_, _≤_, _<_};
 ghost use mathlib.Core.Path.{_≡_};
 ghost use mathlib.Core.List.{[], _∷_};
@@ -85,7 +85,7 @@ fn long_number(out: &mut [u8], at: usize, n: usize) -> usize
     put(out, last, 48 + (n % 10) as u8)
 }
 
-// Writes a number where the output has room for four digits: up to four are stored two at a time. Answers the next place.
+// Writes a number where the output has room for four digits: up to four are stored two at a time, without a call for each. Answers the next place.
 fn number_within(out: &mut [u8], at: usize, n: usize) -> usize
     requires { ⌜ at + 4 ≤ length (now out) ⌝ }
     ensures { λ r. ⌜ Wrote (now (out .entry)) at (digits n) (now (out .exit)) r ⌝ }
@@ -128,7 +128,8 @@ pub fn two_numbers(out: &mut [u8], at: usize, m: usize, n: usize) -> usize
     number(out, second, n)
 }
 
-// Writes two numbers with a blank between them and the end of their line. Answers the next place. No number has more than twenty digits.
+// Writes two numbers with a blank between them and the end of their line: 43 bytes at the most, since no number has more than twenty digits. Answers the next
+// place.
 pub fn numbers_end(out: &mut [u8], at: usize, m: usize, n: usize) -> usize
     ensures { λ r. ⌜ Wrote (now (out .entry)) at (digits m then bytes " " then digits n then bytes ")\n") (now (out .exit)) r ⌝ }
 {
