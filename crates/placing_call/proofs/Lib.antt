@@ -1,2 +1,3 @@
 -- The laws that a call cites.
 pub mod Calling
+pub mod Clean

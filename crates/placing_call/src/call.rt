@@ -48,6 +48,16 @@ fn job_cells(jobs: [Job; 8]) -> [u16; 32]
     all
 }
 
+// From which slot on no cell is evicted: from the first where none is at all, else only past the frame, since what goes first are the latest cells of a preset.
+fn past_evicted(count: usize, slots: usize) -> usize
+    ensures { λ r. ⌜ (r < slots → count ≡ 0) ⌝ }
+{
+    if count == 0 {
+        return 0;
+    }
+    slots
+}
+
 // Carries out a call that meets no cause but perhaps the last: 7 where it does not fit, and else the table is written.
 fn carry_out(
     head: Head,
@@ -71,7 +81,19 @@ fn carry_out(
     let free = found.free;
     let never = [0u8; 32];
     let cells = job_cells(jobs);
-    place(table, slots, bridges, free, needs, n, never, cells, cells);
+    let clean = past_evicted(count, slots);
+    place(
+        table,
+        slots,
+        bridges,
+        free,
+        needs,
+        n,
+        never,
+        cells,
+        cells,
+        clean,
+    );
     CallAnswer::Taken(count)
 }
 

@@ -114,6 +114,7 @@ fn write_plan(head: Head, presets: [Preset; 32], table: &mut [u16], granted: Gra
         first,
         early,
         late,
+        slots,
     );
 }
 

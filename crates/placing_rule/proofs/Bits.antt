@@ -1,7 +1,7 @@
 -- Laws of masks as sets: bit i of a mask says whether i is in the set.
 --
 -- In order: the bits of `|`, `&` and `^` (`taken-or`, `taken-and`, `taken-xor`), of one mask without another (`taken-without`) and of a single one
--- (`taken-one`); a mask after its lowest bits were cleared, one more at a time (`clear-more`), and the lowest bits themselves: all that there are, those
+-- (`taken-one`); a mask after its lowest bits were cleared, one more at a time (`clear-more`), and whether any is left (`clear-some`, `clear-none`); the lowest bits themselves: all that there are, those
 -- that were cleared, and how many they are (`first-all`, `first-cleared`, `first-count`).
 -- Assumes nothing.
 use Prim.Native.Nat.{ℕ, zero, suc, _+_, _-_, _/_, _%_, _^_, _≤_, _<_, min}
@@ -14,7 +14,7 @@ use lib.Bits.{bitAnd, bitOr, bitXor, and-step, or-step, xor-step, and-shr, or-sh
 use lib.Count.{ones, trailingZeros}
 use lib.Dec.{eqb, leb, eqb·zero-suc, eqb·suc-zero, eqb·suc-suc}
 use Rattle.laws.specs.Sums.{bit, count}
-use Rattle.laws.proofs.Sums.{Is, is-true, is-false, is, eq-of, ne-of, ltb-yes, ltb-not, left-of, count-ext}
+use Rattle.laws.proofs.Sums.{Is, is-true, is-false, is, eq-of, ne-of, gt-of, ltb-yes, ltb-not, left-of, count-ext}
 use Rattle.laws.proofs.Cells.{count-below, count-first}
 use Rattle.station.specs.Head.{taken}
 use Rattle.placing_rule.specs.Code.{firstOf}
@@ -100,6 +100,30 @@ module _ (f : ℕ → Bool) (n m : ℕ) (short : m < 2 ^ 32) (so-far : (b : ℕ)
           cleared 32 m some short b
           ∙ ap (λ (x : Bool). x && not (eqb b z)) (so-far b)
           ∙ untaken-more f n z (left-of (f z) (leb n (count z f)) here) order b
+
+  -- where a bit is left, more than n were set
+  pub clear-some : 0 < m → n < count 32 f
+  clear-some some =
+      let low = lowest 32 m some short in
+      let z = trailingZeros 32 m in
+      let here : untaken f n z ≡ true = sym (so-far z) ∙ low .set in
+      omega (
+        arith,
+        untaken-first f n z here (λ a l. sym (so-far a) ∙ low .none-below a l),
+        count-below 32 f z (low .within),
+        ap bit (left-of (f z) (leb n (count z f)) here),
+      )
+
+  -- where none is left, no more than n were
+  pub clear-none : m ≡ 0 → count 32 f ≤ n
+  clear-none none = omega (arith, count-ext 32 f (firstOf f n) (λ b l. go b (is (f b))), count-first 32 f n)
+    where
+      go : (b : ℕ) → Is (f b) → f b ≡ firstOf f n b
+      go b (is-true e) =
+          let off : leb n (count b f) ≡ false =
+          ap (λ (x : Bool). x && leb n (count b f)) (sym e) ∙ sym (so-far b) ∙ ap (λ (k : ℕ). taken k b) none ∙ taken-zero b in
+          rw (e, ltb-yes (count b f) n (gt-of n (count b f) off)) refl
+      go b (is-false e) = rw e refl
 
 module _ (m d : ℕ) where
   -- all bits, where they are no more than d

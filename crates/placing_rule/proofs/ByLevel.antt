@@ -20,9 +20,9 @@ use Rattle.laws.proofs.Sums.{bit-le, bit-ltb, both, right-of, ltb-iff, sum-ext,
 use Rattle.laws.proofs.Filled.{ltb-next, zeros}
 use Rattle.laws.proofs.Placement.{at-past}
 use Rattle.station.specs.Head.{taken}
-use Rattle.placing_rule.specs.Code.{Levelled}
+use Rattle.placing_rule.specs.Code.{without, Levelled}
 use Rattle.placing_rule.proofs.Mask.{taken-zero}
-use Rattle.placing_rule.proofs.Bits.{taken-or, taken-xor, taken-one}
+use Rattle.placing_rule.proofs.Bits.{taken-or, taken-xor, taken-without, taken-one}
 use Rattle.placing_rule.proofs.Chosen.{chosen-by-position}
 
 -- ---- a job's position by levels
@@ -121,6 +121,14 @@ standing-more c t n inside so-far l i = go (is (eqb l (at c n))) (is (eqb i n))
         there (ne-of l (at c n) p) ∙ (rw off (and-false (ltb i n) ∙ sym (and-false (ltb i (n + 1)))))
     go (is-false p) (is-false q) = there (ne-of l (at c n) p) ∙ ap (λ (x : Bool). x && eqb (at c i) l) (ltb-next i n (ne-of i n q))
 
+-- one more need below a bound that may rise
+pub most-more : (c : ℕ → ℕ) (n top top′ : ℕ) → ((j : ℕ) → j < n → c j ≤ top) → top ≤ top′ → c n ≤ top′ → (j : ℕ) → j < n + 1 → c j ≤ top′
+most-more c n top top′ most more here j h = go (is (eqb j n))
+  where
+    go : Is (eqb j n) → c j ≤ top′
+    go (is-true e) = omega (arith, ap c (eq-of j n e))
+    go (is-false e) = let ne : j ≡ n → ⊥ = ne-of j n e in omega (arith, most j (omega (arith, ne, h)))
+
 -- all jobs of a list that is taken from the front of another
 pub standing-all : (c t : List ℕ) (k : ℕ) → ((l i : ℕ) → taken (at t l) i ≡ (ltb i k && eqb (at c i) l)) → Levelled t (at (take k c))
 standing-all c t k all l i some high m = all l i ∙ go (is (ltb i k))
@@ -131,28 +139,32 @@ standing-all c t k all l i some high m = all l i ∙ go (is (ltb i k))
         let none : at (take k c) i ≡ 0 = at-past (take k c) i (omega (arith, length-take k c, ge-of i k e)) in
         rw (e, none) (sym (eqb-no 0 l (λ z. omega (arith, z, some))))
 
--- nobody needs as many slots as an empty level says
-pub nobody : (t : List ℕ) (c : ℕ → ℕ) → Levelled t c → (l i : ℕ) → 0 < l → l < 256 → i < 32 → at t l ≡ 0 → c i ≡ l → ⊥
-nobody t c h l i some high m empty e =
-    clash (sym (h l i some high m ∙ eqb-yes (c i) l e) ∙ ap (λ (n : ℕ). taken n i) empty ∙ taken-zero i)
+-- nobody but the jobs r needs as many slots as a level says that is empty without them
+pub nobody : (t : List ℕ) (c : ℕ → ℕ) → Levelled t c → (l i r : ℕ) → 0 < l → l < 256 → i < 32 → without (at t l) r ≡ 0 → taken r i ≡ false → c i ≡ l → ⊥
+nobody t c h l i r some high m empty other e =
+    clash (sym (both (taken (at t l) i) (not (taken r i)) (h l i some high m ∙ eqb-yes (c i) l e) (ap not other))
+    ∙ sym (taken-without (at t l) r i)
+    ∙ ap (λ (n : ℕ). taken n i) empty
+    ∙ taken-zero i)
 
 -- where all levels above r are empty, nobody needs more than r
 pub most-of : (t : List ℕ) (c : ℕ → ℕ) (top r : ℕ) → Levelled t c → top < 256 → ((i : ℕ) → i < 32 → c i ≤ top)
-    → ((l : ℕ) → r < l → l ≤ top → at t l ≡ 0) → (i : ℕ) → i < 32 → c i ≤ r
+    → ((l : ℕ) → r < l → l ≤ top → without (at t l) 0 ≡ 0) → (i : ℕ) → i < 32 → c i ≤ r
 most-of t c top r h high most empty i m = go (is (ltb r (c i)))
   where
     go : Is (ltb r (c i)) → c i ≤ r
     go (is-true e) =
         let l : r < c i = lt-of r (c i) e in
-        absurd (nobody t c h (c i) i (omega (arith, l)) (omega (arith, high, most i m)) m (empty (c i) l (most i m)) refl)
+        absurd (nobody t c h (c i) i 0 (omega (arith, l)) (omega (arith, high, most i m)) m (empty (c i) l (most i m)) (taken-zero i) refl)
     go (is-false e) = ge-of r (c i) e
 
--- nobody stands above l, nor in it
-pub empty-more : (t : List ℕ) (from l : ℕ) → at t l ≡ 0 → ((q : ℕ) → l < q → q ≤ from → at t q ≡ 0) → (q : ℕ) → l - 1 < q → q ≤ from → at t q ≡ 0
-empty-more t from l e above q h k = go (is (eqb q l))
+-- nobody but the jobs r stands above l, nor in it
+pub empty-more : (t : List ℕ) (r from l : ℕ) → without (at t l) r ≡ 0 → ((q : ℕ) → l < q → q ≤ from → without (at t q) r ≡ 0)
+    → (q : ℕ) → l - 1 < q → q ≤ from → without (at t q) r ≡ 0
+empty-more t r from l e above q h k = go (is (eqb q l))
   where
-    go : Is (eqb q l) → at t q ≡ 0
-    go (is-true p) = ap (at t) (eq-of q l p) ∙ e
+    go : Is (eqb q l) → without (at t q) r ≡ 0
+    go (is-true p) = ap (λ (n : ℕ). without (at t n) r) (eq-of q l p) ∙ e
     go (is-false p) = let ne : q ≡ l → ⊥ = ne-of q l p in above q (omega (arith, ne, h)) k
 
 -- some of the jobs of level l, those of the mask `got`, move to the level below

@@ -10,7 +10,7 @@ use mathlib.Core.Logic.{_⊎_, inl, inr}
 use mathlib.Core.Bool.{Bool, true, false, not, _&&_, _||_, and-true, and-false, or-false, or-true, and-or-distrib-right}
 use mathlib.Core.List.{List}
 use lib.ListN.{length}
-use lib.Bits.{bitAnd, bitOr, bitXor}
+use lib.Bits.{bitOr}
 use lib.Count.{ones}
 use lib.Dec.{ltb, eqb}
 use Rattle.laws.specs.Sums.{bit, count}
@@ -18,7 +18,7 @@ use Rattle.laws.specs.Placement.{at, chosen}
 use Rattle.laws.proofs.Sums.{Is, is-true, is-false, is, not-true, lt-of, ge-of, eq-of, ne-of, ltb-yes, ltb-no, eqb-no}
 use Rattle.laws.proofs.Sums.{bit-ltb, left-of, ltb-iff, sum-ext, sum-add, count-ext, count-none}
 use Rattle.station.specs.Head.{taken}
-use Rattle.placing_rule.specs.Code.{firstOf, Levelled}
+use Rattle.placing_rule.specs.Code.{without, firstOf, Levelled}
 use Rattle.placing_rule.proofs.Mask.{taken-zero}
 use Rattle.placing_rule.proofs.Bits.{taken-or, taken-without, first-count}
 use Rattle.placing_rule.proofs.ByLevel.{chosen-level, chosen-below, nobody, moved, levelled-moved}
@@ -66,8 +66,8 @@ module _ (c : ℕ → ℕ) (d : ℕ) (t : List ℕ) (l rest r : ℕ) (high : l <
   still : (i : ℕ) → i < 32 → c i ≤ l → taken r i ≡ false
   still i m low = not-true (taken r i) (λ e. omega (arith, low, above i m e))
 
-  -- nobody stands in the levels below l down to l′
-  pub gone-empty : (l′ : ℕ) → l′ ≤ l → ((q : ℕ) → l′ < q → q ≤ l → at t q ≡ 0) → Gone c d t l′ rest r
+  -- nobody that got no cell stands in the levels from l down to l′
+  pub gone-empty : (l′ : ℕ) → l′ ≤ l → ((q : ℕ) → l′ < q → q ≤ l → without (at t q) r ≡ 0) → Gone c d t l′ rest r
   gone-empty l′ less empty =
       record {
         levels = so-far .levels;
@@ -82,8 +82,8 @@ module _ (c : ℕ → ℕ) (d : ℕ) (t : List ℕ) (l rest r : ℕ) (high : l <
           further q (is-true e) = lt-of l (c i) e
           further q (is-false e) =
               let low : c i ≤ l = ge-of l (c i) e in
-              absurd (nobody t (λ j. c j - bit (taken r j)) (so-far .levels) (c i) i (omega (arith, q)) (omega (arith, low, high)) m (empty (c i) q low)
-              (omega (arith, ap bit (still i m low))))
+              absurd (nobody t (λ j. c j - bit (taken r j)) (so-far .levels) (c i) i r (omega (arith, q)) (omega (arith, low, high)) m (empty (c i) q low)
+              (still i m low) (omega (arith, ap bit (still i m low))))
 
   -- every level, or as many as there were cells for
   pub gone-all : (l ≡ 0) ⊎ (rest ≡ 0) → (i : ℕ) → i < 32 → taken r i ≡ chosen 32 c d i
@@ -100,7 +100,7 @@ module _ (c : ℕ → ℕ) (d : ℕ) (t : List ℕ) (l rest r : ℕ) (high : l <
 
   -- those that stand in level l and got no cell yet
   abbrev those : ℕ
-  those = bitXor (at t l) (bitAnd (at t l) r)
+  those = without (at t l) r
 
   -- One level more: the first `rest` of those get a cell (`got`) and move to the level below.
   module _ (some : 0 < l) (got : ℕ) (short : got < 2 ^ 32)

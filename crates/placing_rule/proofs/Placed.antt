@@ -1,30 +1,31 @@
 -- Laws of the table slot by slot, as the code places the jobs.
 --
--- In order: the first slots of the table placed (`SlotsPlaced`): none, one more, all; one turn of the loop
--- (`progress-more`); within the limits and beyond them (`placed-within`, `placed-beyond`).
+-- In order: the first slots of the table placed (`SlotsPlaced`): none, one more, all; one turn of the loop (`progress-more`, `progress-over`) and the slots after all
+-- jobs have their cells (`progress-idle`); within the limits and beyond them (`placed-within`, `placed-beyond`).
 -- Assumes nothing.
-use Prim.Native.Nat.{ℕ, zero, suc, _+_, _-_, _*_, _/_, _%_, _≤_, _<_}
+use Prim.Native.Nat.{ℕ, zero, suc, _+_, _-_, _*_, _/_, _%_, _≤_, _<_, zero-le}
 use native.Mathlib.Nat.{suc-mul, mul-zero, mul-le-mul, mul-le-mul-right, mod-lt, div-add-mod', div-lt-iff-lt-mul}
 use native.Mathlib.Numerals.{add-one}
 use native.Mathlib.Omega.{arith}
-use mathlib.Core.Path.{_≡_, refl, sym, _∙_, ap, ap₂}
-use mathlib.Core.Bool.{Bool, true, false, cond}
+use mathlib.Core.Path.{_≡_, refl, sym, _∙_, ap}
+use mathlib.Core.Bool.{Bool, true, false, cond, and-false}
 use mathlib.Core.List.{List, _++_}
 use lib.ListN.{length, take, drop, length-take, length-append, length-drop, List·getD-append}
 use lib.Seq.{length-take-le, ext-getD, getD-append-add, getD-drop, getD-take}
 use lib.Dec.{ltb, eqb}
-use Rattle.laws.specs.Sums.{bit, only}
-use Rattle.laws.specs.Placement.{at, tabulate, chosen, left, lrtf}
+use Rattle.laws.specs.Sums.{bit, only, sum, position}
+use Rattle.laws.specs.Placement.{at, tabulate, before, chosen, left, lrtf}
 use Rattle.laws.specs.Cells.{takes, slotCell}
-use Rattle.laws.proofs.Sums.{Is, is-true, is-false, is, lt-of, ge-of, eq-of, ne-of}
-use Rattle.laws.proofs.Placement.{length-tabulate, at-tabulate, at-past, left-length, left-step}
+use Rattle.laws.proofs.Sums.{Is, is-true, is-false, is, lt-of, ge-of, eq-of, ne-of, ltb-no, sum-zero, count-none}
+use Rattle.laws.proofs.Placement.{length-tabulate, at-tabulate, at-past, left-length, left-step, left-got}
 use Rattle.station.specs.Head.{taken}
 use Rattle.placing.specs.Plan.{placing, freeCount}
 use Rattle.placing.specs.Limits.{inLimits}
-use Rattle.placing_rule.specs.Code.{jobCell, jobCells, RowWritten, Levelled, freeIn, cellIn, cellsIn, placedIn, placedWithin}
+use Rattle.placing_rule.specs.Code.{dueCells, RowWritten, EmptyRow, Levelled, freeIn, cellIn, cellsIn, placedIn, placedWithin}
 use Rattle.placing.proofs.Written.{place-below}
+use Rattle.placing_rule.proofs.Mask.{taken-zero}
 use Rattle.placing_rule.proofs.Chosen.{sum-past, chosen-past}
-use Rattle.placing_rule.proofs.Rows.{slotCell-ext, takes-not-chosen}
+use Rattle.placing_rule.proofs.Rows.{due-cell, row-as-it-was, slotCell-ext, takes-not-chosen}
 
 -- ---- the table, slot by slot
 
@@ -131,10 +132,10 @@ module _ (n B : ℕ) (few : n ≤ 64) (narrow : B ≤ 8) where
 
 -- ---- one turn of the code's loop
 
--- Before slot s: the table so far, the array of the needs that are left, and the same needs by levels, none of them above `top`.
+-- Before slot s: the table so far, the array of the first slots that are still due, and the needs that are left by levels, none of them above `top`.
 pub record Progress (B : ℕ) (masks c first early late t : List ℕ) (k s : ℕ) (u l levels : List ℕ) (top : ℕ) : Type 0 where
   pub table : SlotsPlaced B (cellOf B masks c first early late t) t u s
-  pub needs : (i : ℕ) → i < k → at l i ≡ at (left c (freeCount B (freeIn masks)) s) i
+  pub due : (i : ℕ) → i < k → at l i ≡ at first i - (at c i - at (left c (freeCount B (freeIn masks)) s) i)
   pub levelled : Levelled levels (at (left c (freeCount B (freeIn masks)) s))
   pub most : (i : ℕ) → i < 32 → at (left c (freeCount B (freeIn masks)) s) i ≤ top
 
@@ -147,21 +148,22 @@ module _ (B : ℕ) (masks array first early late t : List ℕ) (k : ℕ) where
   free = freeCount B (freeIn masks)
 
   -- before the first slot
-  pub progress-none : ((i : ℕ) → at array i ≤ 255) → (levels : List ℕ) → Levelled levels (at c) → Progress B masks c first early late t k 0 t array levels 255
+  pub progress-none : (levels : List ℕ) (top : ℕ) → Levelled levels (at c) → ((i : ℕ) → i < k → at array i ≤ top)
+      → Progress B masks c first early late t k 0 t first levels top
   unfolding left
-  progress-none byte levels h =
+  progress-none levels top h most =
       record {
         table = slots-none B (cellOf B masks c first early late t) t;
-        needs = λ i l. sym (getD-take k array i 0 l);
+        due = λ i l. omega arith;
         levelled = h;
         most = λ i l. go i (is (ltb i k));
       }
     where
-      go : (i : ℕ) → Is (ltb i k) → at c i ≤ 255
-      go i (is-true e) = omega (arith, getD-take k array i 0 (lt-of i k e), byte i)
+      go : (i : ℕ) → Is (ltb i k) → at c i ≤ top
+      go i (is-true e) = omega (arith, getD-take k array i 0 (lt-of i k e), most i (lt-of i k e))
       go i (is-false e) = omega (arith, at-past c i (omega (arith, length-take k array, ge-of i k e)))
 
-  -- One slot: the choice, the row, the needs after it and their levels, as the code's functions state them.
+  -- One slot: the choice, the row, what is due after it and the levels, as the code's functions state them.
   module _ (enough : k ≤ length array) (few : k ≤ 32) (s : ℕ) (u l levels : List ℕ) (top : ℕ)
       (so-far : Progress B masks c first early late t k s u l levels top) (a : ℕ → Bool)
       (choice : (i : ℕ) → i < 32 → a i ≡ chosen 32 (at (left c free s)) (free s) i) where
@@ -177,13 +179,11 @@ module _ (B : ℕ) (masks array first early late t : List ℕ) (k : ℕ) where
     after : (i : ℕ) → i < 32 → at (left c free s) i - bit (a i) ≡ at (left c free (s + 1)) i
     after i h = rw (add-one s) (omega (arith, left-step c free i s, ap bit (chooses i h)))
 
-    wrote : (i : ℕ) → i < length c → jobCells array l first early late i ≡ cellIn c free first early late i s
-    wrote i h =
-        let j : i < k = omega (arith, long, h) in
-        ap₂ (λ (n m : ℕ). jobCell n m (at first i) (at early i) (at late i)) (sym (getD-take k array i 0 j)) (so-far .needs i j)
+    wrote : (i : ℕ) → i < length c → dueCells l early late i ≡ cellIn c free first early late i s
+    wrote i h = due-cell l early late i (at c i) (at (left c free s) i) (at first i) (so-far .due i (omega (arith, long, h)))
 
     pub progress-more : (v m levels′ : List ℕ) (top′ : ℕ) → ((i : ℕ) → i < 32 → at (left c free s) i ≤ top′)
-        → RowWritten u v (s * B) B (slotCell 32 a (taken (at masks s)) (jobCells array l first early late) (λ b. at u (s * B + b)))
+        → RowWritten u v (s * B) B (slotCell 32 a (taken (at masks s)) (dueCells l early late) (λ b. at u (s * B + b)))
         → ((i : ℕ) → at m i ≡ at l i - bit (a i))
         → Levelled levels′ (λ i. at (left c free s) i - bit (a i))
         → Progress B masks c first early late t k (s + 1) v m levels′ top′
@@ -191,15 +191,72 @@ module _ (B : ℕ) (masks array first early late t : List ℕ) (k : ℕ) where
         record {
           table =
               slots-more B (cellOf B masks c first early late t) t u v s
-              (slotCell 32 a (taken (at masks s)) (jobCells array l first early late) (λ b. at u (s * B + b)))
+              (slotCell 32 a (taken (at masks s)) (dueCells l early late) (λ b. at u (s * B + b)))
               (so-far .table) row
-              (row-rule B masks c first early late t u s a (jobCells array l first early late) (omega (arith, long, few)) chooses wrote (so-far .table));
-          needs = λ i h.
-              let j : i < 32 = omega (arith, h, few) in
-              rest i ∙ ap (λ (n : ℕ). n - bit (a i)) (so-far .needs i h) ∙ after i j;
+              (row-rule B masks c first early late t u s a (dueCells l early late) (omega (arith, long, few)) chooses wrote (so-far .table));
+          due = λ i h.
+              let step = left-step c free i s in
+              rw (add-one s) (omega (arith, rest i, so-far .due i h, step, left-got c free i s, ap bit (chooses i (omega (arith, h, few)))));
           levelled = λ q i p r j. moved q i p r j ∙ ap (λ (n : ℕ). eqb n q) (after i j);
           most = λ i h. omega (arith, after i h, most i h);
         }
+
+  -- a slot with no free bridge
+  pub progress-over : k ≤ length array → k ≤ 32 → (s : ℕ) (u l levels : List ℕ) (top top′ : ℕ) → Progress B masks c first early late t k s u l levels top
+      → at masks s ≡ 0 → ((i : ℕ) → i < 32 → at (left c free s) i ≤ top′) → Progress B masks c first early late t k (s + 1) u l levels top′
+  progress-over enough few s u l levels top top′ so-far empty most =
+      progress-more enough few s u l levels top so-far (λ i. false) nobody u l levels top′ most
+      (row-as-it-was u (s * B) _ B (λ b h. sym (rw (off b) refl))) (λ i. omega arith)
+      (λ q i p r j. so-far .levelled q i p r j ∙ ap (λ (n : ℕ). eqb n q) (omega arith))
+    where
+      off : (b : ℕ) → freeIn masks s b ≡ false
+      off b = ap (λ (m : ℕ). taken m b) empty ∙ taken-zero b
+
+      nobody : (i : ℕ) → i < 32 → false ≡ chosen 32 (at (left c free s)) (free s) i
+      nobody i h =
+          sym (ap (λ (d : ℕ). chosen 32 (at (left c free s)) d i) (count-none B (λ b. freeIn masks s b) (λ b m. off b))
+          ∙ (rw (ltb-no (position 32 (before (at (left c free s))) i) 0 zero-le) (and-false (ltb 0 (at (left c free s) i)))))
+
+  -- Nobody needs a cell any more, and the free ones of the slots from s on are empty: these are as they are to be.
+  module _ (s : ℕ) (u l levels : List ℕ) (top : ℕ) (so-far : Progress B masks c first early late t k s u l levels top) (few : k ≤ 32)
+      (none : (i : ℕ) → i < 32 → at (left c free s) i ≤ 0) where
+    now : (i : ℕ) → i < length c → at (left c free s) i ≡ 0
+    now i h = omega (arith, none i (omega (arith, h, few, length-take k array)))
+
+    idle : (i : ℕ) → i < length c → (q : ℕ) → s ≤ q → at (left c free q) i ≡ 0
+    idle i h zero m = let first : s ≡ 0 = omega arith in omega (arith, rw first at (now i h))
+    idle i h (suc q) m = go (idle i h q) (is (eqb s (suc q)))
+      where
+        go : (s ≤ q → at (left c free q) i ≡ 0) → Is (eqb s (suc q)) → at (left c free (suc q)) i ≡ 0
+        go ih (is-true e) = rw (eq-of s (suc q) e) at (now i h)
+        go ih (is-false e) = let ne : s ≡ suc q → ⊥ = ne-of s (suc q) e in omega (arith, left-step c free i q, ih (omega (arith, ne, m)))
+
+    as-it-was : (q b : ℕ) → s ≤ q → (freeIn masks q b ≡ true → at t (q * B + b) ≡ 0) → at t (q * B + b) ≡ cellOf B masks c first early late t q b
+    unfolding placing
+    as-it-was q b m clean = go (is (freeIn masks q b))
+      where
+        go : Is (freeIn masks q b) → at t (q * B + b) ≡ cellOf B masks c first early late t q b
+        go (is-true e) =
+            clean e
+            ∙ sym (ap (λ (x : Bool). cond x (sum (length c) (λ i. only (takes (λ j. lrtf c free j q) (λ d. freeIn masks q d) i b) (cellIn c free first early late i q))) (at t (q * B + b))) e
+            ∙ sum-zero (length c) _ (λ i h. ap (λ (x : Bool). only x (cellIn c free first early late i q))
+            (takes-not-chosen (λ j. lrtf c free j q) (λ d. freeIn masks q d) i b (rw (idle i h q m) refl))))
+        go (is-false e) = sym (rw e refl)
+
+    pub progress-idle : (n : ℕ) → s ≤ n → ((q : ℕ) → s ≤ q → q < n → EmptyRow t (q * B) B (freeIn masks q))
+        → SlotsPlaced B (cellOf B masks c first early late t) t u n
+    progress-idle n more clean =
+        record {
+          long = so-far .table .long;
+          inside = λ q b h m. go q b h m (is (ltb q s));
+          after = λ i h. so-far .table .after i (omega (arith, h, mul-le-mul-right {m = s} {n = n} B more));
+        }
+      where
+        go : (q b : ℕ) → q < n → b < B → Is (ltb q s) → at u (q * B + b) ≡ cellOf B masks c first early late t q b
+        go q b h m (is-true e) = so-far .table .inside q b (lt-of q s e) m
+        go q b h m (is-false e) =
+            let past : s ≤ q = ge-of q s e in
+            so-far .table .after (q * B + b) (omega (arith, mul-le-mul-right {m = s} {n = q} B past)) ∙ as-it-was q b past (clean q past h b m)
 
 -- ---- within the limits, and beyond them
 

@@ -2,7 +2,7 @@
 --
 -- In order: what a job writes; a cell of the row, emptied (`emptied-..`) and with one job more (`slotCell-..`); a row of which cells are written (`row-..`);
 -- the free cells that are left after some were taken in order (`untaken-..`), and who takes one (`takes-..`); a row after some jobs took their cells:
--- none, one more, and all, with the cells that are left made empty (`filled-..`).
+-- none, one more, and all, with the cells that are left made empty, or empty before (`filled-..`).
 -- Assumes nothing.
 use Prim.Native.Nat.{ℕ, _+_, _-_, _≤_, _<_, zero-le}
 use native.Mathlib.Nat.{add-zero, le-of-eq}
@@ -17,20 +17,25 @@ use lib.Dec.{ltb, leb, eqb}
 use Rattle.laws.specs.Sums.{bit, only, sum, count}
 use Rattle.laws.specs.Placement.{at}
 use Rattle.laws.specs.Cells.{takes, slotCell}
-use Rattle.laws.proofs.Sums.{Is, is-true, is-false, is, clash, lt-of, ge-of, le-of, gt-of, eq-of, ne-of, ltb-yes, ltb-no, leb-yes, leb-no, eqb-yes, eqb-no, eqb-self, both, left-of, right-of}
+use Rattle.laws.proofs.Sums.{Is, is-true, is-false, is, clash, lt-of, ge-of, le-of, gt-of, eq-of, ne-of, ltb-yes, leb-yes, leb-no, eqb-yes, eqb-no, eqb-self, ltb-iff, both, left-of, right-of}
 use Rattle.laws.proofs.Sums.{sum-ext, sum-zero, sum-point, count-ext, count-none}
 use Rattle.laws.proofs.Cells.{count-below, nth-count}
-use Rattle.placing_rule.specs.Code.{jobCell, RowWritten, emptied}
+use Rattle.placing_rule.specs.Code.{jobCell, dueCells, RowWritten, emptied, EmptyRow}
 use Rattle.placing_rule.proofs.Chosen.{count-more}
 
 -- ---- what a job writes
 
-module _ (need rest first early late : ℕ) where
-  pub writes-early : need - rest < first → early ≡ jobCell need rest first early late
-  writes-early h = rw (ltb-yes (need - rest) first h) refl
+module _ (due early late : List ℕ) (i : ℕ) where
+  pub writes-late : at due i ≡ 0 → at late i ≡ dueCells due early late i
+  writes-late e = rw e refl
 
-  pub writes-late : first ≤ need - rest → late ≡ jobCell need rest first early late
-  writes-late h = rw (ltb-no (need - rest) first h) refl
+  pub writes-early : 0 < at due i → at early i ≡ dueCells due early late i
+  writes-early h = rw (ltb-yes 0 (at due i) h) refl
+
+  -- a job that needs `need` slots in all and `rest` of them still
+  pub due-cell : (need rest first : ℕ) → at due i ≡ first - (need - rest) → dueCells due early late i ≡ jobCell need rest first (at early i) (at late i)
+  due-cell need rest first e =
+      ap (λ (x : Bool). cond x (at early i) (at late i)) (ltb-iff 0 (at due i) (need - rest) first (λ h. omega (arith, e, h)) (λ h. omega (arith, e, h)))
 
 -- ---- a cell of the row
 
@@ -339,3 +344,18 @@ module _ (t : List ℕ) (start n : ℕ) (a f : ℕ → Bool) (v : ℕ → ℕ) w
           emptied-kept g (λ d. at u (start + d)) b e
           ∙ done .row .inside b h
           ∙ ap (λ (x : Bool). cond x (held b) (slotCell k a f v held b)) (sym (done .rest b h) ∙ e)
+
+  -- all k jobs have written, and the free cells were empty before
+  pub filled-clean : (k : ℕ) (u : List ℕ) (g : ℕ → Bool) → RowFilled t start n a f v u g k → EmptyRow t start n f
+      → RowWritten t u start n (slotCell k a f v held)
+  filled-clean k u g done clean =
+      filled-all k u g done u (row-as-it-was u start (emptied g (λ b. at u (start + b))) n (λ b h. go b h (is (g b))))
+    where
+      go : (b : ℕ) → b < n → Is (g b) → at u (start + b) ≡ emptied g (λ d. at u (start + d)) b
+      go b h (is-true e) =
+          let left : untaken f (count k a) b ≡ true = sym (done .rest b h) ∙ e in
+          done .row .inside b h
+          ∙ ap (λ (x : Bool). cond x (held b) (slotCell k a f v held b)) left
+          ∙ clean b h (left-of (f b) (leb (count k a) (count b f)) left)
+          ∙ sym (emptied-free g (λ d. at u (start + d)) b e)
+      go b h (is-false e) = sym (emptied-kept g (λ d. at u (start + d)) b e)

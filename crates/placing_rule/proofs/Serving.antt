@@ -1,14 +1,14 @@
 -- Laws of a row whose chosen jobs are kept as a mask and taken out of it one by one, the earliest first.
 --
 -- In order: a row passes over jobs that are not chosen (`filled-over`); the mask of the jobs that are still to come (`Pending`): all, and all but the
--- earliest; the row, the needs that are left and that mask (`Serving`): none served, one more that takes a cell or finds none, all served (`serving-..`).
+-- earliest; the row, what is still due of the jobs and that mask (`Serving`): none served, one more that takes a cell or finds none, all served (`serving-..`).
 -- Assumes nothing.
 use Prim.Native.Nat.{ℕ, zero, suc, _+_, _-_, _^_, _≤_, _<_}
 use native.Mathlib.Nat.{le-refl}
 use native.Mathlib.Numerals.{add-one}
 use native.Mathlib.Omega.{arith}
 use mathlib.Core.Path.{_≡_, refl, sym, _∙_, ap}
-use mathlib.Core.Bool.{Bool, true, false, not, _&&_, and-true, and-false}
+use mathlib.Core.Bool.{Bool, true, false, not, _&&_, cond, and-true, and-false}
 use mathlib.Core.List.{List}
 use lib.ListN.{length, set, length-set}
 use lib.Seq.{getD-set-same, getD-set-other}
@@ -19,7 +19,7 @@ use Rattle.laws.specs.Sums.{bit}
 use Rattle.laws.specs.Placement.{at}
 use Rattle.laws.proofs.Sums.{Is, is-true, is-false, is, clash, eq-of, ne-of, lt-of, ge-of, eqb-self, eqb-no}
 use Rattle.station.specs.Head.{taken}
-use Rattle.placing_rule.specs.Code.{jobCell, jobCells}
+use Rattle.placing_rule.specs.Code.{dueCells}
 use Rattle.placing_rule.proofs.Mask.{taken-zero, lowest, none-below-lowest, some-lowest, cleared}
 use Rattle.placing_rule.proofs.Rows.{RowFilled, filled-not-chosen, filled-full, filled-next}
 
@@ -106,25 +106,25 @@ module _ (chosen jobs : ℕ) (now : Pending chosen jobs) (some : 0 < jobs) where
       ∙ sym (later-other i (λ e. omega (arith, e, l)))
       ∙ none-below-lowest 32 later later-short i m
 
--- ---- the row, the needs that are left, and the jobs that are still to come
+-- ---- the row, what is still due of the jobs, and the jobs that are still to come
 
--- u is t with the n cells from `start` on written by the jobs before those to come, whose needs in `rest` are one less than in `left`
-pub record Serving (t : List ℕ) (start n chosen : ℕ) (f : ℕ → Bool) (v : ℕ → ℕ) (left : List ℕ) (u : List ℕ) (free jobs : ℕ) (rest : List ℕ) : Type 0 where
+-- u is t with the n cells from `start` on written by the jobs before those to come, of which one less is due in `rest` than in `due`
+pub record Serving (t : List ℕ) (start n chosen : ℕ) (f : ℕ → Bool) (v : ℕ → ℕ) (due : List ℕ) (u : List ℕ) (free jobs : ℕ) (rest : List ℕ) : Type 0 where
   pub pending : Pending chosen jobs
   pub row : RowFilled t start n (taken chosen) f v u (taken free) (trailingZeros 32 jobs)
-  pub needs : (i : ℕ) → at rest i ≡ at left i - bit (taken chosen i && not (taken jobs i))
+  pub fewer-due : (i : ℕ) → at rest i ≡ at due i - bit (taken chosen i && not (taken jobs i))
   pub long : length rest ≡ 32
 
-module _ (t : List ℕ) (start n chosen : ℕ) (f : ℕ → Bool) (v : ℕ → ℕ) (left : List ℕ) where
-  pub serving-none : chosen < 2 ^ 32 → length left ≡ 32 → (u : List ℕ) (free : ℕ) → RowFilled t start n (taken chosen) f v u (taken free) 0
-      → Serving t start n chosen f v left u free chosen left
+module _ (t : List ℕ) (start n chosen : ℕ) (f : ℕ → Bool) (v : ℕ → ℕ) (due : List ℕ) where
+  pub serving-none : chosen < 2 ^ 32 → length due ≡ 32 → (u : List ℕ) (free : ℕ) → RowFilled t start n (taken chosen) f v u (taken free) 0
+      → Serving t start n chosen f v due u free chosen due
   serving-none h long u free done =
       record {
         pending = pending-all chosen h;
         row =
             filled-over t start n (taken chosen) f v u (taken free) 0 (trailingZeros 32 chosen) (omega arith)
             (λ q k l. none-below-lowest 32 chosen h q l) done;
-        needs = λ i. omega (arith, ap bit (never (taken chosen i)));
+        fewer-due = λ i. omega (arith, ap bit (never (taken chosen i)));
         long = long;
       }
     where
@@ -132,7 +132,7 @@ module _ (t : List ℕ) (start n chosen : ℕ) (f : ℕ → Bool) (v : ℕ → �
       never true = refl
       never false = refl
 
-  module _ (u : List ℕ) (free jobs : ℕ) (rest : List ℕ) (so-far : Serving t start n chosen f v left u free jobs rest) (some : 0 < jobs) where
+  module _ (u : List ℕ) (free jobs : ℕ) (rest : List ℕ) (so-far : Serving t start n chosen f v due u free jobs rest) (some : 0 < jobs) where
     abbrev i : ℕ
     i = trailingZeros 32 jobs
 
@@ -143,23 +143,23 @@ module _ (t : List ℕ) (start n chosen : ℕ) (f : ℕ → Bool) (v : ℕ → �
     is-chosen = earliest-chosen chosen jobs (so-far .pending) some
 
     -- the job has got nothing in this row yet
-    untouched : at rest i ≡ at left i
+    untouched : at rest i ≡ at due i
     untouched =
         let here : taken jobs i ≡ true = so-far .pending .rest i (le-refl i) ∙ is-chosen in
         let none : (taken chosen i && not (taken jobs i)) ≡ false = rw (here) (and-false (taken chosen i)) in
-        omega (arith, so-far .needs i, ap bit none)
+        omega (arith, so-far .fewer-due i, ap bit none)
 
     -- what it writes
-    pub value-of : (c first early late : List ℕ) (z : ℕ) → z ≡ i → (x : ℕ) → x ≡ jobCells c rest first early late z → x ≡ jobCells c left first early late i
-    value-of c first early late z here x e =
+    pub value-of : (early late : List ℕ) (z : ℕ) → z ≡ i → (x : ℕ) → x ≡ dueCells rest early late z → x ≡ dueCells due early late i
+    value-of early late z here x e =
         e
-        ∙ ap (jobCells c rest first early late) here
-        ∙ ap (λ (m : ℕ). jobCell (at c i) m (at first i) (at early i) (at late i)) untouched
+        ∙ ap (dueCells rest early late) here
+        ∙ ap (λ (m : ℕ). cond (ltb 0 m) (at early i) (at late i)) untouched
 
-    less : (q : ℕ) → at fewer q ≡ at left q - bit (taken chosen q && not (taken (bitAnd jobs (jobs - 1)) q))
+    less : (q : ℕ) → at fewer q ≡ at due q - bit (taken chosen q && not (taken (bitAnd jobs (jobs - 1)) q))
     less q = go (is (eqb q i))
       where
-        go : Is (eqb q i) → at fewer q ≡ at left q - bit (taken chosen q && not (taken (bitAnd jobs (jobs - 1)) q))
+        go : Is (eqb q i) → at fewer q ≡ at due q - bit (taken chosen q && not (taken (bitAnd jobs (jobs - 1)) q))
         go (is-true e) =
             rw (eq-of q i e)
             (rw (is-chosen, later-not chosen jobs (so-far .pending) some)
@@ -167,12 +167,12 @@ module _ (t : List ℕ) (start n chosen : ℕ) (f : ℕ → Bool) (v : ℕ → �
             ∙ ap (λ (m : ℕ). m - 1) untouched))
         go (is-false e) =
             getD-set-other rest i q (at rest i - 1) 0 (ne-of q i e)
-            ∙ so-far .needs q
+            ∙ so-far .fewer-due q
             ∙ (rw (later-other chosen jobs (so-far .pending) some q (ne-of q i e)) refl)
 
     -- the job is done: the row goes on to the next one
     onward : (u′ : List ℕ) (free′ : ℕ) → RowFilled t start n (taken chosen) f v u′ (taken free′) (i + 1)
-        → Serving t start n chosen f v left u′ free′ (bitAnd jobs (jobs - 1)) fewer
+        → Serving t start n chosen f v due u′ free′ (bitAnd jobs (jobs - 1)) fewer
     onward u′ free′ done =
         record {
           pending = pending-later chosen jobs (so-far .pending) some;
@@ -180,17 +180,17 @@ module _ (t : List ℕ) (start n chosen : ℕ) (f : ℕ → Bool) (v : ℕ → �
               filled-over t start n (taken chosen) f v u′ (taken free′) (i + 1) (trailingZeros 32 (bitAnd jobs (jobs - 1)))
               (omega (arith, later-later chosen jobs (so-far .pending) some))
               (between chosen jobs (so-far .pending) some) done;
-          needs = less;
+          fewer-due = less;
           long = length-set rest i (at rest i - 1) ∙ so-far .long;
         }
 
     -- it finds no free cell
-    pub serving-full : ((b : ℕ) → b < n → taken free b ≡ false) → Serving t start n chosen f v left u free (bitAnd jobs (jobs - 1)) fewer
+    pub serving-full : ((b : ℕ) → b < n → taken free b ≡ false) → Serving t start n chosen f v due u free (bitAnd jobs (jobs - 1)) fewer
     serving-full none = onward u free (filled-full t start n (taken chosen) f v u (taken free) i (so-far .row) is-chosen none)
 
     -- it takes the next free cell
     pub serving-next : free < 2 ^ 8 → (b : ℕ) → b ≡ trailingZeros 8 free → b < n → n ≤ 8 → start + n ≤ length t → (x : ℕ) → x ≡ v i
-        → Serving t start n chosen f v left (set u (start + b) x) (bitAnd free (free - 1)) (bitAnd jobs (jobs - 1)) fewer
+        → Serving t start n chosen f v due (set u (start + b) x) (bitAnd free (free - 1)) (bitAnd jobs (jobs - 1)) fewer
     serving-next byte b e l few short x value =
         let any : 0 < free = some-lowest 8 free (omega (arith, e, l, few)) in
         let low = lowest 8 free any byte in
@@ -199,7 +199,7 @@ module _ (t : List ℕ) (start n chosen : ℕ) (f : ℕ → Bool) (v : ℕ → �
         (low .set) (low .none-below) (taken (bitAnd free (free - 1))) (cleared 8 free any byte)))
 
   -- all of them
-  pub serving-all : (u : List ℕ) (free : ℕ) (rest : List ℕ) → Serving t start n chosen f v left u free 0 rest
-      → RowFilled t start n (taken chosen) f v u (taken free) 32 × ((i : ℕ) → at rest i ≡ at left i - bit (taken chosen i))
+  pub serving-all : (u : List ℕ) (free : ℕ) (rest : List ℕ) → Serving t start n chosen f v due u free 0 rest
+      → RowFilled t start n (taken chosen) f v u (taken free) 32 × ((i : ℕ) → at rest i ≡ at due i - bit (taken chosen i))
   serving-all u free rest done =
-      (rw (trailing-of-zero 32) at (done .row), λ i. done .needs i ∙ (rw (taken-zero i) (ap (λ (x : Bool). at left i - bit x) (and-true (taken chosen i)))))
+      (rw (trailing-of-zero 32) at (done .row), λ i. done .fewer-due i ∙ (rw (taken-zero i) (ap (λ (x : Bool). at due i - bit x) (and-true (taken chosen i)))))

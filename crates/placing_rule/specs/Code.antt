@@ -2,9 +2,10 @@
 -- Assumes nothing.
 use Prim.Native.Nat.{ℕ, _+_, _-_, _*_, _/_, _%_, _≤_, _<_}
 use mathlib.Core.Path.{_≡_}
-use mathlib.Core.Bool.{Bool, _&&_, cond}
+use mathlib.Core.Bool.{Bool, true, _&&_, cond}
 use mathlib.Core.List.{List, _++_}
 use lib.ListN.{length, take, drop}
+use lib.Bits.{bitAnd, bitXor}
 use lib.Dec.{ltb, eqb}
 use Rattle.laws.specs.Sums.{bit, count}
 use Rattle.laws.specs.Placement.{at, chosen, left, tabulate}
@@ -12,6 +13,10 @@ use Rattle.station.specs.Head.{taken}
 use Rattle.placing.specs.Limits.{inLimits}
 use Rattle.placing.specs.Table.{Cells}
 use Rattle.placing.specs.Plan.{placing, freeCount}
+
+-- the mask a without those of b
+abbrev pub without : ℕ → ℕ → ℕ
+without a b = bitXor a (bitAnd a b)
 
 -- the first d of those that pass a test: of jobs that need the same, "the earlier line first"
 abbrev pub firstOf : (ℕ → Bool) → ℕ → ℕ → Bool
@@ -33,9 +38,9 @@ pub record Served (t : List ℕ) (c : ℕ → ℕ) (d r : ℕ) : Type 0 where
 abbrev pub jobCell : ℕ → ℕ → ℕ → ℕ → ℕ → ℕ
 jobCell need rest first early late = cond (ltb (need - rest) first) early late
 
--- what job i writes, where arrays say all of that of each job
-abbrev pub jobCells : List ℕ → List ℕ → List ℕ → List ℕ → List ℕ → ℕ → ℕ
-jobCells c rest first early late i = jobCell (at c i) (at rest i) (at first i) (at early i) (at late i)
+-- what job i writes, where arrays say how many of its first slots are still due and what it writes there and after them
+abbrev pub dueCells : List ℕ → List ℕ → List ℕ → ℕ → ℕ
+dueCells due early late i = cond (ltb 0 (at due i)) (at early i) (at late i)
 
 -- u is t with the n cells from `start` on written: cell b of them is w b.
 pub record RowWritten (t u : List ℕ) (start n : ℕ) (w : ℕ → ℕ) : Type 0 where
@@ -48,6 +53,10 @@ pub record RowWritten (t u : List ℕ) (start n : ℕ) (w : ℕ → ℕ) : Type 
 abbrev pub emptied : (ℕ → Bool) → (ℕ → ℕ) → ℕ → ℕ
 emptied f t b = cond (f b) 0 (t b)
 
+-- the free ones of the n cells from `start` on are empty
+abbrev pub EmptyRow : List ℕ → ℕ → ℕ → (ℕ → Bool) → Type 0
+EmptyRow t start n f = (b : ℕ) → b < n → f b ≡ true → at t (start + b) ≡ 0
+
 -- the free bridges that a list of masks gives, one mask a slot
 abbrev pub freeIn : List ℕ → ℕ → ℕ → Bool
 freeIn masks s b = taken (at masks s) b
@@ -59,6 +68,10 @@ cellIn c x first early late i s = jobCell (at c i) (at (left c x s) i) (at first
 -- the cells of a lent table of so many bridges
 abbrev pub cellsIn : ℕ → List ℕ → Cells
 cellsIn bridges t s b = at t (s * bridges + b)
+
+-- from slot `clean` on the free cells of the frame are empty
+abbrev pub CleanFrom : ℕ → ℕ → ℕ → List ℕ → List ℕ → Type 0
+CleanFrom clean slots bridges masks t = (s : ℕ) → clean ≤ s → s < slots → EmptyRow t (s * bridges) bridges (freeIn masks s)
 
 -- The lent table after jobs were placed: by the rule in the cells of the frame, and "Cells past S × B are never changed".
 unfoldable pub placedIn : ℕ → ℕ → List ℕ → List ℕ → List ℕ → List ℕ → List ℕ → List ℕ → List ℕ

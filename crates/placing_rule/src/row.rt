@@ -5,32 +5,27 @@ use crate::masks::next_job;
 use crate::masks::without_lowest;
 use crate::masks::without_next;
 ghost use mathlib.Core.Path.{_≡_};
-ghost use Prim.Native.Nat.{ℕ, _+_, _-_, _≤_};
-ghost use lib.ListN.{length};
+ghost use mathlib.Core.Bool.{false};
+ghost use Prim.Native.Nat.{ℕ, _+_, _-_, _<_, _≤_};
+ghost use lib.ListN.{length, set};
 ghost use Rattle.laws.specs.Sums.{bit};
 ghost use Rattle.laws.specs.Placement.{at};
 ghost use Rattle.laws.specs.Cells.{slotCell};
 ghost use Rattle.station.specs.Head.{taken};
-ghost use Rattle.placing_rule.specs.Code.{jobCell, jobCells, RowWritten, emptied};
+ghost use Rattle.placing_rule.specs.Code.{dueCells, RowWritten, emptied, EmptyRow};
 
-// a - b, and 0 where b is the larger.
-fn less(a: u8, b: u8) -> u8
-    ensures { λ r. ⌜ r ≡ a - b ⌝ }
+// What job i writes next, `early[i]` as long as it has cells of that kind due, then `late[i]`; it then has one less due.
+fn next_cell(due: &mut [u8; 32], early: &[u16; 32], late: &[u16; 32], i: usize) -> u16
+    requires { ⌜ (i < 32) × (length (now due) ≡ 32) ⌝ }
+    ensures { λ r. ⌜ (r ≡ dueCells (now (due .entry)) (now (early .entry)) (now (late .entry)) i)
+        × (now (due .exit) ≡ set (now (due .entry)) i (at (now (due .entry)) i - 1)) ⌝ }
 {
-    if a <= b {
-        return 0;
+    let rest = due[i];
+    if rest == 0 {
+        return late[i];
     }
-    a - b
-}
-
-// What a job writes that still needs `left` slots of `need`: `early` in its first slots, `late` in the others.
-fn job_cell(need: u8, left: u8, first: u8, early: u16, late: u16) -> u16
-    ensures { λ r. ⌜ r ≡ jobCell need left first early late ⌝ }
-{
-    if less(need, left) < first {
-        return early;
-    }
-    late
+    due[i] = rest - 1;
+    early[i]
 }
 
 // Empties those bridges of the row that starts at `start` which are left in the mask; the others keep their cells.
@@ -51,38 +46,40 @@ fn empty_row(table: &mut [u16], start: usize, bridges: usize, mask: u8)
 }
 
 // Writes the row that starts at `start`: the free bridges in ascending order take what the chosen jobs write, in their order, or 0; the others keep their cells.
-// A chosen job that finds no free bridge writes nothing. Each chosen job then needs one slot less.
+// A chosen job that finds no free bridge writes nothing. Where the free bridges are empty already, none is emptied: `empties` is then false.
 pub fn write_row(
     table: &mut [u16],
     start: usize,
     bridges: usize,
     mask: u8,
     chosen: u32,
-    left: &mut [u8; 32],
-    needs: &[u8; 32],
-    first: &[u8; 32],
+    due: &mut [u8; 32],
     early: &[u16; 32],
     late: &[u16; 32],
+    empties: bool,
 )
-    requires { ⌜ (bridges ≤ 8) × (start + bridges ≤ length (now table)) × (length (now left) ≡ 32) ⌝ }
-    ensures { λ _. ⌜ RowWritten (now (table .entry)) (now (table .exit)) start bridges
-        (slotCell 32 (taken chosen) (taken mask)
-        (jobCells (now (needs .entry)) (now (left .entry)) (now (first .entry)) (now (early .entry)) (now (late .entry)))
-        (λ b. at (now (table .entry)) (start + b)))
-        × (length (now (left .exit)) ≡ 32) × ((i : ℕ) → at (now (left .exit)) i ≡ at (now (left .entry)) i - bit (taken chosen i)) ⌝ }
+    requires { ⌜ (bridges ≤ 8) × (start + bridges ≤ length (now table)) × (length (now due) ≡ 32) ⌝ }
+    ensures { λ _. ⌜ (length (now (table .exit)) ≡ length (now (table .entry))) × (length (now (due .exit)) ≡ 32)
+        × ((i : ℕ) → at (now (due .exit)) i ≡ at (now (due .entry)) i - bit (taken chosen i))
+        × ((empties ≡ false → EmptyRow (now (table .entry)) start bridges (taken mask))
+        → RowWritten (now (table .entry)) (now (table .exit)) start bridges
+        (slotCell 32 (taken chosen) (taken mask) (dueCells (now (due .entry)) (now (early .entry)) (now (late .entry)))
+        (λ b. at (now (table .entry)) (start + b)))) ⌝ }
 {
     let mut free = mask;
     let mut jobs = chosen;
     while 0 < jobs {
         let i = next_job(jobs);
-        let value = job_cell(needs[i], left[i], first[i], early[i], late[i]);
+        let value = next_cell(due, early, late, i);
         let b = next_free(free);
         if b < bridges {
             table[start + b] = value;
             free = without_next(free);
         }
-        left[i] = less(left[i], 1);
         jobs = without_lowest(jobs);
+    }
+    if !empties {
+        return;
     }
     empty_row(table, start, bridges, free);
 }

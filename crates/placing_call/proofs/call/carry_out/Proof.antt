@@ -16,6 +16,7 @@ use Rattle.placing_evict.proofs.Found.{valid-searchable}
 use Rattle.placing_check.proofs.Checking.{record-valid}
 use Rattle.placing_counts.proofs.Tried.{jobs-length}
 use Rattle.placing_call.proofs.Calling.{carried-refused, carried-taken}
+use Rattle.placing_call.proofs.Clean.{clean-from}
 use Rattle.placing_call.proofs.call.carry_out.Statement.{statement}
 use Rattle.placing_call.proofs.call.carry_out.Tie as tie
 
@@ -47,6 +48,9 @@ returns c =
 job-cells-requires : tie.Need-job-cells-requires
 job-cells-requires c κs = search needs
 
+past-evicted-requires : tie.Need-past-evicted-requires
+past-evicted-requires c κs = search needs
+
 place-requires : tie.Need-place-requires
 place-requires c κs = search needs
 
@@ -56,7 +60,9 @@ same-length-2 c = search needs
 returns-2 : tie.Need-returns-2
 returns-2 c =
     λ v long few inside.
-    let k = c .before .before .before .before in
+    let w = c .before .before in
+    let past = w .before .before in
+    let k = past .before in
     let f = k .before .before in
     let e = f .before .before in
     let s = e .before .before .before .before in
@@ -67,7 +73,8 @@ returns-2 c =
     (e .before .before .job-needs .result) (a .n) (k .job-cells .result)
     (in-limits (h .slots) (h .bridges) (a .n) (length (a .table .now)) (valid .slots-high) (valid .bridges-high) (omega (arith, few)) long)
     (e .before .before .job-needs .ensures (a .n) few inside)
-    (λ i l. k .job-cells .ensures (a .n) few inside i (omega (arith, l, jobs-length (a .jobs) (omega (arith, s)) (a .n) few))) (c .before .before .place .ensures)
+    (λ i l. k .job-cells .ensures (a .n) few inside i (omega (arith, l, jobs-length (a .jobs) (omega (arith, s)) (a .n) few))) (w .place .ensures (clean-from h (a .clock) (jobsIn (a .n) (a .jobs)) (a .table .now) (e .evict .result) (searched e v long few inside) (past .past-evicted .result)
+    (past .past-evicted .ensures)))
 
 pub carry-out-spec : {M : Type 1} → statement M
 carry-out-spec =
@@ -78,6 +85,7 @@ carry-out-spec =
     same-length
     returns
     job-cells-requires
+    past-evicted-requires
     place-requires
     same-length-2
     returns-2)

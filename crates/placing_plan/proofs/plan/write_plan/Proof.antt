@@ -43,7 +43,7 @@ returns c =
     let s = c .before .before .before .before .before .before .before .before .before .before .before .before .before .before in
     let a = s .args in
     let g = s .pre .2 in
-    c .before .before .place .ensures
+    c .before .before .place .ensures (λ z past inside b low free. absurd (omega (arith, past, inside)))
     ∙ plan-written (a .head) (a .presets) (omega arith) (s .pre .0) (a .granted) (g .granted) (s .pre .3) (a .table .now) (s .pre .1)
     (c .before .before .before .before .before .before .before .before .mark-busy .ensures) (g .free) (g .mandatory) (c .before .before .before .before .before .preset-cells .ensures)
     (c .before .before .before .before .preset-cells2 .ensures)

@@ -1,16 +1,14 @@
 -- `choose` meets its contract. The loop's invariant: of all needs that the levels may stand for, those above level l have been served. Assumes nothing.
 use Prim.Native.Nat.{ℕ, _≤_, _<_, _-_}
 use native.Mathlib.Omega.{arith}
-use mathlib.Core.Path.{_≡_}
+use mathlib.Core.Path.{_≡_, sym}
 use mathlib.Core.Logic.{inl, inr}
 use mathlib.Core.List.{List}
 use lib.ListN.{length, set, length-set}
-use lib.Bits.{bitAnd, bitOr, bitXor}
-use lib.Count.{ones}
+use lib.Bits.{bitOr, bitXor}
 use borrow.Author.Needs.{needs}
 use Rattle.laws.specs.Placement.{at}
 use Rattle.placing_rule.specs.Code.{Levelled}
-use Rattle.placing_rule.proofs.Bits.{first-count}
 use Rattle.placing_rule.proofs.Going.{Gone, gone-none, gone-empty, gone-more, gone-all}
 use Rattle.placing_rule.proofs.levels.choose.Statement.{statement}
 use Rattle.placing_rule.proofs.levels.choose.Tie as tie
@@ -25,15 +23,20 @@ abbrev μ-loop : tie.MeasureT-loop
 loop-holds : tie.Need-loop-holds Inv-loop μ-loop
 loop-holds c = let a = c .args in (omega arith, c .pre .1, λ n h most. gone-none n (a .d) (a .levels .now) (a .top) h most)
 
-returns : tie.Need-returns Inv-loop μ-loop
-returns c =
-    let l = c .before .before .loop in
-    let a = c .before .before .before .args in (
-      l .inv .1,
-      λ n h most.
-          let so-far = l .inv .2 n h most in
-          record { picks = gone-all n (a .d) (l .levels) (l .l) (l .rest) (l .served) (omega arith) so-far (inr (c .if1 .taken)); levels = so-far .levels },
-    )
+-- after the jobs of a level
+gone : (f : tie.After-first-of Inv-loop μ-loop)
+    → let l = f .before .before .before .loop in
+    let a = f .before .before .before .before .args in
+    let next = f .first-of .result .jobs in
+    let off = set (l .levels) (l .l) (bitXor (at (l .levels) (l .l)) next) in
+    (n : ℕ → ℕ) → Levelled (a .levels .now) n → ((i : ℕ) → i < 32 → n i ≤ a .top)
+    → Gone n (a .d) (set off (l .l - 1) (bitOr (at off (l .l - 1)) next)) (l .l - 1) (f .first-of .result .more) (bitOr (l .served) next)
+gone f n h most =
+    let l = f .before .before .before .loop in
+    let a = f .before .before .before .before .args in
+    let gave = f .first-of in
+    rw (sym (gave .ensures .2)) at (gone-more n (a .d) (l .levels) (l .l) (l .rest) (l .served) (omega arith) (l .inv .2 n h most) (omega arith) (gave .result .jobs)
+    (gave .ensures .0) (gave .ensures .1) (l .inv .1))
 
 mul-level : tie.Need-mul-level Inv-loop μ-loop
 mul-level c = omega arith
@@ -65,12 +68,22 @@ mul-levels-3 c = omega arith
 element-write-levels-2 : tie.Need-element-write-levels-2 Inv-loop μ-loop
 element-write-levels-2 c = omega arith
 
-sub-rest : tie.Need-sub-rest Inv-loop μ-loop
-sub-rest c =
-    let gave = c .before .first-of in
-    let l = c .before .before .before .before .before .loop in
-    let m = at (l .levels) (l .l) in
-    omega (arith, first-count (bitXor m (bitAnd m (l .served))) (l .rest) (gave .result) (gave .ensures .0) (gave .ensures .1))
+returns : tie.Need-returns Inv-loop μ-loop
+returns c =
+    let f = c .before .before in
+    let l = f .before .before .before .loop in
+    let a = f .before .before .before .before .args in
+    let next = f .first-of .result .jobs in
+    let off : List ℕ = set (l .levels) (l .l) (bitXor (at (l .levels) (l .l)) next) in
+    let moved : List ℕ = set off (l .l - 1) (bitOr (at off (l .l - 1)) next) in (
+      simp length-set (l .inv .1),
+      λ n h most.
+          let so-far = gone f n h most in
+          record {
+            picks = gone-all n (a .d) moved (l .l - 1) (f .first-of .result .more) (bitOr (l .served) next) (omega arith) so-far (inr (c .if1 .taken));
+            levels = so-far .levels;
+          },
+    )
 
 highest-requires : tie.Need-highest-requires Inv-loop μ-loop
 highest-requires c κs = omega arith
@@ -80,20 +93,17 @@ loop-less c = omega (arith, c .highest .ensures .0)
 
 loop-again : tie.Need-loop-again Inv-loop μ-loop
 loop-again c =
-    let gave = c .before .before .before .first-of in
-    let l = c .before .before .before .before .before .before .before .loop in
-    let a = c .before .before .before .before .before .before .before .before .args in
-    let level = at (l .levels) (l .l) in
-    let next = gave .result in
-    let off : List ℕ = set (l .levels) (l .l) (bitXor level next) in
+    let f = c .before .before .before .before in
+    let l = f .before .before .before .loop in
+    let a = f .before .before .before .before .args in
+    let next = f .first-of .result .jobs in
+    let off : List ℕ = set (l .levels) (l .l) (bitXor (at (l .levels) (l .l)) next) in
     let moved : List ℕ = set off (l .l - 1) (bitOr (at off (l .l - 1)) next) in (
       omega (arith, c .highest .ensures .0),
       simp length-set (l .inv .1),
       λ n h most.
-          let so-far = l .inv .2 n h most in
-          gone-empty n (a .d) moved (l .l - 1) (l .rest - ones next) (bitOr (l .served) next) (omega arith)
-          (gone-more n (a .d) (l .levels) (l .l) (l .rest) (l .served) (omega arith) so-far (omega arith) next (gave .ensures .0) (gave .ensures .1) (l .inv .1))
-          (c .highest .result) (c .highest .ensures .0) (c .highest .ensures .1),
+          gone-empty n (a .d) moved (l .l - 1) (f .first-of .result .more) (bitOr (l .served) next) (omega arith) (gone f n h most) (c .highest .result)
+          (c .highest .ensures .0) (c .highest .ensures .1),
     )
 
 returns-2 : tie.Need-returns-2 Inv-loop μ-loop
@@ -113,7 +123,6 @@ choose-spec =
     Inv-loop
     μ-loop
     loop-holds
-    returns
     mul-level
     element-copy-out-level
     first-of-requires
@@ -124,7 +133,7 @@ choose-spec =
     element-copy-out-levels
     mul-levels-3
     element-write-levels-2
-    sub-rest
+    returns
     highest-requires
     loop-less
     loop-again

@@ -1,26 +1,27 @@
--- `highest` meets its contract. The loop's invariant: nobody stands above l. Assumes nothing.
+-- `highest` meets its contract. The loop's invariant: nobody that is not served stands above l. Assumes nothing.
 use Prim.Native.Nat.{ℕ, _≤_, _<_}
 use native.Mathlib.Omega.{arith}
 use mathlib.Core.Path.{_≡_}
 use Rattle.laws.specs.Placement.{at}
+use Rattle.placing_rule.specs.Code.{without}
 use Rattle.placing_rule.proofs.ByLevel.{empty-more}
 use Rattle.placing_rule.proofs.levels.highest.Statement.{statement}
 use Rattle.placing_rule.proofs.levels.highest.Tie as tie
 
 abbrev Inv-loop : tie.InvT-loop
-Inv-loop levels from l₀ l = (l ≤ from) × ((q : ℕ) → l < q → q ≤ from → at levels q ≡ 0)
+Inv-loop levels from served l₀ l = (l ≤ from) × ((q : ℕ) → l < q → q ≤ from → without (at levels q) served ≡ 0)
 
 abbrev μ-loop : tie.MeasureT-loop
-μ-loop levels from l₀ l = l
+μ-loop levels from served l₀ l = l
 
 loop-holds : tie.Need-loop-holds Inv-loop μ-loop
 loop-holds c = (omega arith, λ q h k. absurd (omega (arith, h, k)))
 
-mul-if1 : tie.Need-mul-if1 Inv-loop μ-loop
-mul-if1 c = omega arith
+mul-level : tie.Need-mul-level Inv-loop μ-loop
+mul-level c = omega arith
 
-element-copy-out-if1 : tie.Need-element-copy-out-if1 Inv-loop μ-loop
-element-copy-out-if1 c = omega arith
+element-copy-out-level : tie.Need-element-copy-out-level Inv-loop μ-loop
+element-copy-out-level c = omega arith
 
 returns : tie.Need-returns Inv-loop μ-loop
 returns c = c .before .before .before .loop .inv
@@ -35,7 +36,7 @@ loop-again : tie.Need-loop-again Inv-loop μ-loop
 loop-again c =
     let l = c .before .before .before .loop in
     let a = c .before .before .before .before .args in
-    (omega arith, empty-more (a .levels .now) (a .from) (l .l) (c .if1 .left) (l .inv .1))
+    (omega arith, empty-more (a .levels .now) (a .served) (a .from) (l .l) (c .if1 .left) (l .inv .1))
 
 returns-2 : tie.Need-returns-2 Inv-loop μ-loop
 returns-2 c =
@@ -49,8 +50,8 @@ highest-spec =
     Inv-loop
     μ-loop
     loop-holds
-    mul-if1
-    element-copy-out-if1
+    mul-level
+    element-copy-out-level
     returns
     sub-l
     loop-less

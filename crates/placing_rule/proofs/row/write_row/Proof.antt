@@ -1,4 +1,4 @@
--- `write_row` meets its contract. The loop's invariant: the jobs before those in `jobs` have written their cells and need one slot less, and `free` has the
+-- `write_row` meets its contract. The loop's invariant: the jobs before those in `jobs` have written their cells and have one less due, and `free` has the
 -- bridges that are left. Assumes nothing.
 use Prim.Native.Nat.{ℕ, _<_, _-_}
 use native.Mathlib.Omega.{arith}
@@ -7,20 +7,23 @@ use mathlib.Core.Logic.{⊎-elim}
 use lib.Bits.{and-le-l, and-le-r}
 use lib.Count.{trailingZeros}
 use borrow.Author.Needs as author
+use Rattle.laws.specs.Sums.{bit}
+use Rattle.laws.specs.Placement.{at}
+use Rattle.laws.proofs.Every.{false-of-not}
 use Rattle.station.specs.Head.{taken}
-use Rattle.placing_rule.specs.Code.{jobCells}
+use Rattle.placing_rule.specs.Code.{dueCells}
 use Rattle.placing_rule.proofs.Mask.{none-below-lowest}
-use Rattle.placing_rule.proofs.Rows.{filled-none, filled-all}
+use Rattle.placing_rule.proofs.Rows.{RowFilled, filled-none, filled-all, filled-clean}
 use Rattle.placing_rule.proofs.Serving.{Serving, earliest, value-of, serving-none, serving-next, serving-full, serving-all}
 use Rattle.placing_rule.proofs.row.write_row.Statement.{statement}
 use Rattle.placing_rule.proofs.row.write_row.Tie as tie
 
 abbrev Inv-loop : tie.InvT-loop
-Inv-loop table₀ start bridges mask chosen left₀ needs first early late free₀ jobs₀ table left free jobs =
-    (free < 256) × Serving table₀ start bridges chosen (taken mask) (jobCells needs left₀ first early late) left₀ table free jobs left
+Inv-loop table₀ start bridges mask chosen due₀ early late empties free₀ jobs₀ table due free jobs =
+    (free < 256) × Serving table₀ start bridges chosen (taken mask) (dueCells due₀ early late) due₀ table free jobs due
 
 abbrev μ-loop : tie.MeasureT-loop
-μ-loop table₀ start bridges mask chosen left₀ needs first early late free₀ jobs₀ table left free jobs = jobs
+μ-loop table₀ start bridges mask chosen due₀ early late empties free₀ jobs₀ table due free jobs = jobs
 
 -- the next job is one of the 32
 job : (c : tie.After-next-job Inv-loop μ-loop) → c .next-job .result < 32
@@ -32,38 +35,17 @@ loop-holds : tie.Need-loop-holds Inv-loop μ-loop
 loop-holds c =
     let a = c .before .args in
     let t = a .table .now in
-    let v = jobCells (a .needs .now) (a .left .now) (a .first .now) (a .early .now) (a .late .now) in (
+    let v = dueCells (a .due .now) (a .early .now) (a .late .now) in (
       omega arith,
-      serving-none t (a .start) (a .bridges) (a .chosen) (taken (a .mask)) v (a .left .now) (search author.needs) (c .before .pre .2) t (a .mask)
+      serving-none t (a .start) (a .bridges) (a .chosen) (taken (a .mask)) v (a .due .now) (search author.needs) (c .before .pre .2) t (a .mask)
           (filled-none t (a .start) (a .bridges) (taken (a .chosen)) (taken (a .mask)) v),
     )
 
 next-job-requires : tie.Need-next-job-requires Inv-loop μ-loop
 next-job-requires c κs = search author.needs
 
-element-copy-out-job-cell : tie.Need-element-copy-out-job-cell Inv-loop μ-loop
-element-copy-out-job-cell c = omega (arith, job c)
-
-element-copy-out-job-cell-2 : tie.Need-element-copy-out-job-cell-2 Inv-loop μ-loop
-element-copy-out-job-cell-2 c = omega (arith, job (c .before))
-
-element-copy-out-job-cell-3 : tie.Need-element-copy-out-job-cell-3 Inv-loop μ-loop
-element-copy-out-job-cell-3 c = omega (arith, job (c .before .before))
-
-mul-job-cell : tie.Need-mul-job-cell Inv-loop μ-loop
-mul-job-cell c = omega (arith, job (c .before .before .before))
-
-element-copy-out-job-cell-4 : tie.Need-element-copy-out-job-cell-4 Inv-loop μ-loop
-element-copy-out-job-cell-4 c = omega (arith, job (c .before .before .before))
-
-mul-job-cell-2 : tie.Need-mul-job-cell-2 Inv-loop μ-loop
-mul-job-cell-2 c = omega (arith, job (c .before .before .before .before))
-
-element-copy-out-job-cell-5 : tie.Need-element-copy-out-job-cell-5 Inv-loop μ-loop
-element-copy-out-job-cell-5 c = omega (arith, job (c .before .before .before .before))
-
-job-cell-requires : tie.Need-job-cell-requires Inv-loop μ-loop
-job-cell-requires c κs = search author.needs
+next-cell-requires : tie.Need-next-cell-requires Inv-loop μ-loop
+next-cell-requires c κs = (job (c .before), c .before .before .before .loop .inv .1 .long)
 
 next-free-requires : tie.Need-next-free-requires Inv-loop μ-loop
 next-free-requires c κs = search author.needs
@@ -80,73 +62,92 @@ slice-write-table c = omega arith
 without-next-requires : tie.Need-without-next-requires Inv-loop μ-loop
 without-next-requires c κs = search author.needs
 
-element-copy-out-less : tie.Need-element-copy-out-less Inv-loop μ-loop
-element-copy-out-less c = omega (arith, job (c .before .before .before .before .before .before .before .before))
-
-less-requires : tie.Need-less-requires Inv-loop μ-loop
-less-requires c κs = search author.needs
-
-element-write-left : tie.Need-element-write-left Inv-loop μ-loop
-element-write-left c = omega (arith, job (c .before .before .before .before .before .before .before .before .before .before))
-
 without-lowest-requires : tie.Need-without-lowest-requires Inv-loop μ-loop
 without-lowest-requires c κs = search author.needs
 
 loop-less : tie.Need-loop-less Inv-loop μ-loop
 loop-less c =
-    let l = c .before .before .before .before .before .before .before .before .before .before .before .before .before .loop in
+    let l = c .before .before .before .before .before .before .before .loop in
     omega (arith, c .without-lowest .ensures, and-le-r (l .jobs) (l .jobs - 1))
 
 loop-again : tie.Need-loop-again Inv-loop μ-loop
 loop-again c =
-    let lessened = c .before in
-    let joined = lessened .before .before in
+    let joined = c .before in
     let free = joined .before in
     let cell = free .before in
-    let next = cell .before .before .before .before .before .before in
+    let next = cell .before .before in
     let l = next .before .before .loop in
     let a = next .before .before .before .before .args in
     let t = a .table .now in
-    let v : ℕ → ℕ = jobCells (a .needs .now) (a .left .now) (a .first .now) (a .early .now) (a .late .now) in
+    let v : ℕ → ℕ = dueCells (a .due .now) (a .early .now) (a .late .now) in
     let some = next .before .loop-test .taken in
     let here : next .next-job .result ≡ trailingZeros 32 (l .jobs) = next .next-job .ensures in
-    let value : cell .job-cell .result ≡ v (trailingZeros 32 (l .jobs)) =
-    value-of t (a .start) (a .bridges) (a .chosen) (taken (a .mask)) v (a .left .now) (l .table) (l .free) (l .jobs) (l .left) (l .inv .1) some
-    (a .needs .now) (a .first .now) (a .early .now) (a .late .now) (next .next-job .result) here (cell .job-cell .result) (cell .job-cell .ensures) in
+    let value : cell .next-cell .result ≡ v (trailingZeros 32 (l .jobs)) =
+    value-of t (a .start) (a .bridges) (a .chosen) (taken (a .mask)) v (a .due .now) (l .table) (l .free) (l .jobs) (l .due) (l .inv .1) some
+    (a .early .now) (a .late .now) (next .next-job .result) here (cell .next-cell .result) (cell .next-cell .ensures .0) in
     ⊎-elim
     (λ w. (
       omega (arith, w .3, w .1 .ensures, and-le-l (l .free) (l .free - 1)),
-      rw (w .2, w .3, w .1 .ensures, c .without-lowest .ensures, lessened .less .ensures, here)
-          (serving-next t (a .start) (a .bridges) (a .chosen) (taken (a .mask)) v (a .left .now) (l .table) (l .free) (l .jobs) (l .left) (l .inv .1) some
-          (l .inv .0) (free .next-free .result) (free .next-free .ensures) (w .0 .taken) (omega arith) (omega arith) (cell .job-cell .result) value),
+      rw (w .2, w .3, w .1 .ensures, c .without-lowest .ensures, cell .next-cell .ensures .1, here)
+          (serving-next t (a .start) (a .bridges) (a .chosen) (taken (a .mask)) v (a .due .now) (l .table) (l .free) (l .jobs) (l .due) (l .inv .1) some
+          (l .inv .0) (free .next-free .result) (free .next-free .ensures) (w .0 .taken) (omega arith) (omega arith) (cell .next-cell .result) value),
     ))
     (λ w. (
       omega (arith, w .2),
-      rw (w .1, w .2, c .without-lowest .ensures, lessened .less .ensures, here)
-          (serving-full t (a .start) (a .bridges) (a .chosen) (taken (a .mask)) v (a .left .now) (l .table) (l .free) (l .jobs) (l .left) (l .inv .1) some
+      rw (w .1, w .2, c .without-lowest .ensures, cell .next-cell .ensures .1, here)
+          (serving-full t (a .start) (a .bridges) (a .chosen) (taken (a .mask)) v (a .due .now) (l .table) (l .free) (l .jobs) (l .due) (l .inv .1) some
           (λ b h. none-below-lowest 8 (l .free) (l .inv .0) b (let over = w .0 .left in omega (arith, h, over, free .next-free .ensures)))),
     ))
     (joined .if1 .came)
 
-empty-row-requires : tie.Need-empty-row-requires Inv-loop μ-loop
-empty-row-requires c κs = let l = c .before .before .loop in (omega arith, omega (arith, l .inv .1 .row .row .long))
+-- the row after all jobs, and what is due then
+served : (c : tie.After-loop Inv-loop μ-loop)
+    → let l = c .before .loop in
+    let a = c .before .before .before .args in
+    RowFilled (a .table .now) (a .start) (a .bridges) (taken (a .chosen)) (taken (a .mask)) (dueCells (a .due .now) (a .early .now) (a .late .now)) (l .table) (taken (l .free)) 32
+    × ((i : ℕ) → at (l .due) i ≡ at (a .due .now) i - bit (taken (a .chosen) i))
+served c =
+    let l = c .before .loop in
+    let a = c .before .before .before .args in
+    let end : l .jobs ≡ 0 = omega arith in
+    serving-all (a .table .now) (a .start) (a .bridges) (a .chosen) (taken (a .mask)) (dueCells (a .due .now) (a .early .now) (a .late .now)) (a .due .now) (l .table) (l .free)
+    (l .due) (rw end at (l .inv .1))
 
 same-length : tie.Need-same-length Inv-loop μ-loop
-same-length c = c .before .before .empty-row .ensures .long ∙ c .before .before .before .before .before .loop .inv .1 .row .row .long
+same-length c = c .before .before .loop .inv .1 .row .row .long
 
 returns : tie.Need-returns Inv-loop μ-loop
 returns c =
-    let emptied = c .before .before in
-    let l = emptied .before .before .before .loop in
-    let a = emptied .before .before .before .before .before .args in
-    let t = a .table .now in
-    let v : ℕ → ℕ = jobCells (a .needs .now) (a .left .now) (a .first .now) (a .early .now) (a .late .now) in
-    let end : l .jobs ≡ 0 = omega arith in
-    let all = serving-all t (a .start) (a .bridges) (a .chosen) (taken (a .mask)) v (a .left .now) (l .table) (l .free) (l .left) (rw end at (l .inv .1)) in (
-      filled-all t (a .start) (a .bridges) (taken (a .chosen)) (taken (a .mask)) v 32 (l .table) (taken (l .free)) (all .0)
-          (emptied .empty-row .last .0) (emptied .empty-row .ensures),
+    let l = c .before .before .loop in
+    let a = c .before .before .before .before .args in
+    let all = served (c .before) in (
+      l .inv .1 .row .row .long,
       l .inv .1 .long,
       all .1,
+      λ clean.
+          filled-clean (a .table .now) (a .start) (a .bridges) (taken (a .chosen)) (taken (a .mask)) (dueCells (a .due .now) (a .early .now) (a .late .now)) 32
+          (l .table) (taken (l .free)) (all .0) (clean (false-of-not _ (c .if2 .taken))),
+    )
+
+empty-row-requires : tie.Need-empty-row-requires Inv-loop μ-loop
+empty-row-requires c κs = let l = c .before .before .before .loop in (omega arith, omega (arith, l .inv .1 .row .row .long))
+
+same-length-2 : tie.Need-same-length-2 Inv-loop μ-loop
+same-length-2 c = c .before .before .empty-row .ensures .long ∙ c .before .before .before .before .before .before .loop .inv .1 .row .row .long
+
+returns-2 : tie.Need-returns-2 Inv-loop μ-loop
+returns-2 c =
+    let emptied = c .before .before in
+    let done = emptied .before .before .before in
+    let l = done .before .loop in
+    let a = done .before .before .before .args in
+    let all = served done in (
+      emptied .empty-row .ensures .long ∙ l .inv .1 .row .row .long,
+      l .inv .1 .long,
+      all .1,
+      λ clean.
+          filled-all (a .table .now) (a .start) (a .bridges) (taken (a .chosen)) (taken (a .mask)) (dueCells (a .due .now) (a .early .now) (a .late .now)) 32
+          (l .table) (taken (l .free)) (all .0) (emptied .empty-row .last .0) (emptied .empty-row .ensures),
     )
 
 pub write-row-spec : {M : Type 1} → statement M
@@ -157,25 +158,17 @@ write-row-spec =
     μ-loop
     loop-holds
     next-job-requires
-    element-copy-out-job-cell
-    element-copy-out-job-cell-2
-    element-copy-out-job-cell-3
-    mul-job-cell
-    element-copy-out-job-cell-4
-    mul-job-cell-2
-    element-copy-out-job-cell-5
-    job-cell-requires
+    next-cell-requires
     next-free-requires
     add-table
     mul-table
     slice-write-table
     without-next-requires
-    element-copy-out-less
-    less-requires
-    element-write-left
     without-lowest-requires
     loop-less
     loop-again
-    empty-row-requires
     same-length
-    returns)
+    returns
+    empty-row-requires
+    same-length-2
+    returns-2)
