@@ -9,7 +9,7 @@ use lib.ListN.{length, getD, set, take, replicate}
 use lib.Bits.{bitOr}
 use lib.Dec.{ltb, leb, eqb}
 use lib.Count as digits
-use Rattle.laws.specs.Sums.{sum, only, greatest, position}
+use Rattle.laws.specs.Sums.{sum, only, count, greatest, position}
 use Rattle.laws.specs.Placement.{at, before, capacity, excess}
 use Rattle.laws.specs.Eviction.{put, ones}
 use Rattle.station.specs.Head.{Head, Job}
@@ -69,6 +69,10 @@ emptyMask t from n = bridgeMask n (emptyIn t from)
 -- The mask of the empty cells of a slot, where nothing before the clock is free: "A call uses slots from the clock on."
 unfoldable pub slotMask : List ℕ → ℕ → ℕ → ℕ → ℕ
 slotMask t bridges clock s = only (usable clock s) (emptyMask t (s * bridges) bridges)
+
+-- for 0 to 8 the list has how many of n slots have so many of the free cells x
+abbrev pub ByFree : List ℕ → ℕ → (ℕ → ℕ) → Type 0
+ByFree l n x = (f : ℕ) → f < 9 → getD l f 0 ≡ count n (λ s. eqb f (x s))
 
 -- By how much sums of the longest jobs exceed the capacities for 0 to k of the free cells x of n slots, at the worst. Where `sums` has the sums of the
 -- r longest of k jobs this is `excess`.
