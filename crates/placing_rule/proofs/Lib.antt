@@ -2,6 +2,7 @@
 pub mod Mask
 pub mod Chosen
 pub mod Rows
+pub mod Emptying
 pub mod Bits
 pub mod ByLevel
 pub mod Going

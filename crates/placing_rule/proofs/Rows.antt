@@ -91,40 +91,6 @@ module _ (t : List ℕ) (start : ℕ) (w : ℕ → ℕ) where
   pub row-as-it-was : (n : ℕ) → ((b : ℕ) → b < n → at t (start + b) ≡ w b) → RowWritten t t start n w
   row-as-it-was n h = record { long = refl; inside = h; before = λ i l. refl; after = λ i l. refl }
 
-  pub row-none : RowWritten t t start 0 w
-  row-none = row-as-it-was 0 (λ b h. absurd (omega arith))
-
-  module _ (u : List ℕ) (n : ℕ) (done : RowWritten t u start n w) where
-    -- the next cell keeps what it held
-    pub row-kept : at t (start + n) ≡ w n → RowWritten t u start (n + 1) w
-    row-kept e =
-        record {
-          long = done .long;
-          inside = λ b h. go b h (is (eqb b n));
-          before = done .before;
-          after = λ i h. done .after i (omega arith);
-        }
-      where
-        go : (b : ℕ) → b < n + 1 → Is (eqb b n) → at u (start + b) ≡ w b
-        go b h (is-true q) = rw (eq-of b n q) (done .after (start + n) (omega arith) ∙ e)
-        go b h (is-false q) = let other : b ≡ n → ⊥ = ne-of b n q in done .inside b (omega arith)
-
-    -- the next cell is stored
-    pub row-stored : (x : ℕ) → start + n < length t → x ≡ w n → RowWritten t (set u (start + n) x) start (n + 1) w
-    row-stored x short e =
-        record {
-          long = length-set u (start + n) x ∙ done .long;
-          inside = λ b h. go b h (is (eqb b n));
-          before = λ i h. getD-set-other u (start + n) i x 0 (λ q. omega arith) ∙ done .before i h;
-          after = λ i h. getD-set-other u (start + n) i x 0 (λ q. omega arith) ∙ done .after i (omega arith);
-        }
-      where
-        go : (b : ℕ) → b < n + 1 → Is (eqb b n) → at (set u (start + n) x) (start + b) ≡ w b
-        go b h (is-true q) = rw (eq-of b n q) (getD-set-same u (start + n) x 0 (omega (arith, done .long)) ∙ e)
-        go b h (is-false q) =
-            let other : b ≡ n → ⊥ = ne-of b n q in
-            getD-set-other u (start + n) (start + b) x 0 (λ z. other (omega arith)) ∙ done .inside b (omega arith)
-
   -- the cells under another name
   pub row-same : (u : List ℕ) (n : ℕ) (w′ : ℕ → ℕ) → RowWritten t u start n w → ((b : ℕ) → b < n → w b ≡ w′ b) → RowWritten t u start n w′
   row-same u n w′ done e =

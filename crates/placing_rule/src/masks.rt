@@ -6,14 +6,6 @@ ghost use lib.Count.{trailingZeros};
 ghost use Rattle.laws.specs.Sums.{count};
 ghost use Rattle.station.specs.Head.{taken};
 
-// Whether bridge b of the mask is free.
-pub fn is_free(mask: u8, b: usize) -> bool
-    requires { ⌜ b < 8 ⌝ }
-    ensures { λ r. ⌜ r ≡ taken mask b ⌝ }
-{
-    (mask >> b) % 2 == 1
-}
-
 // A mask as a wider number, since 2^8 is no u8: a function, so that a caller has no cast to prove.
 fn widened(mask: u8) -> u16
     ensures { λ r. ⌜ (r ≡ mask) × (r < 256) ⌝ }

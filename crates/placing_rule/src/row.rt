@@ -1,5 +1,4 @@
 // One slot's row of the table: what each job writes there, who takes which free bridge, and the row itself.
-use crate::masks::is_free;
 use crate::masks::next_free;
 use crate::masks::next_job;
 use crate::masks::without_lowest;
@@ -28,20 +27,20 @@ fn next_cell(due: &mut [u8; 32], early: &[u16; 32], late: &[u16; 32], i: usize) 
     early[i]
 }
 
-// Empties those bridges of the row that starts at `start` which are left in the mask; the others keep their cells.
+// Empties those bridges of the row that starts at `start` which are left in the mask; the others keep their cells. In most slots the jobs have taken every free bridge,
+// so that it goes from one bridge of the mask to the next.
 fn empty_row(table: &mut [u16], start: usize, bridges: usize, mask: u8)
     requires { ⌜ (bridges ≤ 8) × (start + bridges ≤ length (now table)) ⌝ }
     ensures { λ _. ⌜ RowWritten (now (table .entry)) (now (table .exit)) start bridges
         (emptied (taken mask) (λ b. at (now (table .entry)) (start + b))) ⌝ }
 {
-    // In most slots the jobs have taken every free bridge.
-    if mask == 0 {
-        return;
-    }
-    for b in 0..bridges {
-        if is_free(mask, b) {
+    let mut rest = mask;
+    while 0 < rest {
+        let b = next_free(rest);
+        if b < bridges {
             table[start + b] = 0;
         }
+        rest = without_next(rest);
     }
 }
 
