@@ -104,6 +104,8 @@ fn write_plan(head: Head, presets: [Preset; 32], table: &mut [u16], granted: Gra
     mark_busy(table, slots * bridges);
     let early = preset_cells(presets, count, MANDATORY);
     let late = preset_cells(presets, count, OPTIONAL);
+    // No free cell is empty yet: the busy cells stand in all of them.
+    let clean = slots;
     place(
         table,
         slots,
@@ -114,7 +116,7 @@ fn write_plan(head: Head, presets: [Preset; 32], table: &mut [u16], granted: Gra
         first,
         early,
         late,
-        slots,
+        clean,
     );
 }
 
