@@ -1,11 +1,11 @@
 -- The entries on the running frame, law by law.
 --
--- In order: what is asked for on a frame that meets no cause (`asked-stopped`, `asked-carried`); a clock, a law for each answer; an event line as it was read,
+-- In order: what is asked for on a frame that meets no cause (`asked-stopped`, `asked-carried`); a clock, a law for each answer, and the counts that it leaves (`clock-counts`); an event line as it was read,
 -- a law for what each asks (`line-clock`, `line-place`, `line-fault`), and that it is what the line asks for (`asked-read`); the causes of the frame
 -- (`frame-passes`); where none is met, a line and a clock come to what the event does (`line-event`, `line-done`, `clock-done`); a law for
 -- each answer of an entry; the frame afterwards (`done-running`).
 -- Assumes nothing.
-use Prim.Native.Nat.{ℕ, zero, suc, _-_, _≤_, _<_}
+use Prim.Native.Nat.{ℕ, zero, suc, _+_, _-_, _≤_, _<_}
 use native.Mathlib.Omega.{arith}
 use mathlib.Core.Path.{_≡_, refl, sym, _∙_, ap}
 use mathlib.Core.Bool.{true, false, not}
@@ -13,8 +13,8 @@ use mathlib.Core.Option.{Option, none, some}
 use mathlib.Core.List.{List, [], _∷_, _++_}
 use lib.ListN.{length}
 use lib.Dec.{ltb, leb}
-use Rattle.laws.proofs.Sums.{Is, is, is-true, is-false, clash, gt-of, le-of, leb-no, ltb-yes, ltb-no, both, left-of, right-of}
-use Rattle.laws.proofs.Every.{not-is-true, not-is-false}
+use Rattle.laws.proofs.Sums.{Is, is, is-true, is-false, clash, gt-of, le-of, ge-of, leb-no, ltb-yes, ltb-no, both, left-of, right-of}
+use Rattle.laws.proofs.Every.{not-is-true, not-is-false, true-of-not}
 use Rattle.laws.proofs.Loops.{fails-left, fails-right}
 use Rattle.station.specs.Head.{Head, Job, within}
 use Rattle.station.specs.Refusal.{Refusal, outOfLimits, clockBack, firstOf}
@@ -22,7 +22,7 @@ use Rattle.station.specs.Form.{Form, frameLine, busyLine, presetLine, clockLine
 use Rattle.station_scan.specs.Numeral.{seen}
 use Rattle.station_scan.specs.Jobs.{padded}
 use Rattle.station_forms.specs.Event.{jobInLimits, jobsInLimits, callInLimits, eventIn}
-use Rattle.station.specs.Types.{headIn, refusalIn}
+use Rattle.station.specs.Types.{headIn, validRecord, refusalIn}
 use Rattle.station.specs.declared.types.Preset as record-of-preset
 use Rattle.station.specs.declared.types.Head as record-of-head
 use Rattle.station.specs.declared.types.Refusal as refusal
@@ -30,12 +30,14 @@ use Rattle.station.specs.declared.types.Refusal.the-variants.{OutOfLimits, Cloc
 use Rattle.station_forms.specs.declared.events.Event as read
 use Rattle.station_forms.specs.declared.events.Event.the-variants.{SetClock, Place, Fault}
 use Rattle.station_forms.specs.declared.events.EventRead.{EventRead}
-use Rattle.station.proofs.Refusal.{passed, first-of-none, append-none, append-some, left-none}
+use Rattle.station.proofs.Refusal.{passed, first-of-none, first-none, append-none, append-some, left-none}
 use Rattle.station.proofs.Head.{within-high, of-within}
 use Rattle.placing_check.specs.declared.cause.Cause as cause
 use Rattle.placing_check.specs.declared.cause.Cause.the-variants.{Met, Passed}
 use Rattle.placing_call.specs.declared.call.CallAnswer as reply
+use Rattle.placing.specs.Table.{cell}
 use Rattle.placing.specs.Valid.{jobAt}
+use Rattle.placing.specs.Limits.{inLimits}
 use Rattle.placing.specs.CallJobs.{jobsIn}
 use Rattle.placing.specs.Entries.{frameCauses, jobsOutside, CallOutcome, callOf}
 use Rattle.placing_check.specs.Causes.{causesOf}
@@ -45,7 +47,10 @@ use Rattle.placing.specs.Claims.{Running}
 use Rattle.placing.proofs.Causes.{met, jobs-inside}
 use Rattle.placing_check.proofs.Checking.{record-valid}
 use Rattle.placing_check.proofs.Tried.{eleven, frame-known, same-frame}
+use Rattle.placing.proofs.Bounds.{in-limits}
+use Rattle.placing_counts.specs.Counts.{CountsOf, CapacitiesAt}
 use Rattle.placing_counts.proofs.Tried.{call-jobs}
+use Rattle.placing_counts.proofs.After.{counts-passed}
 use Rattle.frame.specs.declared.types.Answer.the-variants.{Now, Refused}
 use Rattle.frame.specs.declared.types.Outcome as result
 use Rattle.frame.specs.Event.{Event, line, clock, call, Asked, setClock, place, fault, askedByForm, asked, now, refused, State, Outcome}
@@ -143,6 +148,31 @@ module _ (slots c t : ℕ) where
 
     pub clock-set : c ≤ t → ClockDone slots c t (record { answer = Now t; clock = t })
     clock-set l = let z = clock-moved (clock-after inside l) in record { answer = sym (z .0); clock = sym (z .1) }
+
+-- the clock that is left is not below the present one, and within the frame or just past it
+clock-within : (slots c t : ℕ) → c ≤ suc slots → (c ≤ clockAfter slots c t) × (clockAfter slots c t ≤ suc slots)
+clock-within slots c t high = go (firstOf (clockCauses slots c t)) refl
+  where
+    go : (o : Option Refusal) → firstOf (clockCauses slots c t) ≡ o → (c ≤ clockAfter slots c t) × (clockAfter slots c t ≤ suc slots)
+    go none e =
+        let z = clock-moved slots c t e .1 in
+        let two = first-none outOfLimits (not (within 1 (suc slots) t)) _ e in
+        let six = first-none clockBack (ltb t c) [] (two .1) .0 in
+        (omega (arith, z, ge-of t c six), omega (arith, z, within-high 1 (suc slots) t (true-of-not (within 1 (suc slots) t) (two .0))))
+    go (some r) e = let z = clock-stopped slots c t r e .1 in (omega (arith, z), omega (arith, z))
+
+-- so the counts are those of the clock that is left, where its slots are taken off the capacities
+pub clock-counts : (head : record-of-head.Head) (ps : List record-of-preset.Preset) (c n : ℕ) (t : List ℕ) {r : result.Outcome} {marks xs ys : List ℕ} {held : ℕ}
+    → ClockDone (head .slots) c n r → validRecord head ps ≡ true → Running (headIn head ps) c t → CountsOf (headIn head ps) c (cell (headIn head ps) t) marks held xs
+    → (inLimits (head .slots) (head .bridges) 0 (length t) ≡ true → 1 ≤ c → c ≤ r .clock → r .clock ≤ head .slots + 1
+    → CapacitiesAt t (head .slots) (head .bridges) c xs → CapacitiesAt t (head .slots) (head .bridges) (r .clock) ys)
+    → CountsOf (headIn head ps) (r .clock) (cell (headIn head ps) t) marks held ys
+clock-counts head ps c n t {r} d v run was passed =
+    let valid = record-valid head ps v in
+    let moved = clock-within (head .slots) c n (run .clock-high) in
+    counts-passed (headIn head ps) c (r .clock) t was
+    (passed (in-limits (head .slots) (head .bridges) 0 (length t) (valid .slots-high) (valid .bridges-high) (omega arith) (run .long)) (run .clock-low)
+    (omega (arith, d .clock, moved .0)) (omega (arith, d .clock, moved .1)))
 
 -- ---- an event line as it was read
 

@@ -3,7 +3,7 @@ use frame::types::Answer;
 use frame::types::Outcome;
 use placing_call::call::CallAnswer;
 use placing_call::call::call_by_counts;
-use placing_counts::counts::Counts;
+use placing_counts::counts::pass_slots;
 use station::types::Head;
 use station::types::Preset;
 use station::types::Refusal;
@@ -64,27 +64,52 @@ fn call_outcome(answer: CallAnswer, clock: usize) -> Outcome
     }
 }
 
-// An event line on a running frame, by what it asks for alone: its clock is set, its call placed by the counts of the table and the clock, or its fault handed back. It is a
-// part of `event_by_value` and of the loop over a text's lines: they have tried the frame's own causes, and the loop keeps the counts between events.
+// An event line on a running frame, by what it asks for alone: its clock is set, its call placed by the counts of the table and the clock, or its fault handed back. The
+// counts afterwards are those of what it leaves. It is a part of `event_by_value` and of the loop over a text's lines: they have tried the frame's own causes, and the loop
+// keeps the counts between events.
 pub fn event_by_counts(
     head: Head,
     presets: [Preset; 32],
     table: &mut [u16],
     clock: usize,
-    counts: Counts,
+    used: &mut [u8; 256],
+    held: &mut usize,
+    capacities: &mut [usize; 9],
     line: &[u8],
 ) -> Outcome
     ensures { λ r. ⌜ (validRecord head presets ≡ true → Running (headIn head presets) clock (now (table .entry))
-        → CountsOf (headIn head presets) clock (cell (headIn head presets) (now (table .entry))) counts
-        → Yields (lineMeant head presets (stateOf (now (table .entry)) clock) (now (line .entry))) (now (table .exit)) r) ⌝ }
+        → CountsOf (headIn head presets) clock (cell (headIn head presets) (now (table .entry))) (now (used .entry)) (now (held .entry)) (now (capacities .entry))
+        → Yields (lineMeant head presets (stateOf (now (table .entry)) clock) (now (line .entry))) (now (table .exit)) r
+        × CountsOf (headIn head presets) (r .clock) (cell (headIn head presets) (now (table .exit))) (now (used .exit)) (now (held .exit)) (now (capacities .exit))) ⌝ }
 {
     let read = read_event(line);
     let event = read.event;
     let jobs = read.jobs;
     match event {
-        Event::SetClock(t) => asked_clock(head.slots, clock, t as usize),
+        Event::SetClock(t) => {
+            let done = asked_clock(head.slots, clock, t as usize);
+            pass_slots(
+                head.slots,
+                head.bridges,
+                table,
+                clock,
+                done.clock,
+                capacities,
+            );
+            done
+        }
         Event::Place(n) => {
-            let answer = call_by_counts(head, presets, table, clock, jobs, n, counts);
+            let answer = call_by_counts(
+                head,
+                presets,
+                table,
+                clock,
+                jobs,
+                n,
+                used,
+                held,
+                capacities,
+            );
             call_outcome(answer, clock)
         }
         Event::Fault(cause) => Outcome {

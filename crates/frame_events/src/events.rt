@@ -35,5 +35,17 @@ pub fn event_by_value(
         };
     }
     let counts = counts_of(head, presets, table, clock);
-    event_by_counts(head, presets, table, clock, counts, line)
+    let mut used = counts.used;
+    let mut held = counts.jobs;
+    let mut capacities = counts.capacities;
+    event_by_counts(
+        head,
+        presets,
+        table,
+        clock,
+        &mut used,
+        &mut held,
+        &mut capacities,
+        line,
+    )
 }

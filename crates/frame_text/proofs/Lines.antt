@@ -1,17 +1,15 @@
 -- The loop over the lines of a text after its head: what holds between two lines, and at the end.
 --
--- In order: between two lines (`AtEvent`, `at-first`); at a line (`line-inside`, `line-bytes`), what it leaves of the counts (`counts-kept`), and after it (`at-next`); no line is left (`at-end`).
+-- In order: between two lines (`AtEvent`, `at-first`); at a line (`line-inside`, `line-bytes`), and after it (`at-next`); no line is left (`at-end`).
 -- Assumes nothing.
 use Prim.Native.Nat.{ℕ, suc, _+_, _≤_, _<_}
 use native.Mathlib.Omega.{arith}
 use native.Mathlib.Numerals.{add-one}
 use mathlib.Core.Path.{_≡_, refl, sym, _∙_, ap, subst}
-use mathlib.Core.Bool.{true, false}
+use mathlib.Core.Bool.{true}
 use mathlib.Core.Option.{none}
 use mathlib.Core.List.{List, [], _∷_, _++_, map}
 use lib.ListN.{length, drop, length-drop}
-use Rattle.laws.proofs.Sums.{clash, eq-of}
-use Rattle.laws.proofs.Every.{true-of-not}
 use Rattle.station.specs.Head.{Head}
 use Rattle.station_scan.specs.Line.{lineOf}
 use Rattle.station.specs.Refusal.{firstOf}
@@ -24,16 +22,14 @@ use Rattle.station_output.proofs.Wrote.{left-all, left-wrote, left-none}
 use Rattle.placing_check.specs.Causes.{frameCausesOf}
 use Rattle.placing.specs.Table.{cell}
 use Rattle.placing.specs.Claims.{Running}
-use Rattle.placing_counts.specs.declared.counts.Counts.{Counts}
 use Rattle.placing_counts.specs.Counts.{CountsOf}
 use Rattle.frame.specs.declared.types.Outcome as result
 use Rattle.frame.specs.Event.{Event, line, Answer, State, Outcome, eventOf, runOf}
 use Rattle.frame.specs.Types.{answerIn}
 use Rattle.frame.specs.Listing.{answerLine, answerLines}
 use Rattle.frame_events.specs.Running.{stateOf, Yields, lineMeant}
-use Rattle.frame_text.specs.Lines.{moves, LinesStart, eventsFrom, linesRun, RanLines}
-use Rattle.frame.specs.Demands.{EventIs, stopped, clockSet, placed}
-use Rattle.frame.proofs.Event.{event-is, event-running}
+use Rattle.frame_text.specs.Lines.{LinesStart, eventsFrom, linesRun, RanLines}
+use Rattle.frame.proofs.Event.{event-running}
 use Rattle.frame.proofs.Kept.{run-kept}
 use Rattle.placing_check.proofs.Tried.{running-frame}
 use Rattle.frame_events.proofs.Running.{line-done}
@@ -62,20 +58,14 @@ event-size : (h : Head) (st : State) (e : Event) → Running h (st .clock) (st .
 unfolding runOf
 event-size h st e run = run-kept h st (e ∷ []) run .past .long
 
--- an event that moved nothing leaves the table and the clock
-still : {h : Head} {st : State} {e : Event} {o : Outcome} → EventIs h st e o → moves (o .answer) (st .clock) ≡ false → o .after ≡ st
-still (stopped r n) m = refl
-still {st = st} (clockSet t q n) m = ap (stateOf (st .table)) (eq-of t (st .clock) (true-of-not _ m))
-still (placed jobs q n) m = absurd (clash m)
-
 -- ---- between two lines
 
 -- The lines of a text from the byte `from` on are run on the table t, `first` lines having gone before, and the answers go into the output l from `place` on.
 -- So far n lines of the text were read, to the byte at; they left the table u, the clock c and the output l₁, whose next place is r. The counts are those of u and c.
-pub record AtEvent (head : record-of-head.Head) (ps : List record-of-preset.Preset) (text : List ℕ) (from first : ℕ) (t l : List ℕ) (place at n c r : ℕ) (u l₁ : List ℕ) (counts : Counts) : Type 0 where
+pub record AtEvent (head : record-of-head.Head) (ps : List record-of-preset.Preset) (text : List ℕ) (from first : ℕ) (t l : List ℕ) (place at n c r : ℕ) (u l₁ marks : List ℕ) (held : ℕ) (xs : List ℕ) : Type 0 where
   pub valid : validRecord head ps ≡ true
   pub running : Running (headIn head ps) c u
-  pub counted : CountsOf (headIn head ps) c (cell (headIn head ps) u) counts
+  pub counted : CountsOf (headIn head ps) c (cell (headIn head ps) u) marks held xs
   pub size : length u ≡ length t
   pub inside : at ≤ length text
   pub few : n ≤ at
@@ -86,9 +76,9 @@ pub record AtEvent (head : record-of-head.Head) (ps : List record-of-preset.Pres
       (answerLines n (runOf (headIn head ps) (stateOf u c) (eventsFrom text at) .answers))
 
 pub at-first : (head : record-of-head.Head) (ps : List record-of-preset.Preset) (text : List ℕ) (from first : ℕ) (t l : List ℕ) (place : ℕ)
-    {counts : Counts} → LinesStart head ps text from first t
-    → (validRecord head ps ≡ true → 512 ≤ length t → CountsOf (headIn head ps) 1 (cell (headIn head ps) t) counts)
-    → AtEvent head ps text from first t l place from first 1 place t l counts
+    {marks xs : List ℕ} {held : ℕ} → LinesStart head ps text from first t
+    → (validRecord head ps ≡ true → 512 ≤ length t → CountsOf (headIn head ps) 1 (cell (headIn head ps) t) marks held xs)
+    → AtEvent head ps text from first t l place from first 1 place t l marks held xs
 at-first head ps text from first t l place s k = record {
   valid = s .valid;
   running = s .running;
@@ -101,8 +91,8 @@ at-first head ps text from first t l place s k = record {
   output = left-all l place (answerLines first (linesRun (headIn head ps) text from t .answers));
 }
 
-module _ {head : record-of-head.Head} {ps : List record-of-preset.Preset} {text : List ℕ} {from first : ℕ} {t l : List ℕ} {place at n c r : ℕ} {u l₁ : List ℕ} {counts : Counts}
-    (a : AtEvent head ps text from first t l place at n c r u l₁ counts) where
+module _ {head : record-of-head.Head} {ps : List record-of-preset.Preset} {text : List ℕ} {from first : ℕ} {t l : List ℕ} {place at n c r : ℕ} {u l₁ marks : List ℕ} {held : ℕ} {xs : List ℕ}
+    (a : AtEvent head ps text from first t l place at n c r u l₁ marks held xs) where
   abbrev h : Head
   h = headIn head ps
 
@@ -146,28 +136,15 @@ module _ {head : record-of-head.Head} {ps : List record-of-preset.Preset} {text 
         ∙ ap (answerLines n) (run-cons h st (line x) rest .1)
         ∙ answers-cons n (done .answer) (runOf h (done .after) rest .answers)
 
-    -- what the event answered and left, by the counts
-    event-yields : {u₁ : List ℕ} {o : result.Outcome}
-        → (validRecord head ps ≡ true → Running h c u → CountsOf h c (cell h u) counts → Yields (lineMeant head ps st x) u₁ o) → Yields done u₁ o
-    event-yields d = line-done head ps c u at-free x (d (a .valid) (a .running) (a .counted))
-
-    -- an event that moved nothing leaves the counts as they are, and after any other they are made anew
-    pub counts-kept : {u₁ : List ℕ} {o : result.Outcome}
-        → (validRecord head ps ≡ true → Running h c u → CountsOf h c (cell h u) counts → Yields (lineMeant head ps st x) u₁ o)
-        → moves (answerIn (o .answer)) c ≡ false → CountsOf h (o .clock) (cell h u₁) counts
-    counts-kept d m =
-        let y = event-yields d in
-        let same = still (event-is h st (line x)) (ap (λ (z : Answer). moves z c) (sym (y .answer)) ∙ m) in
-        rw (y .table ∙ ap (λ (z : State). z .table) same, y .clock ∙ ap (λ (z : State). z .clock) same) (a .counted)
-
     -- the event was answered, and its answer written
-    pub at-next : {u₁ l₂ : List ℕ} {o : result.Outcome} {r₁ : ℕ} {next : Counts}
-        → (validRecord head ps ≡ true → Running h c u → CountsOf h c (cell h u) counts → Yields (lineMeant head ps st x) u₁ o)
+    pub at-next : {u₁ l₂ : List ℕ} {o : result.Outcome} {r₁ : ℕ} {marks₁ xs₁ : List ℕ} {held₁ : ℕ}
+        → (validRecord head ps ≡ true → Running h c u → CountsOf h c (cell h u) marks held xs
+        → Yields (lineMeant head ps st x) u₁ o × CountsOf h (o .clock) (cell h u₁) marks₁ held₁ xs₁)
         → Wrote l₁ r (answerLine (n + 1) (answerIn (o .answer))) l₂ r₁
-        → (validRecord head ps ≡ true → 512 ≤ length u₁ → CountsOf h (o .clock) (cell h u₁) next)
-        → AtEvent head ps text from first t l place (at + length x) (n + 1) (o .clock) r₁ u₁ l₂ next
-    at-next {u₁} {l₂} {o} {r₁} d w k =
-        let y = event-yields d in
+        → AtEvent head ps text from first t l place (at + length x) (n + 1) (o .clock) r₁ u₁ l₂ marks₁ held₁ xs₁
+    at-next {u₁} {l₂} {o} {r₁} d w =
+        let left-by = d (a .valid) (a .running) (a .counted) in
+        let y = line-done head ps c u at-free x (left-by .0) in
         let run : Running h (o .clock) u₁ = rw (y .clock, y .table) (event-running h st (line x) (a .running)) in
         let left : stateOf u₁ (o .clock) ≡ done .after =
         ap (λ (v : List ℕ). stateOf v (o .clock)) (y .table) ∙ ap (stateOf (done .after .table)) (y .clock) in
@@ -179,7 +156,7 @@ module _ {head : record-of-head.Head} {ps : List record-of-preset.Preset} {text 
         (record {
           valid = a .valid;
           running = run;
-          counted = k (a .valid) (run .long);
+          counted = left-by .1;
           size = ap length (y .table) ∙ event-size h st (line x) (a .running) ∙ a .size;
           inside = line-inside;
           few = omega (arith, line-bytes);

@@ -4,9 +4,8 @@
 use Prim.Native.Nat.{ℕ, _≤_}
 use mathlib.Core.Path.{_≡_}
 use mathlib.Core.List.{List, map}
-use mathlib.Core.Bool.{Bool, true, false, not}
+use mathlib.Core.Bool.{true}
 use lib.ListN.{length, drop}
-use lib.Dec.{eqb}
 use Rattle.station.specs.Head.{Head}
 use Rattle.station.specs.Text.{lines}
 use Rattle.station.specs.Types.{headIn, validRecord}
@@ -15,7 +14,7 @@ use Rattle.station.specs.declared.types.Preset as record-of-preset
 use Rattle.station.specs.declared.types.Head as record-of-head
 use Rattle.placing.specs.Claims.{Running}
 use Rattle.frame_text.specs.declared.text.Lines as result
-use Rattle.frame.specs.Event.{Event, line, Answer, now, taken, refused, Run, runOf}
+use Rattle.frame.specs.Event.{Event, line, Run, runOf}
 use Rattle.frame.specs.Text.{startOf}
 use Rattle.frame.specs.Listing.{answerLines}
 
@@ -27,12 +26,6 @@ pub record LinesStart (head : record-of-head.Head) (ps : List record-of-preset.P
   pub few : first ≤ from
   pub inside : from ≤ length text
   pub short : length text ≤ 32768
-
--- an event with this answer moved the clock from c, or changed the table
-abbrev pub moves : Answer → ℕ → Bool
-moves (now t) c = not (eqb t c)
-moves (taken n) c = true
-moves (refused r) c = false
 
 -- the lines from a byte on, as events
 abbrev pub eventsFrom : List ℕ → ℕ → List Event

@@ -1,15 +1,12 @@
 // The lines of a text after its head: each is one event, and has one line of answer.
-use frame::types::Answer;
 use frame_events::asked::event_by_counts;
 use frame_listing::listing::answer_line;
 use placing_counts::counts::counts_of;
 use station::types::Head;
 use station::types::Preset;
 use station_scan::lines::line_at;
-ghost use mathlib.Core.Path.{_≡_};
 ghost use Rattle.station.specs.Types.{headIn};
-ghost use Rattle.frame.specs.Types.{answerIn};
-ghost use Rattle.frame_text.specs.Lines.{moves, LinesStart, RanLines};
+ghost use Rattle.frame_text.specs.Lines.{LinesStart, RanLines};
 
 // What the lines leave beside the table and the output: the clock, and the place after the last answer.
 pub struct Lines {
@@ -17,20 +14,9 @@ pub struct Lines {
     pub place: usize,
 }
 
-// Whether an event with this answer moved the clock from where it was, or changed the table.
-fn is_moved(answer: Answer, clock: usize) -> bool
-    ensures { λ r. ⌜ r ≡ moves (answerIn answer) clock ⌝ }
-{
-    match answer {
-        Answer::Now(t) => t != clock,
-        Answer::Taken(_) => true,
-        Answer::Refused(_) => false,
-    }
-}
-
 // Runs the lines of a text from byte `from` on, `first` lines having gone before: each is an event on what the last one left, from clock 1 on, and its answer is
-// written at once. The frame meets none of its own causes at the start and so at no line: they are not tried again. What a call's causes are decided by is counted anew
-// only after an event that moved the clock or changed the table.
+// written at once. The frame meets none of its own causes at the start and so at no line: they are not tried again. What a call's causes are decided by is counted
+// once, and each event brings it up to what it leaves.
 pub fn run_lines(
     text: &[u8],
     from: usize,
@@ -48,16 +34,25 @@ pub fn run_lines(
     let mut n = first;
     let mut clock = 1;
     let mut next = place;
-    let mut counts = counts_of(head, presets, table, clock);
+    let counts = counts_of(head, presets, table, clock);
+    let mut used = counts.used;
+    let mut held = counts.jobs;
+    let mut capacities = counts.capacities;
     while at < text.len() {
         let line = line_at(text, at);
-        let done = event_by_counts(head, presets, table, clock, counts, line);
+        let done = event_by_counts(
+            head,
+            presets,
+            table,
+            clock,
+            &mut used,
+            &mut held,
+            &mut capacities,
+            line,
+        );
         let answer = done.answer;
         n += 1;
         next = answer_line(out, next, n, answer);
-        if is_moved(answer, clock) {
-            counts = counts_of(head, presets, table, done.clock);
-        }
         clock = done.clock;
         at += line.len();
     }

@@ -1,5 +1,5 @@
 -- The laws of layer 2, by subject: cells and the well-formed table; what is written; the jobs of a call and the causes; the placing rule and the plan; the
--- eviction order, the least eviction and the table that a call leaves; the theorems; small frames computed; masks.
+-- eviction order, the least eviction the table that a call leaves and its numbers; the theorems; small frames computed; masks.
 pub mod Cells
 pub mod WellFormed
 pub mod Written
@@ -10,6 +10,7 @@ pub mod Plan
 pub mod Order
 pub mod Least
 pub mod Called
+pub mod Numbers
 pub mod Room
 pub mod Theorems
 pub mod Examples

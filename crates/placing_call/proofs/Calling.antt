@@ -1,11 +1,11 @@
 -- `call_by_value` and `call_by_counts`, law by law.
 --
 -- In order: the cells of a call's jobs (`cells-are`); the carrying out; the outcome where a cause of the frame is met (`frame-refused`), and on a running frame
--- a law for each answer (`counted-refused`, `counted-done`). The causes are in the Tried.antt of placing_check and placing_counts.
+-- a law for each answer (`counted-refused`, `counted-done`); the counts afterwards (`counted-after`). The causes are in the Tried.antt of placing_check and placing_counts.
 -- Assumes nothing.
 use Prim.Native.Nat.{ℕ, _+_, _%_, _≤_, _<_}
 use native.Mathlib.Omega.{arith}
-use mathlib.Core.Path.{_≡_, refl, sym, _∙_, ap}
+use mathlib.Core.Path.{_≡_, refl, sym, _∙_, ap, subst}
 use mathlib.Core.Bool.{true, false, not}
 use mathlib.Core.Option.{Option, none, some}
 use mathlib.Core.List.{List, [], _∷_, _++_}
@@ -37,11 +37,16 @@ use Rattle.placing.specs.Limits.{inLimits}
 use Rattle.placing_rule.specs.Code.{placedIn, placedWithin}
 use Rattle.placing_evict.specs.Evict.{Evicts}
 use Rattle.placing.specs.Entries.{written, frameCauses, jobsOutside, jobCauses, callCauses, CallAnswer, CallOutcome, callOf}
-use Rattle.placing_check.specs.Causes.{causeIn, causesOf, frameCausesOf}
+use Rattle.placing_check.specs.Causes.{causeIn, callJobs, causesOf, frameCausesOf}
 use Rattle.placing_call.specs.Calling.{callMeant, carriedOut, CarriedOut, CallDone}
 use Rattle.placing.proofs.Causes.{of-running}
 use Rattle.placing_check.proofs.Tried.{causes-none, eleven, same-frame}
-use Rattle.placing_counts.proofs.Tried.{job-at, inside-number}
+use Rattle.placing_counts.specs.Counts.{CountsOf, CapacitiesAt, MarkedBeside}
+use Rattle.placing_counts.proofs.Tried.{job-at, inside-number, call-jobs, cause-known}
+use Rattle.placing_counts.proofs.After.{counts-taken}
+use Rattle.placing.proofs.Bounds.{in-limits}
+use Rattle.placing.proofs.Theorems.{call-claim}
+use Rattle.placing_check.proofs.Checking.{record-valid}
 use Rattle.placing.specs.Claims.{Running}
 use Rattle.placing_rule.proofs.Placed.{placed-within}
 use Rattle.placing_rule.proofs.PlacedFrame.{placed-called}
@@ -182,3 +187,35 @@ module _ (head : record-of-head.Head) (ps : List record-of-preset.Preset) (clock
           answer = d .answer ∙ sym (ap (λ (x : CallOutcome). x .answer) o);
           table = d .table ∙ sym (ap (λ (x : CallOutcome). x .table) o);
         }
+
+    -- the answer and the table of a call that none is met by
+    counted-answer : {w : cause.Cause} → causeIn w ≡ firstOf own → w ≡ Passed → callOf h″ clock jobs t .answer ≡ CallAnswer.taken (ones (evictedSet h″ clock jobs (cell h″ t)))
+    counted-answer e m = ap (λ (o : CallOutcome). o .answer) (of-passed h″ clock jobs t (only-own ∙ sym e ∙ ap causeIn m))
+
+    counted-table : {u : List ℕ} {r : reply.CallAnswer} → CallDone head ps clock jobs t u r → u ≡ callOf h″ clock jobs t .table
+    counted-table d = d .table ∙ ap (λ (o : CallOutcome). o .table) meant
+
+-- ---- the counts afterwards
+
+-- the numbers of the jobs were marked and counted, and the capacities counted anew
+pub counted-after : (head : record-of-head.Head) (ps : List record-of-preset.Preset) (clock : ℕ) (js : List record-of-job.Job) (n : ℕ) (t : List ℕ) → length js ≡ 8
+    → validRecord head ps ≡ true → Running (headIn head ps) clock t
+    → {w : cause.Cause} → causeIn w ≡ firstOf (callCauses (headIn head ps) clock (callJobs n js) (cell (headIn head ps) t)) → w ≡ Passed
+    → {u : List ℕ} {r : reply.CallAnswer} → CallDone head ps clock (callJobs n js) t u r
+    → {marks after xs ys : List ℕ} {held : ℕ} → CountsOf (headIn head ps) clock (cell (headIn head ps) t) marks held xs
+    → (length marks ≡ 256 → n ≤ 8 → MarkedBeside (λ i. jobNumber js i % 256) marks n after)
+    → (inLimits (head .slots) (head .bridges) 0 (length u) ≡ true → CapacitiesAt u (head .slots) (head .bridges) clock ys)
+    → CountsOf (headIn head ps) clock (cell (headIn head ps) u) after (held + n) ys
+counted-after head ps clock js n t long v run e m {u} d {after = after} {ys = ys} {held = held} was marks counted =
+    let h = headIn head ps in
+    let valid = record-valid head ps v in
+    let known = cause-known js long n h clock (cell h t) (sym e ∙ ap causeIn m) in
+    let same = call-jobs js long n (known .0) in
+    let table : u ≡ callOf h clock (jobsIn n js) t .table =
+    counted-table head ps clock (callJobs n js) t v run d ∙ ap (λ (l : List Job). callOf h clock l t .table) same in
+    let taken = ap (λ (l : List Job). callOf h clock l t .answer) (sym same) ∙ counted-answer head ps clock (callJobs n js) t v run e m in
+    let size : 512 ≤ length u = omega (arith, ap length table, call-claim h clock (jobsIn n js) t .past .long, run .long) in
+    let free = counted (in-limits (head .slots) (head .bridges) 0 (length u) (valid .slots-high) (valid .bridges-high) (omega arith) size) in
+    subst (λ (l : List ℕ). CountsOf h clock (cell h l) after (held + n) ys) (sym table)
+    (counts-taken h clock t js long n (known .0) (known .1) taken was (marks (was .marks-long) (known .0))
+    (subst (λ (l : List ℕ). CapacitiesAt l (head .slots) (head .bridges) clock ys) table free))

@@ -2,8 +2,9 @@
 use placing_check::cause::Cause;
 use placing_check::cause::frame_cause;
 use placing_counts::cause::cause_by_counts;
-use placing_counts::counts::Counts;
+use placing_counts::counts::capacities_at;
 use placing_counts::counts::counts_of;
+use placing_counts::counts::mark_jobs;
 use placing_counts::needs::job_needs;
 use placing_evict::evict::evict;
 use placing_rule::place::place;
@@ -98,7 +99,8 @@ fn carry_out(
 }
 
 // Takes a call of the first n jobs on a running frame whose clock is at `clock`, by the counts of its table and clock: the causes 2, 4, 9 of its jobs, then 7 where it
-// does not fit. A refusal changes nothing. Who keeps the counts between calls need not have the table counted for each.
+// does not fit. A refusal changes nothing; a call that is taken brings the counts up to the table that it leaves. Who keeps them between calls need not have the table
+// counted for each. They are lent in their parts: the numbers that are used, how many of them the call cells have, and the capacities.
 pub fn call_by_counts(
     head: Head,
     presets: [Preset; 32],
@@ -106,16 +108,23 @@ pub fn call_by_counts(
     clock: usize,
     jobs: [Job; 8],
     n: usize,
-    counts: Counts,
+    used: &mut [u8; 256],
+    held: &mut usize,
+    capacities: &mut [usize; 9],
 ) -> CallAnswer
     ensures { λ r. ⌜ (validRecord head presets ≡ true → Running (headIn head presets) clock (now (table .entry))
-        → CountsOf (headIn head presets) clock (cell (headIn head presets) (now (table .entry))) counts
-        → CallDone head presets clock (callJobs n jobs) (now (table .entry)) (now (table .exit)) r) ⌝ }
+        → CountsOf (headIn head presets) clock (cell (headIn head presets) (now (table .entry))) (now (used .entry)) (now (held .entry)) (now (capacities .entry))
+        → CallDone head presets clock (callJobs n jobs) (now (table .entry)) (now (table .exit)) r
+        × CountsOf (headIn head presets) clock (cell (headIn head presets) (now (table .exit))) (now (used .exit)) (now (held .exit)) (now (capacities .exit))) ⌝ }
 {
-    if let Cause::Met(r) = cause_by_counts(counts, jobs, n) {
+    if let Cause::Met(r) = cause_by_counts(used, *held, capacities, jobs, n) {
         return CallAnswer::Refused(r);
     }
-    carry_out(head, presets, table, clock, jobs, n)
+    let answer = carry_out(head, presets, table, clock, jobs, n);
+    mark_jobs(used, jobs, n);
+    *held = *held + n;
+    *capacities = capacities_at(head.slots, head.bridges, table, clock);
+    answer
 }
 
 // Takes a call of the first n jobs on the frame whose clock is at `clock`: the causes 8, 2, 11, then 2, 4, 9 of its jobs, then 7 where it does not fit. A refusal
@@ -135,5 +144,18 @@ pub fn call_by_value(
         return CallAnswer::Refused(r);
     }
     let counts = counts_of(head, presets, table, clock);
-    call_by_counts(head, presets, table, clock, jobs, n, counts)
+    let mut used = counts.used;
+    let mut held = counts.jobs;
+    let mut capacities = counts.capacities;
+    call_by_counts(
+        head,
+        presets,
+        table,
+        clock,
+        jobs,
+        n,
+        &mut used,
+        &mut held,
+        &mut capacities,
+    )
 }

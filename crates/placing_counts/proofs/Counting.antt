@@ -1,10 +1,12 @@
 -- Laws of the counts of a table and a clock.
 --
 -- In order: a cell that a call may use (`free-..`); numbers that are marked, by one cell (`mark-..`) and by those so far (`marked-..`); slots by how many free cells they
--- have (`with-..`), and their capacities (`least-..`); the presets' numbers (`beside-..`); the counts of the frame (`counts-of`).
+-- have (`with-..`), and their capacities (`least-..`); numbers marked beside others (`beside-..`); slots before the clock and from it on (`slot-..`), and a slot that it passes (`pass-slot`);
+-- the counts of the frame (`counts-of`). Those of what an event leaves are in After.antt.
 -- Assumes nothing.
-use Prim.Native.Nat.{ℕ, _+_, _*_, _-_, _≤_, _<_, min}
+use Prim.Native.Nat.{ℕ, suc, _+_, _*_, _-_, _≤_, _<_, min}
 use native.Mathlib.Omega.{arith}
+use native.Mathlib.Nat.{mul-le-mul}
 use mathlib.Core.Path.{_≡_, refl, sym, _∙_, ap, ap₂}
 use mathlib.Core.Bool.{Bool, true, false, _||_}
 use mathlib.Core.List.{List}
@@ -13,18 +15,18 @@ use lib.Seq.{getD-set-same, getD-set-other}
 use lib.Dec.{ltb, leb, eqb}
 use Rattle.laws.specs.Sums.{bit, sum, only, count}
 use Rattle.laws.specs.Placement.{at, capacity}
-use Rattle.laws.proofs.Sums.{Is, is, is-true, is-false, eq-of, ne-of, ltb-yes, ltb-no, leb-yes, eqb-yes, eqb-no, eqb-self, sum-ext, sum-le, sum-but, sum-swap, sum-const, count-ext, count-none, count-all, count-le}
+use Rattle.laws.proofs.Sums.{Is, is, is-true, is-false, eq-of, ne-of, lt-of, ge-of, ltb-yes, ltb-no, leb-yes, leb-no, eqb-yes, eqb-no, eqb-self, sum-ext, sum-le, sum-but, sum-swap, sum-const, count-ext, count-none, count-all, count-le}
 use Rattle.laws.proofs.Every.{or-left, or-right, count-eqb-le, sum-beyond}
 use Rattle.laws.proofs.Loops.{sum-none, sum-more, sum-rows, some-none, some-more}
-use Rattle.laws.proofs.Filled.{only-le, zeros}
+use Rattle.laws.proofs.Filled.{only-le, ltb-next, zeros}
 use Rattle.laws.proofs.Stepwise.{capacity-zero, capacity-next, count-least}
-use Rattle.station.specs.Head.{Head, Preset, noPreset}
+use Rattle.station.specs.Head.{Head}
 use Rattle.placing.specs.Table.{cell, kindOf, numberIn, isEmpty, isOptional, callCell, hasJob, hasPreset}
 use Rattle.placing.specs.Valid.{usable}
 use Rattle.placing.specs.Call.{usableCount}
 use Rattle.placing.proofs.Cells.{kindOf-call, numberIn-call}
 use Rattle.placing_counts.specs.Jobs.{marked}
-use Rattle.placing_counts.specs.Counts.{CountsOf, Marked, Marks, freeCell, freeIn, slotFree, ByFree}
+use Rattle.placing_counts.specs.Counts.{CountsOf, Marked, Marks, freeCell, freeIn, slotFree, ByFree, CapacitiesAt, MarkedBeside}
 
 -- ---- a cell that a call may use
 
@@ -42,9 +44,23 @@ pub free-in-none : (t : List ℕ) (from : ℕ) → freeIn t from 0 ≡ 0
 unfolding freeIn
 free-in-none t from = sum-none (λ b. bit (freeCell (getD t (from + b) 0)))
 
-pub free-in-more : (t : List ℕ) (from n : ℕ) → freeIn t from (n + 1) ≡ freeIn t from n + bit (freeCell (getD t (from + n) 0))
+free-in-more : (t : List ℕ) (from n : ℕ) → freeIn t from (n + 1) ≡ freeIn t from n + bit (freeCell (getD t (from + n) 0))
 unfolding freeIn
 free-in-more t from n = sum-more n (λ b. bit (freeCell (getD t (from + b) 0)))
+
+-- eight cells from the start of a slot are within a table of 512
+pub eight-le : (s m : ℕ) → s < 64 → m ≤ 8 → s * m + 8 ≤ 512
+eight-le s m ls lm = omega (arith, mul-le-mul {n₁ = s} {n₂ = 63} {m₂ = 8} (omega arith) lm)
+
+-- one cell more of eight, in the slot or past it
+pub free-in-here : (t : List ℕ) (from n b : ℕ) → b < n → freeIn t from (min (b + 1) n) ≡ freeIn t from (min b n) + bit (freeCell (getD t (from + b) 0))
+free-in-here t from n b l =
+    let next : min (b + 1) n ≡ b + 1 = omega arith in
+    let now : min b n ≡ b = omega arith in
+    omega (arith, ap (freeIn t from) next, ap (freeIn t from) now, free-in-more t from b)
+
+pub free-in-past : (t : List ℕ) (from n b : ℕ) → n ≤ b → freeIn t from (min (b + 1) n) ≡ freeIn t from (min b n)
+free-in-past t from n b l = ap (freeIn t from) (let same : min (b + 1) n ≡ min b n = omega arith in same)
 
 pub free-in-le : (t : List ℕ) (from n : ℕ) → freeIn t from n ≤ n
 unfolding freeIn
@@ -56,7 +72,7 @@ or-false : (a : Bool) → (a || false) ≡ a
 or-false true = refl
 or-false false = refl
 
-or-comm : (a b : Bool) → (a || b) ≡ (b || a)
+pub or-comm : (a b : Bool) → (a || b) ≡ (b || a)
 or-comm true true = refl
 or-comm true false = refl
 or-comm false true = refl
@@ -241,32 +257,100 @@ module _ {l : List ℕ} {n r left : ℕ} {out : List ℕ} (i : Least l n r left 
           let ne = ne-of q (r + 1) e in
           getD-set-other out (r + 1) q v 0 ne ∙ known q (omega arith)
 
--- ---- the presets' numbers
+-- ---- numbers marked beside others
 
--- the numbers of the first i presets are marked beside those that were
-pub record MarkedBeside (ps : List Preset) (before : List ℕ) (i : ℕ) (after : List ℕ) : Type 0 where
-  pub long : length after ≡ 256
-  pub which : (n : ℕ) → n < 256 → marked after n ≡ (ltb 0 (count i (λ j. eqb (getD ps j noPreset .number) n)) || marked before n)
+pub beside-none : (f : ℕ → ℕ) (u : List ℕ) → length u ≡ 256 → MarkedBeside f u 0 u
+beside-none f u long = record { long = long; which = λ n l. sym (ap (λ (b : Bool). b || marked u n) (some-none (λ j. eqb (f j) n))) }
 
-pub beside-none : (ps : List Preset) (u : List ℕ) → length u ≡ 256 → MarkedBeside ps u 0 u
-beside-none ps u long =
-    record { long = long; which = λ n l. sym (ap (λ (b : Bool). b || marked u n) (some-none (λ j. eqb (getD ps j noPreset .number) n))) }
-
-pub beside-more : {ps : List Preset} {u w : List ℕ} {i : ℕ} (m : ℕ) → MarkedBeside ps u i w → m < 256 → m ≡ getD ps i noPreset .number
-    → MarkedBeside ps u (i + 1) (set w m 1)
-beside-more {ps} {u} {w} {i} m b small e =
+pub beside-more : {f : ℕ → ℕ} {u w : List ℕ} {i : ℕ} (m : ℕ) → MarkedBeside f u i w → m < 256 → m ≡ f i → MarkedBeside f u (i + 1) (set w m 1)
+beside-more {f} {u} {w} {i} m b small e =
     record {
       long = length-set w m 1 ∙ b .long;
       which = λ n l.
           marked-set w m (omega (arith, b .long)) n
           ∙ ap₂ (λ (c d : Bool). c || d) (b .which n l) (ap (λ (k : ℕ). eqb k n) e)
-          ∙ swap (ltb 0 (count i (λ j. eqb (getD ps j noPreset .number) n))) (marked u n) (eqb (getD ps i noPreset .number) n)
-          ∙ ap (λ (c : Bool). c || marked u n) (sym (some-more i (λ j. eqb (getD ps j noPreset .number) n)));
+          ∙ swap (ltb 0 (count i (λ j. eqb (f j) n))) (marked u n) (eqb (f i) n)
+          ∙ ap (λ (c : Bool). c || marked u n) (sym (some-more i (λ j. eqb (f j) n)));
     }
   where
     swap : (a c d : Bool) → ((a || c) || d) ≡ ((a || d) || c)
     swap true c d = refl
     swap false c d = or-comm c d
+
+-- ---- values lowered from the front
+
+abbrev pub LoweredBelow : List ℕ → (ℕ → ℕ) → ℕ → List ℕ → Type 0
+LoweredBelow l f r m = (q : ℕ) → getD m q 0 ≡ getD l q 0 - only (ltb q r) (f q)
+
+pub lowered-none : (l : List ℕ) (f : ℕ → ℕ) → LoweredBelow l f 0 l
+lowered-none l f q = rw (ltb-no q 0 (omega arith)) (omega arith)
+
+pub lowered-more : (l m : List ℕ) (f : ℕ → ℕ) (r v : ℕ) → r < length m → LoweredBelow l f r m → v ≡ getD m r 0 - f r → LoweredBelow l f (r + 1) (set m r v)
+lowered-more l m f r v inside h e q = go (is (eqb q r))
+  where
+    go : Is (eqb q r) → getD (set m r v) q 0 ≡ getD l q 0 - only (ltb q (r + 1)) (f q)
+    go (is-true y) =
+        let here : getD m r 0 ≡ getD l r 0 - only (ltb r r) (f r) = h r in
+        rw (eq-of q r y)
+        (rw (getD-set-same m r v 0 inside, ltb-yes r (r + 1) (omega arith)) (omega (arith, e, rw (ltb-no r r (omega arith)) at here)))
+    go (is-false y) =
+        let other = ne-of q r y in
+        rw (getD-set-other m r q v 0 other) (h q ∙ ap (λ (b : Bool). getD l q 0 - only b (f q)) (ltb-next q r other))
+
+pub lowered-all : (l m : List ℕ) (f : ℕ → ℕ) (r : ℕ) → LoweredBelow l f r m → (q : ℕ) → q < r → getD m q 0 ≡ getD l q 0 - f q
+lowered-all l m f r h q low = h q ∙ ap (λ (b : Bool). getD l q 0 - only b (f q)) (ltb-yes q r low)
+
+-- ---- capacities, and a slot that the clock passes
+
+-- a slot before the clock has no free cells, and one from it on has its own
+pub slot-before : (t : List ℕ) (bridges clock s : ℕ) → s + 1 < clock → slotFree t bridges clock s ≡ 0
+unfolding slotFree
+slot-before t bridges clock s l = ap (λ (b : Bool). only b (freeIn t (s * bridges) bridges)) (leb-no clock (suc s) (omega arith))
+
+pub slot-from : (t : List ℕ) (bridges clock s : ℕ) → clock ≤ s + 1 → slotFree t bridges clock s ≡ freeIn t (s * bridges) bridges
+unfolding slotFree
+slot-from t bridges clock s l = ap (λ (b : Bool). only b (freeIn t (s * bridges) bridges)) (leb-yes clock (suc s) (omega arith))
+
+-- the slots before the clock are counted as having none
+pub with-before : (t : List ℕ) (bridges clock n : ℕ) → n ≤ clock - 1 → ByFree (set (replicate 9 0) 0 n) n (slotFree t bridges clock)
+with-before t bridges clock n l f low = go (is (eqb f 0))
+  where
+    none : (s : ℕ) → s < n → slotFree t bridges clock s ≡ 0
+    none s m = slot-before t bridges clock s (omega arith)
+
+    go : Is (eqb f 0) → getD (set (replicate 9 0) 0 n) f 0 ≡ count n (λ s. eqb f (slotFree t bridges clock s))
+    go (is-true e) =
+        let z : f ≡ 0 = eq-of f 0 e in
+        ap (λ (k : ℕ). getD (set (replicate 9 0) 0 n) k 0) z
+        ∙ sym (count-all n (λ s. eqb f (slotFree t bridges clock s)) (λ s m. eqb-yes f (slotFree t bridges clock s) (z ∙ sym (none s m))))
+    go (is-false e) =
+        getD-set-other (replicate 9 0) 0 f n 0 (ne-of f 0 e)
+        ∙ zeros 9 f
+        ∙ sym (count-none n (λ s. eqb f (slotFree t bridges clock s)) (λ s m. eqb-no f (slotFree t bridges clock s) (λ q. ne-of f 0 e (q ∙ none s m))))
+
+-- the clock passes one slot: its free cells are no more
+pub pass-slot : (t : List ℕ) (slots bridges s : ℕ) {xs ys : List ℕ} → s < slots → CapacitiesAt t slots bridges (s + 1) xs → length ys ≡ length xs
+    → ((k : ℕ) → k < 9 → getD ys k 0 ≡ getD xs k 0 - min k (freeIn t (s * bridges) bridges)) → CapacitiesAt t slots bridges (s + 1 + 1) ys
+pass-slot t slots bridges s {xs} {ys} inside was size less = record { long = size ∙ was .long; right = next }
+  where
+    other : (z : ℕ) → (z ≡ s → ⊥) → Is (ltb z s) → slotFree t bridges (s + 1 + 1) z ≡ slotFree t bridges (s + 1) z
+    other z ne (is-true e) =
+        let l = lt-of z s e in
+        slot-before t bridges (s + 1 + 1) z (omega arith) ∙ sym (slot-before t bridges (s + 1) z (omega arith))
+    other z ne (is-false e) =
+        let l = ge-of z s e in
+        slot-from t bridges (s + 1 + 1) z (omega arith) ∙ sym (slot-from t bridges (s + 1) z (omega arith))
+
+    next : (k : ℕ) → k < 9 → getD ys k 0 ≡ capacity slots (slotFree t bridges (s + 1 + 1)) k
+    next k low =
+        omega (
+          arith,
+          less k low,
+          was .right k low,
+          sum-but slots (λ z. min k (slotFree t bridges (s + 1 + 1) z)) (λ z. min k (slotFree t bridges (s + 1) z)) s inside (λ z m ne. ap (min k) (other z ne (is (ltb z s)))),
+          ap (min k) (slot-before t bridges (s + 1 + 1) s (omega arith)),
+          ap (min k) (slot-from t bridges (s + 1) s (omega arith)),
+        )
 
 -- ---- the counts of the frame
 
@@ -283,24 +367,23 @@ pub slot-free-le : (t : List ℕ) (bridges clock s : ℕ) → slotFree t bridges
 unfolding slotFree
 slot-free-le t bridges clock s = omega (arith, only-le (usable clock s) (freeIn t (s * bridges) bridges), free-in-le t (s * bridges) bridges)
 
-pub slot-free : (t : List ℕ) (bridges clock s : ℕ) {f g : ℕ} → f ≡ freeIn t (s * bridges) bridges → g ≡ only (usable clock s) f → g ≡ slotFree t bridges clock s
-unfolding slotFree
-slot-free t bridges clock s e q = q ∙ ap (only (usable clock s)) e
+-- the capacities of the table, as those of its free cells
+pub capacity-is : (h : Head) (clock : ℕ) (t : List ℕ) (k : ℕ) → capacity (h .slots) (slotFree t (h .bridges) clock) k ≡ capacity (h .slots) (usableCount h clock (cell h t)) k
+capacity-is h clock t k =
+    sum-ext (h .slots) (λ s. min k (slotFree t (h .bridges) clock s)) (λ s. min k (usableCount h clock (cell h t) s)) (λ s z. ap (min k) (slot-free-is h t clock s))
 
 module _ (h : Head) (clock : ℕ) (t : List ℕ) {u : List ℕ} (m : Marked t (h .slots * h .bridges) u) where
   job-marked : (n : ℕ) → n < 256 → marked u n ≡ hasJob h (cell h t) n
   job-marked n l =
       m .which n l ∙ ap (λ (k : ℕ). ltb 0 k) (sum-rows (h .slots) (h .bridges) (λ i. bit (eqb (getD t i 0) (callCell n))))
 
-  pub counts-of : {w xs : List ℕ} {jobs : ℕ} → ((n : ℕ) → n < 256 → marked w n ≡ (hasPreset h n || marked u n)) → jobs ≡ count 256 (marked u)
-      → ((k : ℕ) → k < 9 → getD xs k 0 ≡ capacity (h .slots) (slotFree t (h .bridges) clock) k)
-      → CountsOf h clock (cell h t) (record { used = w; jobs = jobs; capacities = xs })
-  counts-of numbers many room =
+  pub counts-of : {w xs : List ℕ} {held : ℕ} → length w ≡ 256 → ((n : ℕ) → n < 256 → marked w n ≡ (hasPreset h n || marked u n)) → held ≡ count 256 (marked u)
+      → CapacitiesAt t (h .slots) (h .bridges) clock xs → CountsOf h clock (cell h t) w held xs
+  counts-of size numbers many x =
       record {
+        marks-long = size;
         used = λ n l. numbers n l ∙ ap (λ (b : Bool). hasPreset h n || b) (job-marked n l);
         jobs = many ∙ count-ext 256 (marked u) (λ n. hasJob h (cell h t) n) job-marked;
-        capacities = λ k l.
-            room k l
-            ∙ sum-ext (h .slots) (λ s. min k (slotFree t (h .bridges) clock s)) (λ s. min k (usableCount h clock (cell h t) s))
-            (λ s z. ap (min k) (slot-free-is h t clock s));
+        long = x .long;
+        capacities = λ k l. x .right k l ∙ capacity-is h clock t k;
       }

@@ -30,7 +30,6 @@ use Rattle.placing.proofs.Causes.{met}
 use Rattle.placing.proofs.Room.{fits-by-room}
 use Rattle.placing_check.specs.Causes.{callJobs}
 use Rattle.placing_evict.specs.Evict.{ExcessOver}
-use Rattle.placing_counts.specs.declared.counts.Counts as record-of-counts
 use Rattle.placing_counts.specs.Jobs.{jobWithin, jobRecord, jobNumber, withinAt, marked, isOther, jobNew}
 use Rattle.placing_counts.specs.Counts.{CountsOf, CountedFit}
 
@@ -108,7 +107,7 @@ module _ (js : List record-job.Job) (long : length js ≡ 8) (n : ℕ) (few : n 
   job-at i l =
       List·getD-map jobIn (take n js) i (record { number = 0; slots = 0 }) ∙ ap jobIn (getD-take n js i (record { number = 0; slots = 0 }) l)
 
-  number-of : (i : ℕ) → i < n → jobAt (jobsIn n js) i .number ≡ jobNumber js i
+  pub number-of : (i : ℕ) → i < n → jobAt (jobsIn n js) i .number ≡ jobNumber js i
   number-of i l = ap (λ (j : Job). j .number) (job-at i l)
 
   -- ---- outside their limits, or not
@@ -219,34 +218,34 @@ module _ (js : List record-job.Job) (long : length js ≡ 8) (n : ℕ) (h : Head
     pub cause-outside : jobsOutside (jobsIn n js) ≡ true → some outOfLimits ≡ firstOf (callCauses h clock (callJobs n js) t)
     cause-outside e = sym (met outOfLimits (jobsOutside (jobsIn n js)) _ e) ∙ same-causes
 
-    module _ (e : jobsOutside (jobsIn n js) ≡ false) (counts : record-of-counts.Counts) (right : CountsOf h clock t counts) where
-      used : jobsUsed h t (jobsIn n js) ≡ not (every n (jobNew (counts .used) js))
-      used = jobs-used js long n few e h t (counts .used) (right .used)
+    module _ (e : jobsOutside (jobsIn n js) ≡ false) {marks : List ℕ} {held : ℕ} {xs : List ℕ} (right : CountsOf h clock t marks held xs) where
+      used : jobsUsed h t (jobsIn n js) ≡ not (every n (jobNew marks js))
+      used = jobs-used js long n few e h t marks (right .used)
 
       -- n more jobs beside those of the table
-      over : jobsTooMany h t (jobsIn n js) ≡ ltb (64 - n) (counts .jobs)
+      over : jobsTooMany h t (jobsIn n js) ≡ ltb (64 - n) held
       over =
-          ltb-iff 64 (jobCount h t + length (jobsIn n js)) (64 - n) (counts .jobs) (λ l. omega (arith, l, right .jobs, jobs-length js long n few))
+          ltb-iff 64 (jobCount h t + length (jobsIn n js)) (64 - n) held (λ l. omega (arith, l, right .jobs, jobs-length js long n few))
           (λ l. omega (arith, l, right .jobs, jobs-length js long n few))
 
-      pub cause-used : not (every n (jobNew (counts .used) js)) ≡ true → some numberUsed ≡ firstOf (callCauses h clock (callJobs n js) t)
+      pub cause-used : not (every n (jobNew marks js)) ≡ true → some numberUsed ≡ firstOf (callCauses h clock (callJobs n js) t)
       cause-used u =
           sym (passed outOfLimits (jobsOutside (jobsIn n js)) _ e ∙ met numberUsed (jobsUsed h t (jobsIn n js)) _ (used ∙ u)) ∙ same-causes
 
-      module _ (u : not (every n (jobNew (counts .used) js)) ≡ false) where
-        pub cause-over : 64 - n < counts .jobs → some tooMany ≡ firstOf (callCauses h clock (callJobs n js) t)
+      module _ (u : not (every n (jobNew marks js)) ≡ false) where
+        pub cause-over : 64 - n < held → some tooMany ≡ firstOf (callCauses h clock (callJobs n js) t)
         cause-over m =
             sym (passed outOfLimits (jobsOutside (jobsIn n js)) _ e
             ∙ passed numberUsed (jobsUsed h t (jobsIn n js)) _ (used ∙ u)
-            ∙ met tooMany (jobsTooMany h t (jobsIn n js)) _ (over ∙ ltb-yes (64 - n) (counts .jobs) m))
+            ∙ met tooMany (jobsTooMany h t (jobsIn n js)) _ (over ∙ ltb-yes (64 - n) held m))
             ∙ same-causes
 
-        module _ (m : counts .jobs ≤ 64 - n) where
+        module _ (m : held ≤ 64 - n) where
           first-three : firstOf (callCauses h clock (jobsIn n js) t) ≡ firstOf (try callNotFeasible (not (callFits h clock (jobsIn n js) t)) ∷ [])
           first-three =
               passed outOfLimits (jobsOutside (jobsIn n js)) _ e
               ∙ passed numberUsed (jobsUsed h t (jobsIn n js)) _ (used ∙ u)
-              ∙ passed tooMany (jobsTooMany h t (jobsIn n js)) _ (over ∙ ltb-no (64 - n) (counts .jobs) m)
+              ∙ passed tooMany (jobsTooMany h t (jobsIn n js)) _ (over ∙ ltb-no (64 - n) held m)
 
           pub cause-seven : callFits h clock (jobsIn n js) t ≡ false → some callNotFeasible ≡ firstOf (callCauses h clock (callJobs n js) t)
           cause-seven f = sym (first-three ∙ met callNotFeasible (not (callFits h clock (jobsIn n js) t)) [] (not-is-true _ f)) ∙ same-causes

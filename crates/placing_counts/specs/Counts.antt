@@ -19,20 +19,21 @@ use Rattle.placing.specs.Call.{usableCount, callFits}
 use Rattle.placing.specs.Entries.{callCauses}
 use Rattle.placing_check.specs.Causes.{causeIn}
 use Rattle.placing_check.specs.declared.cause.Cause as cause
-use Rattle.placing_counts.specs.declared.counts.Counts as record-of-counts
 use Rattle.placing_counts.specs.Jobs.{marked}
 
 -- The counts are those of the head h, the clock and the cells t: "A number is used if a preset of the head or a call cell has it"; the job numbers of the table; and the
 -- capacities for 0 to 8 jobs of the cells that a call may use.
-pub record CountsOf (h : Head) (clock : ℕ) (t : Cells) (r : record-of-counts.Counts) : Type 0 where
-  pub used : (n : ℕ) → n < 256 → marked (r .used) n ≡ isUsed h t n
-  pub jobs : r .jobs ≡ jobCount h t
-  pub capacities : (k : ℕ) → k < 9 → getD (r .capacities) k 0 ≡ capacity (h .slots) (usableCount h clock t) k
+pub record CountsOf (h : Head) (clock : ℕ) (t : Cells) (marks : List ℕ) (held : ℕ) (xs : List ℕ) : Type 0 where
+  pub marks-long : length marks ≡ 256
+  pub used : (n : ℕ) → n < 256 → marked marks n ≡ isUsed h t n
+  pub jobs : held ≡ jobCount h t
+  pub long : length xs ≡ 9
+  pub capacities : (k : ℕ) → k < 9 → getD xs k 0 ≡ capacity (h .slots) (usableCount h clock t) k
 
 -- What `cause_by_counts` answers: on every well-formed table of which these are the counts, the first of the causes of the call itself.
-abbrev pub CountedCause : record-of-counts.Counts → List Job → cause.Cause → Type 0
-CountedCause counts jobs r =
-    (h : Head) (clock : ℕ) (t : Cells) → Valid h → WellFormed h t → CountsOf h clock t counts → causeIn r ≡ firstOf (callCauses h clock jobs t)
+abbrev pub CountedCause : List ℕ → ℕ → List ℕ → List Job → cause.Cause → Type 0
+CountedCause marks held xs jobs r =
+    (h : Head) (clock : ℕ) (t : Cells) → Valid h → WellFormed h t → CountsOf h clock t marks held xs → causeIn r ≡ firstOf (callCauses h clock jobs t)
 
 -- whether the jobs fit, likewise, by the capacities alone
 abbrev pub CountedFit : List ℕ → List Job → Bool → Type 0
@@ -47,16 +48,17 @@ pub record Marked (t : List ℕ) (i : ℕ) (used : List ℕ) : Type 0 where
   pub long : length used ≡ 256
   pub which : (n : ℕ) → n < 256 → marked used n ≡ ltb 0 (count i (λ j. eqb (getD t j 0) (callCell n)))
 
--- r more numbers are marked than before
-abbrev pub Tallied : List ℕ → ℕ → List ℕ → Type 0
-Tallied before r after = count 256 (marked after) ≡ count 256 (marked before) + r
-
 -- what one cell v marks: its number, if it is a call cell
 pub record Marks (v : ℕ) (before after : List ℕ) (r : ℕ) : Type 0 where
   pub long : length after ≡ length before
   pub which : (n : ℕ) → n < 256 → marked after n ≡ (marked before n || eqb v (callCell n))
-  pub more : Tallied before r after
+  pub more : count 256 (marked after) ≡ count 256 (marked before) + r
   pub one : r ≤ 1
+
+-- the numbers f 0, .., f (i - 1) are marked beside those that were
+pub record MarkedBeside (f : ℕ → ℕ) (before : List ℕ) (i : ℕ) (after : List ℕ) : Type 0 where
+  pub long : length after ≡ 256
+  pub which : (n : ℕ) → n < 256 → marked after n ≡ (ltb 0 (count i (λ j. eqb (f j) n)) || marked before n)
 
 -- ---- cells that a call may use
 
@@ -75,3 +77,8 @@ slotFree t bridges clock s = only (usable clock s) (freeIn t (s * bridges) bridg
 -- for 0 to 8 the list has how many of n slots have so many of the free cells x
 abbrev pub ByFree : List ℕ → ℕ → (ℕ → ℕ) → Type 0
 ByFree l n x = (f : ℕ) → f < 9 → getD l f 0 ≡ count n (λ s. eqb f (x s))
+
+-- the list has the capacities for 0 to 8 of the free cells of so many slots
+pub record CapacitiesAt (t : List ℕ) (slots bridges clock : ℕ) (xs : List ℕ) : Type 0 where
+  pub long : length xs ≡ 9
+  pub right : (k : ℕ) → k < 9 → getD xs k 0 ≡ capacity slots (slotFree t bridges clock) k

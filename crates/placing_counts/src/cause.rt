@@ -1,17 +1,17 @@
 // The causes of a call itself, tried by the counts of the table and the clock: 2, 4 and 9 of its jobs, then 7.
-use crate::counts::Counts;
 use crate::needs::job_needs;
 use placing_check::cause::Cause;
 use placing_evict::evict::excess_over;
 use station::types::Job;
 use station::types::Refusal;
-ghost use Prim.Native.Nat.{_<_, _≤_};
+ghost use Prim.Native.Nat.{_+_, _<_, _≤_};
 ghost use mathlib.Core.Path.{_≡_};
 ghost use mathlib.Core.Bool.{false, not};
+ghost use mathlib.Core.Option.{none};
 ghost use Rattle.laws.specs.Sums.{every};
 ghost use Rattle.placing.specs.CallJobs.{jobIn, jobsIn};
 ghost use Rattle.placing.specs.Entries.{jobsOutside};
-ghost use Rattle.placing_check.specs.Causes.{callJobs};
+ghost use Rattle.placing_check.specs.Causes.{causeIn, callJobs};
 ghost use Rattle.placing_counts.specs.Jobs.{jobWithin, jobNumber, isOther, jobNew};
 ghost use Rattle.placing_counts.specs.Counts.{CountedFit, CountedCause};
 
@@ -103,8 +103,14 @@ fn jobs_fit(capacities: &[usize; 9], jobs: [Job; 8], n: usize) -> bool
 
 // The causes of a call of the first n jobs itself, by the counts of the table and the clock: 2 for a ninth job, for none, or for one outside its limits, 4 for a number
 // that is used or twice in the call, 9 for more than 64 job numbers, 7 where the call does not fit.
-pub fn cause_by_counts(counts: Counts, jobs: [Job; 8], n: usize) -> Cause
-    ensures { λ r. ⌜ CountedCause counts (callJobs n jobs) r ⌝ }
+pub fn cause_by_counts(
+    used: &[u8; 256],
+    held: usize,
+    capacities: &[usize; 9],
+    jobs: [Job; 8],
+    n: usize,
+) -> Cause
+    ensures { λ r. ⌜ CountedCause (now (used .entry)) held (now (capacities .entry)) (callJobs n jobs) r × (causeIn r ≡ none → held + n ≤ 64) ⌝ }
 {
     if JOBS < n {
         return Cause::Met(Refusal::OutOfLimits);
@@ -112,13 +118,13 @@ pub fn cause_by_counts(counts: Counts, jobs: [Job; 8], n: usize) -> Cause
     if jobs_outside(jobs, n) {
         return Cause::Met(Refusal::OutOfLimits);
     }
-    if jobs_used(&counts.used, jobs, n) {
+    if jobs_used(used, jobs, n) {
         return Cause::Met(Refusal::NumberUsed);
     }
-    if NUMBERS - n < counts.jobs {
+    if NUMBERS - n < held {
         return Cause::Met(Refusal::TooMany);
     }
-    if !jobs_fit(&counts.capacities, jobs, n) {
+    if !jobs_fit(capacities, jobs, n) {
         return Cause::Met(Refusal::CallNotFeasible);
     }
     Cause::Passed

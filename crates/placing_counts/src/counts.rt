@@ -1,18 +1,19 @@
-// What a call's own causes are decided by, counted in one pass over the cells of the frame.
+// What a call's own causes are decided by, counted over the cells of the frame, and brought up to a call that is taken and to a clock that moves.
 use placing::limits::in_limits;
 use station::types::Head;
+use station::types::Job;
 use station::types::Preset;
-ghost use Prim.Native.Nat.{ℕ, _+_, _*_, _<_, _≤_};
+ghost use Prim.Native.Nat.{ℕ, _+_, _*_, _-_, _%_, _<_, _≤_, min};
 ghost use mathlib.Core.Path.{_≡_};
 ghost use mathlib.Core.Bool.{true, _||_};
 ghost use lib.ListN.{length, getD, replicate};
-ghost use Rattle.laws.specs.Sums.{bit, sum, count, only};
+ghost use Rattle.laws.specs.Sums.{bit, sum, count};
 ghost use Rattle.laws.specs.Placement.{at, capacity};
 ghost use Rattle.station.specs.Types.{headIn, validRecord};
 ghost use Rattle.placing.specs.Table.{cell, hasPreset};
-ghost use Rattle.placing.specs.Valid.{usable};
-ghost use Rattle.placing_counts.specs.Jobs.{marked};
-ghost use Rattle.placing_counts.specs.Counts.{Marks, Marked, Tallied, freeCell, freeIn, slotFree, ByFree, CountsOf};
+ghost use Rattle.placing.specs.Limits.{inLimits};
+ghost use Rattle.placing_counts.specs.Jobs.{marked, jobNumber};
+ghost use Rattle.placing_counts.specs.Counts.{Marks, Marked, MarkedBeside, freeCell, freeIn, slotFree, ByFree, CapacitiesAt, CountsOf};
 
 // A cell is kind × 256 + number: the kinds of an optional and of a call cell.
 const OPTIONAL: u16 = 3;
@@ -27,14 +28,8 @@ pub struct Counts {
     pub capacities: [usize; 9],
 }
 
-// What one slot adds: job numbers that no slot before it has, and cells that a call may use.
-struct SlotCounts {
-    jobs: usize,
-    free: usize,
-}
-
 // 1 for a cell that a call may use, an empty or an optional one; else 0.
-fn free_cell(v: u16) -> usize
+fn free_cell(v: u16) -> u16
     ensures { λ r. ⌜ (r ≡ bit (freeCell v)) × (r ≤ 1) ⌝ }
 {
     if v == 0 {
@@ -62,63 +57,71 @@ fn mark(used: &mut [u8; 256], v: u16) -> usize
     1
 }
 
-// Counts the slot whose first cell is at `from`, and marks the numbers of its call cells.
-fn count_slot(table: &[u16], from: usize, bridges: usize, used: &mut [u8; 256]) -> SlotCounts
-    requires { ⌜ (bridges ≤ 8) × (from + bridges ≤ length (now table)) × Marked (now table) from (now used) ⌝ }
-    ensures { λ r. ⌜ Marked (now (table .entry)) (from + bridges) (now (used .exit)) × Tallied (now (used .entry)) (r .jobs) (now (used .exit)) × (r .jobs ≤ bridges) × (r .free ≡ freeIn (now (table .entry)) from bridges) ⌝ }
+// Marks the numbers of the call cells among the first ones of a table, and answers how many numbers they are.
+fn mark_calls(table: &[u16], cells: usize, used: &mut [u8; 256]) -> usize
+    requires { ⌜ (cells ≤ length (now table)) × (now used ≡ replicate 256 0) ⌝ }
+    ensures { λ r. ⌜ Marked (now (table .entry)) cells (now (used .exit)) × (r ≡ count 256 (marked (now (used .exit)))) ⌝ }
 {
     let mut jobs = 0;
-    let mut free = 0;
+    let mut i = 0;
+    while i < cells {
+        jobs += mark(used, table[i]);
+        i += 1;
+    }
+    jobs
+}
+
+// How many cells of the slot whose first cell is at `from` a call may use. Always eight cells are looked at, so that one vector instruction looks at all; those past the
+// slot count for nothing.
+fn free_in(table: &[u16], from: usize, bridges: usize) -> usize
+    requires { ⌜ (bridges ≤ 8) × (from + 8 ≤ length (now table)) ⌝ }
+    ensures { λ r. ⌜ r ≡ freeIn (now (table .entry)) from bridges ⌝ }
+{
+    let mut free: u16 = 0;
     let mut b = 0;
-    while b < bridges {
-        let v = table[from + b];
-        jobs += mark(used, v);
-        free += free_cell(v);
+    while b < 8 {
+        let one = free_cell(table[from + b]);
+        if b < bridges {
+            free += one;
+        }
         b += 1;
     }
-    SlotCounts { jobs, free }
+    free as usize
 }
 
-// The free cells of a slot for a call: none before the clock.
-fn from_clock(free: usize, slot: usize, clock: usize) -> usize
-    requires { ⌜ slot < 64 ⌝ }
-    ensures { λ r. ⌜ r ≡ only (usable clock slot) free ⌝ }
+// How many slots of a frame are before a clock.
+fn slots_before(clock: usize, slots: usize) -> usize
+    ensures { λ r. ⌜ r ≡ min (clock - 1) slots ⌝ }
 {
-    if slot + 1 < clock {
+    if clock < 1 {
         return 0;
     }
-    free
+    if slots < clock - 1 {
+        return slots;
+    }
+    clock - 1
 }
 
-// Counts the frame slot by slot: marks the numbers of its call cells and answers how many they are; `with` gets for 0 to 8 the number of slots that have as many
-// cells that a call may use.
-fn count_slots(
-    table: &[u16],
-    slots: usize,
-    bridges: usize,
-    clock: usize,
-    used: &mut [u8; 256],
-    with: &mut [usize; 9],
-) -> usize
-    requires { ⌜ (slots ≤ 64) × (bridges ≤ 8) × (512 ≤ length (now table)) × (now used ≡ replicate 256 0) × (now with ≡ replicate 9 0) ⌝ }
-    ensures { λ r. ⌜ Marked (now (table .entry)) (slots * bridges) (now (used .exit)) × (r ≡ count 256 (marked (now (used .exit)))) × (sum 9 (at (now (with .exit))) ≤ slots) × ByFree (now (with .exit)) slots (slotFree (now (table .entry)) bridges clock) ⌝ }
+// For 0 to 8 the number of slots that have as many cells that a call may use. A slot before the clock has none.
+fn count_slots(table: &[u16], slots: usize, bridges: usize, clock: usize) -> [usize; 9]
+    requires { ⌜ (slots ≤ 64) × (bridges ≤ 8) × (512 ≤ length (now table)) ⌝ }
+    ensures { λ r. ⌜ (sum 9 (at r) ≤ slots) × ByFree r slots (slotFree (now (table .entry)) bridges clock) ⌝ }
 {
-    let mut jobs = 0;
-    let mut s = 0;
+    let mut with = [0usize; 9];
+    let mut s = slots_before(clock, slots);
+    with[0] = s;
     while s < slots {
-        let found = count_slot(table, s * bridges, bridges, used);
-        jobs += found.jobs;
-        let free = from_clock(found.free, s, clock);
+        let free = free_in(table, s * bridges, bridges);
         with[free] += 1;
         s += 1;
     }
-    jobs
+    with
 }
 
 // Marks the numbers of the presets.
 fn mark_presets(head: Head, presets: [Preset; 32], used: &mut [u8; 256])
     requires { ⌜ (head .count ≤ 32) × (length (now used) ≡ 256) ⌝ }
-    ensures { λ _. ⌜ ((n : ℕ) → n < 256 → marked (now (used .exit)) n ≡ (hasPreset (headIn head presets) n || marked (now (used .entry)) n)) ⌝ }
+    ensures { λ _. ⌜ (length (now (used .exit)) ≡ 256) × ((n : ℕ) → n < 256 → marked (now (used .exit)) n ≡ (hasPreset (headIn head presets) n || marked (now (used .entry)) n)) ⌝ }
 {
     let count = head.count;
     let mut i = 0;
@@ -130,11 +133,27 @@ fn mark_presets(head: Head, presets: [Preset; 32], used: &mut [u8; 256])
     }
 }
 
+// Marks the numbers of the first n jobs. More than eight are no call's, and mark nothing.
+pub fn mark_jobs(used: &mut [u8; 256], jobs: [Job; 8], n: usize)
+    ensures { λ _. ⌜ (length (now (used .entry)) ≡ 256 → n ≤ 8 → MarkedBeside (λ i. jobNumber jobs i % 256) (now (used .entry)) n (now (used .exit))) ⌝ }
+{
+    if 8 < n {
+        return;
+    }
+    let mut i = 0;
+    while i < n {
+        let job = jobs[i];
+        let number = (job.number % 256) as usize;
+        used[number] = 1;
+        i += 1;
+    }
+}
+
 // The capacities for 0 to 8 of so many slots, of which `with` has how many have each number of free cells. One job more can use one cell more of each slot that has
 // as many: those are the ones that are left once the slots with fewer are taken off.
 fn capacities_of(with: &[usize; 9], slots: usize) -> [usize; 9]
     requires { ⌜ (slots ≤ 64) × (sum 9 (at (now with)) ≤ slots) ⌝ }
-    ensures { λ v. ⌜ ((x : ℕ → ℕ) → ByFree (now (with .entry)) slots x → (r : ℕ) → r < 9 → getD v r 0 ≡ capacity slots x r) ⌝ }
+    ensures { λ v. ⌜ (length v ≡ 9) × ((x : ℕ → ℕ) → ByFree (now (with .entry)) slots x → (r : ℕ) → r < 9 → getD v r 0 ≡ capacity slots x r) ⌝ }
 {
     let mut out = [0usize; 9];
     let mut left = slots;
@@ -147,24 +166,89 @@ fn capacities_of(with: &[usize; 9], slots: usize) -> [usize; 9]
     out
 }
 
+// The capacities for 0 to 8 of the cells that a call may use, of a table and a clock. Beyond the limits all are 0.
+pub fn capacities_at(slots: usize, bridges: usize, table: &[u16], clock: usize) -> [usize; 9]
+    ensures { λ r. ⌜ (inLimits slots bridges 0 (length (now (table .entry))) ≡ true → CapacitiesAt (now (table .entry)) slots bridges clock r) ⌝ }
+{
+    if !in_limits(slots, bridges, 0, table.len()) {
+        return [0usize; 9];
+    }
+    let with = count_slots(table, slots, bridges, clock);
+    capacities_of(&with, slots)
+}
+
+// The smaller of two numbers.
+fn least(a: usize, b: usize) -> usize
+    ensures { λ r. ⌜ r ≡ min a b ⌝ }
+{
+    if a < b {
+        return a;
+    }
+    b
+}
+
+// What is left of a without b: nothing where b is more.
+fn less(a: usize, b: usize) -> usize
+    ensures { λ r. ⌜ r ≡ a - b ⌝ }
+{
+    if a < b {
+        return 0;
+    }
+    a - b
+}
+
+// Takes a slot that has x free cells off the capacities.
+fn take_slot(capacities: &mut [usize; 9], x: usize)
+    ensures { λ _. ⌜ (length (now (capacities .exit)) ≡ length (now (capacities .entry))) × (length (now (capacities .entry)) ≡ 9 → (r : ℕ) → r < 9 → getD (now (capacities .exit)) r 0 ≡ getD (now (capacities .entry)) r 0 - min r x) ⌝ }
+{
+    let mut r = 0;
+    while r < 9 {
+        capacities[r] = less(capacities[r], least(r, x));
+        r += 1;
+    }
+}
+
+// Takes the slots from one clock up to another off the capacities: a call cannot use them any more. Beyond the limits nothing changes.
+pub fn pass_slots(
+    slots: usize,
+    bridges: usize,
+    table: &[u16],
+    from: usize,
+    to: usize,
+    capacities: &mut [usize; 9],
+)
+    ensures { λ _. ⌜ (inLimits slots bridges 0 (length (now (table .entry))) ≡ true → 1 ≤ from → from ≤ to → to ≤ slots + 1
+        → CapacitiesAt (now (table .entry)) slots bridges from (now (capacities .entry)) → CapacitiesAt (now (table .entry)) slots bridges to (now (capacities .exit))) ⌝ }
+{
+    if !in_limits(slots, bridges, 0, table.len()) {
+        return;
+    }
+    let end = slots_before(to, slots);
+    let mut s = slots_before(from, slots);
+    while s < end {
+        let free = free_in(table, s * bridges, bridges);
+        take_slot(capacities, free);
+        s += 1;
+    }
+}
+
 // Counts a table and a clock: the numbers that are used, the job numbers, and the capacities of the cells that a call may use. Beyond the limits all is 0.
 pub fn counts_of(head: Head, presets: [Preset; 32], table: &[u16], clock: usize) -> Counts
-    ensures { λ r. ⌜ (validRecord head presets ≡ true → 512 ≤ length (now (table .entry)) → CountsOf (headIn head presets) clock (cell (headIn head presets) (now (table .entry))) r) ⌝ }
+    ensures { λ r. ⌜ (validRecord head presets ≡ true → 512 ≤ length (now (table .entry)) → CountsOf (headIn head presets) clock (cell (headIn head presets) (now (table .entry))) (r .used) (r .jobs) (r .capacities)) ⌝ }
 {
     let slots = head.slots;
     let bridges = head.bridges;
+    let capacities = capacities_at(slots, bridges, table, clock);
     let mut used = [0u8; 256];
-    let mut with = [0usize; 9];
     if !in_limits(slots, bridges, head.count, table.len()) {
         return Counts {
             used: used,
             jobs: 0,
-            capacities: with,
+            capacities: capacities,
         };
     }
-    let jobs = count_slots(table, slots, bridges, clock, &mut used, &mut with);
+    let jobs = mark_calls(table, slots * bridges, &mut used);
     mark_presets(head, presets, &mut used);
-    let capacities = capacities_of(&with, slots);
     Counts {
         used: used,
         jobs: jobs,

@@ -1,6 +1,6 @@
 -- `asked::event_by_counts` meets its contract: a law for what each line asks. Assumes nothing.
+use Rattle.frame_events.proofs.Running.{line-clock, line-place, line-fault, clock-counts}
 use borrow.Author.Needs.{needs}
-use Rattle.frame_events.proofs.Running.{line-clock, line-place, line-fault}
 use Rattle.frame_events.proofs.asked.event_by_counts.Statement.{statement}
 use Rattle.frame_events.proofs.asked.event_by_counts.Tie as tie
 
@@ -16,6 +16,9 @@ cast-asked-clock c = search needs
 asked-clock-requires : tie.Need-asked-clock-requires
 asked-clock-requires c κs = search needs
 
+pass-slots-requires : tie.Need-pass-slots-requires
+pass-slots-requires c κs = search needs
+
 enum-known-event-2 : tie.Need-enum-known-event-2
 enum-known-event-2 c = search needs
 
@@ -28,26 +31,35 @@ call-outcome-requires c κs = search needs
 enum-known-event-3 : tie.Need-enum-known-event-3
 enum-known-event-3 c = search needs
 
+same-length : tie.Need-same-length
+same-length c = search needs
+
 returns : tie.Need-returns
 returns c =
     λ v run right.
-    let r = c .before .before .before .before .before in
+    let k = c .before .before .before in
+    let r = k .before .before .before .before .before in
     let s = r .before .before .before in
-    let a = s .args in
-    line-clock (a .head) (a .presets) (a .clock) (a .table .now) (a .line .now) (r .read-event .ensures) (c .before .before .event .given .1) (c .asked-clock .ensures)
+    let a = s .args in (
+      line-clock (a .head) (a .presets) (a .clock) (a .table .now) (a .line .now) (r .read-event .ensures) (k .before .before .event .given .1) (k .asked-clock .ensures),
+      clock-counts (a .head) (a .presets) (a .clock) _ (a .table .now) (k .asked-clock .ensures) v run right (c .pass-slots .ensures),
+    )
 
-same-length : tie.Need-same-length
-same-length c = search needs
+same-length-2 : tie.Need-same-length-2
+same-length-2 c = search needs
 
 returns-2 : tie.Need-returns-2
 returns-2 c =
     λ v run right.
     let k = c .before .before .before in
-    let r = k .before .before .before .before .before .before in
+    let r = k .before .before .before .before .before .before .before .before .before in
     let s = r .before .before .before in
     let a = s .args in
-    line-place (a .head) (a .presets) (a .clock) (a .table .now) (a .line .now) (r .read-event .ensures) (k .before .before .before .event2 .given .1) (k .call-by-counts .ensures v run right)
-    (c .call-outcome .ensures .0) (c .call-outcome .ensures .1)
+    let done = k .call-by-counts .ensures v run right in (
+      line-place (a .head) (a .presets) (a .clock) (a .table .now) (a .line .now) (r .read-event .ensures) (k .before .before .before .before .before .before .event2 .given .1) (done .0)
+          (c .call-outcome .ensures .0) (c .call-outcome .ensures .1),
+      rw (c .call-outcome .ensures .1) (done .1),
+    )
 
 returns-3 : tie.Need-returns-3
 returns-3 c =
@@ -55,7 +67,7 @@ returns-3 c =
     let r = c .before .before .before .before in
     let s = r .before .before .before in
     let a = s .args in
-    line-fault (a .head) (a .presets) (a .clock) (a .table .now) (a .line .now) (r .read-event .ensures) (c .before .event3 .given .1)
+    (line-fault (a .head) (a .presets) (a .clock) (a .table .now) (a .line .now) (r .read-event .ensures) (c .before .event3 .given .1), right)
 
 pub event-by-counts-spec : {M : Type 1} → statement M
 event-by-counts-spec =
@@ -65,11 +77,13 @@ event-by-counts-spec =
     enum-known-event
     cast-asked-clock
     asked-clock-requires
+    pass-slots-requires
     enum-known-event-2
     call-by-counts-requires
     call-outcome-requires
     enum-known-event-3
-    returns
     same-length
+    returns
+    same-length-2
     returns-2
     returns-3)

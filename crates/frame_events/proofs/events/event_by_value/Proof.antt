@@ -54,13 +54,13 @@ same-length-2 c = search needs
 
 returns-2 : tie.Need-returns-2
 returns-2 c =
-    let k = c .before .before .before .before in
+    let k = c .before .before .before .before .before .before .before .before .before in
     let n = k .before .before in
     let a = n .before .before .before .before .before .before .args in
     let e = Event.line (a .line .now) in
     let run = frame-running (a .head) (a .presets) (a .clock) (a .table .now) (free n) in
     let done = event-done (a .head) (a .presets) (a .clock) (a .table .now) e (free n)
-    (line-done (a .head) (a .presets) (a .clock) (a .table .now) (free n) (a .line .now) (c .before .before .event-by-counts .ensures (run .0) (run .1) (k .counts-of .ensures (run .0) (run .1 .long)))) in
+    (line-done (a .head) (a .presets) (a .clock) (a .table .now) (free n) (a .line .now) (c .before .before .event-by-counts .ensures (run .0) (run .1) (k .counts-of .ensures (run .0) (run .1 .long)) .0)) in
     (done, (done-running (a .head) (a .presets) (a .clock) (a .table .now) e done, demand-3 (headIn (a .head) (a .presets)) (stateOf (a .table .now) (a .clock)) (e ∷ [])))
 
 pub event-by-value-spec : {M : Type 1} → statement M

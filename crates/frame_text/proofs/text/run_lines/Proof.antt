@@ -2,20 +2,18 @@
 -- answers are what is left to be written, and the counts are those of the table and the clock. The measure is what is left of the text. Assumes nothing.
 use Prim.Native.Nat.{_-_}
 use native.Mathlib.Omega.{arith}
-use mathlib.Core.Logic.{⊎-elim}
-use mathlib.Core.Path.{sym, _∙_}
 use lib.ListN.{length}
 use borrow.Author.Needs.{needs}
-use Rattle.frame_text.proofs.Lines.{AtEvent, at-first, line-inside, line-bytes, counts-kept, at-next, at-end}
+use Rattle.frame_text.proofs.Lines.{AtEvent, at-first, line-inside, line-bytes, at-next, at-end}
 use Rattle.frame_text.proofs.text.run_lines.Statement.{statement}
 use Rattle.frame_text.proofs.text.run_lines.Tie as tie
 
 abbrev Inv-loop : tie.InvT-loop
-Inv-loop text from first head presets table₀ out₀ place at₀ n₀ clock₀ next₀ counts₀ table out at n clock next counts =
-    AtEvent head presets text from first table₀ out₀ place at n clock next table out counts
+Inv-loop text from first head presets table₀ out₀ place at₀ n₀ clock₀ next₀ used₀ held₀ capacities₀ table out at n clock next used held capacities =
+    AtEvent head presets text from first table₀ out₀ place at n clock next table out used held capacities
 
 abbrev μ-loop : tie.MeasureT-loop
-μ-loop text from first head presets table₀ out₀ place at₀ n₀ clock₀ next₀ counts₀ table out at n clock next counts =
+μ-loop text from first head presets table₀ out₀ place at₀ n₀ clock₀ next₀ used₀ held₀ capacities₀ table out at n clock next used held capacities =
     length text - at
 
 counts-of-requires : tie.Need-counts-of-requires Inv-loop μ-loop
@@ -23,9 +21,10 @@ counts-of-requires c κs = search needs
 
 loop-holds : tie.Need-loop-holds Inv-loop μ-loop
 loop-holds c =
-    let s = c .before .before .before .before .before in
+    let k = c .before .before in
+    let s = k .before .before .before .before .before in
     let a = s .args in
-    at-first (a .head) (a .presets) (a .text .now) (a .from) (a .first) (a .table .now) (a .out .now) (a .place) (s .pre) (c .counts-of .ensures)
+    at-first (a .head) (a .presets) (a .text .now) (a .from) (a .first) (a .table .now) (a .out .now) (a .place) (s .pre) (k .counts-of .ensures)
 
 line-at-requires : tie.Need-line-at-requires Inv-loop μ-loop
 line-at-requires c κs = search needs
@@ -35,21 +34,15 @@ event-by-counts-requires c κs = search needs
 
 add-n : tie.Need-add-n Inv-loop μ-loop
 add-n c =
-    let i = c .before .before .before .before .before .before .loop .inv in
+    let i = c .before .before .before .before .before .before .before .before .before .loop .inv in
     omega (arith, i .few, i .inside, i .short)
 
 answer-line-requires : tie.Need-answer-line-requires Inv-loop μ-loop
 answer-line-requires c κs = search needs
 
-is-moved-requires : tie.Need-is-moved-requires Inv-loop μ-loop
-is-moved-requires c κs = search needs
-
-counts-of-requires-2 : tie.Need-counts-of-requires-2 Inv-loop μ-loop
-counts-of-requires-2 c κs = search needs
-
 -- the place after the line was found
-abbrev found : tie.Joined1 Inv-loop μ-loop → tie.After-line-at Inv-loop μ-loop
-found c = c .before .before .before .before .before .before .before .before .before .before
+abbrev found : tie.After-slice-known4 Inv-loop μ-loop → tie.After-line-at Inv-loop μ-loop
+found c = c .before .before .before .before .before .before .before .before .before .before .before
 
 add-at : tie.Need-add-at Inv-loop μ-loop
 add-at c =
@@ -65,15 +58,10 @@ loop-less c =
 
 loop-again : tie.Need-loop-again Inv-loop μ-loop
 loop-again c =
-    let m = c .before in
-    let w = m .before .before .before in
+    let w = c .before .before in
     let e = w .before .before .before .before in
-    let x = e .before .before in
-    let i = x .before .before .loop .inv in
-    let l = x .before .loop-test .taken in
-    at-next i l (x .line-at .ensures) (e .event-by-counts .ensures) (w .answer-line .ensures)
-    (⊎-elim (λ p v long. rw (p .3) (p .2 .ensures v long))
-    (λ p v long. rw (p .1) (counts-kept i l (x .line-at .ensures) (e .event-by-counts .ensures) (sym (m .is-moved .ensures) ∙ p .0 .left))) (c .if1 .came))
+    let x = found c in
+    at-next (x .before .before .loop .inv) (x .before .loop-test .taken) (x .line-at .ensures) (e .event-by-counts .ensures) (w .answer-line .ensures)
 
 same-length : tie.Need-same-length Inv-loop μ-loop
 same-length c = c .before .loop .inv .size
@@ -96,8 +84,6 @@ run-lines-spec =
     event-by-counts-requires
     add-n
     answer-line-requires
-    is-moved-requires
-    counts-of-requires-2
     add-at
     loop-less
     loop-again

@@ -41,12 +41,12 @@ same-length-2 c = search needs
 returns-2 : tie.Need-returns-2
 returns-2 c =
     let o = c .before .before in
-    let n = o .before .before in
+    let n = o .before .before .before .before .before .before .before in
     let e = n .before .before in
     let k = e .before .before in
     let a = k .before .before .before .args in
     let run = frame-running (a .head) (a .presets) (a .clock) (a .table .now) (sym (k .frame-cause .ensures) ∙ ap causeIn (e .enum-told .given .1)) in (
-      o .call-by-counts .ensures (run .0) (run .1) (n .counts-of .ensures (run .0) (run .1 .long)),
+      o .call-by-counts .ensures (run .0) (run .1) (n .counts-of .ensures (run .0) (run .1 .long)) .0,
       call-claim (headIn (a .head) (a .presets)) (a .clock) (callJobs (a .n) (a .jobs)) (a .table .now),
     )
 

@@ -51,7 +51,7 @@ loop-again : tie.Need-loop-again Inv-loop μ-loop
 loop-again c = let d = c .before .before in (omega arith, least-more (d .loop .inv .1) (d .before .pre .0) (d .before .pre .1) (c .before .loop-test .taken))
 
 returns : tie.Need-returns Inv-loop μ-loop
-returns c = λ x h r low. c .before .loop .inv .1 .right x h .1 r (omega (arith, c .loop-test .left))
+returns c = (c .before .loop .inv .1 .long, λ x h r low. c .before .loop .inv .1 .right x h .1 r (omega (arith, c .loop-test .left)))
 
 pub capacities-of-spec : {M : Type 1} → statement M
 capacities-of-spec =

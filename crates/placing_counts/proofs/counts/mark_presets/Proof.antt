@@ -11,13 +11,14 @@ use Rattle.station.specs.Head.{Preset, noPreset}
 use Rattle.station.specs.Types.{presetIn}
 use Rattle.placing_check.proofs.Checking.{presets-count, preset-at}
 use Rattle.placing_counts.specs.Jobs.{marked}
-use Rattle.placing_counts.proofs.Counting.{MarkedBeside, beside-none, beside-more}
+use Rattle.placing_counts.specs.Counts.{MarkedBeside}
+use Rattle.placing_counts.proofs.Counting.{beside-none, beside-more}
 use Rattle.placing_counts.proofs.counts.mark_presets.Statement.{statement}
 use Rattle.placing_counts.proofs.counts.mark_presets.Tie as tie
 
 abbrev Inv-loop : tie.InvT-loop
 Inv-loop used₀ presets count i₀ used i =
-    (i ≤ count) × (count ≤ 32) × MarkedBeside (map presetIn (take count presets)) used₀ i used
+    (i ≤ count) × (count ≤ 32) × MarkedBeside (λ j. getD (map presetIn (take count presets)) j noPreset .number) used₀ i used
 
 abbrev μ-loop : tie.MeasureT-loop
 μ-loop used₀ presets count i₀ used i = count - i
@@ -57,11 +58,13 @@ returns : tie.Need-returns Inv-loop μ-loop
 returns c =
     let s = c .before .before in
     let a = s .args in
-    λ n l.
-    let e : c .before .loop .i ≡ a .head .count = omega arith in
-    c .before .loop .inv .2 .which n l
-    ∙ ap (λ (k : ℕ). ltb 0 (count k (λ j. eqb (getD (map presetIn (take (a .head .count) (a .t2))) j noPreset .number) n)) || marked (a .used .now) n)
-    (e ∙ sym (presets-count (a .head) (a .t2) (omega (arith, s)) (s .pre .0)))
+    let e : c .before .loop .i ≡ a .head .count = omega arith in (
+      c .before .loop .inv .2 .long,
+      λ n l.
+          c .before .loop .inv .2 .which n l
+          ∙ ap (λ (k : ℕ). ltb 0 (count k (λ j. eqb (getD (map presetIn (take (a .head .count) (a .t2))) j noPreset .number) n)) || marked (a .used .now) n)
+          (e ∙ sym (presets-count (a .head) (a .t2) (omega (arith, s)) (s .pre .0))),
+    )
 
 pub mark-presets-spec : {M : Type 1} → statement M
 mark-presets-spec =
