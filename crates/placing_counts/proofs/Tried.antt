@@ -1,7 +1,7 @@
 -- The causes of a call itself as the code tries them, src/cause.rt: a law for each answer, and what is known where none is met.
 --
 -- In order: a job within its limits; a number that is new (`new-..`); the jobs of a call (`call-jobs`, `jobs-length`, `job-at`), outside their limits or not (`outside-..`, `inside-..`); their lengths
--- (`lengths-are`); numbers that are new (`jobs-used`); whether they fit (`fit-counted`); the causes (`cause-..`).
+-- (`lengths-are`); numbers that are new (`jobs-used`); whether they fit (`fit-counted`, `fit-one`); the causes (`cause-..`).
 -- Assumes nothing.
 use Prim.Native.Nat.{ℕ, _+_, _-_, _%_, _≤_, _<_}
 use native.Mathlib.Omega.{arith}
@@ -12,8 +12,8 @@ use mathlib.Core.List.{List, [], _∷_, _++_, append-nil}
 use lib.ListN.{length, take, getD, replicate, length-map, length-append, length-replicate, List·getD-map}
 use lib.Seq.{ext-getD, getD-take, length-take-le, take-all}
 use lib.Dec.{ltb, leb, eqb}
-use Rattle.laws.specs.Sums.{every}
-use Rattle.laws.specs.Placement.{at, excess}
+use Rattle.laws.specs.Sums.{sum, greatest, every}
+use Rattle.laws.specs.Placement.{at, capacity, excess}
 use Rattle.laws.proofs.Sums.{Is, is, is-true, is-false, clash, test-ext, lt-of, ge-of, le-of, eq-of, ltb-iff, ltb-yes, ltb-no, leb-yes, leb-no, eqb-yes, both, left-of, right-of}
 use Rattle.laws.proofs.Every.{not-is-true, not-is-false, true-of-not, every-all}
 use Rattle.laws.proofs.Loops.{every-ext, every-not, fails-left, fails-right}
@@ -27,6 +27,7 @@ use Rattle.placing.specs.Call.{usableCount, lengths, callExcess, callFits}
 use Rattle.placing.specs.CallJobs.{jobIn, jobsIn}
 use Rattle.placing.specs.Entries.{jobsOutside, jobsUsed, jobsTooMany, callCauses}
 use Rattle.placing.proofs.Causes.{met}
+use Rattle.placing.proofs.Good.{length-lengths, at-lengths}
 use Rattle.placing.proofs.Room.{fits-by-room}
 use Rattle.placing_check.specs.Causes.{callJobs}
 use Rattle.placing_evict.specs.Evict.{ExcessOver}
@@ -197,6 +198,29 @@ fit-counted jobs xs needs n {v} e over h clock t valid formed right =
     is-excess =
         over (h .slots) (usableCount h clock t) right
         ∙ ap (λ (c : List ℕ). excess (length c) (at c) (h .slots) (usableCount h clock t)) (sym e)
+
+-- one job exceeds the cells by what it is longer than the capacity for one
+excess-one : (c : ℕ → ℕ) (n : ℕ) (x : ℕ → ℕ) → excess 1 c n x ≡ c 0 - capacity n x 1
+unfolding sum greatest
+excess-one c n x = rw (ltb-no (c 0) (c 0 + 0) (omega arith)) (omega arith)
+
+pub fit-one : (js : List record-job.Job) → length js ≡ 8 → (n : ℕ) (xs : List ℕ) → n ≡ 1 → CountedFit xs (jobsIn n js) (leb (jobRecord js 0 .slots) (getD xs 1 0))
+fit-one js long n xs one h clock t valid formed right =
+    test-ext (leb c (getD xs 1 0)) (callFits h clock jobs t)
+    (λ q. fits-by-room h clock jobs t valid formed .1 (omega (arith, is-excess, le-of c (getD xs 1 0) q)))
+    (λ q. leb-yes c (getD xs 1 0) (omega (arith, is-excess, fits-by-room h clock jobs t valid formed .0 q)))
+  where
+    jobs : List Job
+    jobs = jobsIn n js
+
+    c : ℕ
+    c = jobRecord js 0 .slots
+
+    is-excess : callExcess h jobs (usableCount h clock t) ≡ c - getD xs 1 0
+    is-excess =
+        ap (λ (k : ℕ). excess k (at (lengths jobs)) (h .slots) (usableCount h clock t)) (length-lengths jobs ∙ jobs-length js long n (omega arith) ∙ one)
+        ∙ excess-one (at (lengths jobs)) (h .slots) (usableCount h clock t)
+        ∙ ap₂ (λ (a b : ℕ). a - b) (at-lengths jobs 0 ∙ ap (λ (j : Job). j .slots) (job-at js long n (omega arith) 0 (omega arith))) (sym (right 1 (omega arith)))
 
 -- ---- the causes
 

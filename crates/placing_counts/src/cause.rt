@@ -92,11 +92,15 @@ fn jobs_used(used: &[u8; 256], jobs: [Job; 8], n: usize) -> bool
     false
 }
 
-// Whether the first n jobs fit into the cells that they may use, whose capacities for 0 to 8 are given.
+// Whether the first n jobs fit into the cells that they may use, whose capacities for 0 to 8 are given. One job alone fits if it is no longer than the capacity for one.
 fn jobs_fit(capacities: &[usize; 9], jobs: [Job; 8], n: usize) -> bool
     requires { ⌜ (n ≤ 8) × (jobsOutside (jobsIn n jobs) ≡ false) ⌝ }
     ensures { λ r. ⌜ CountedFit (now (capacities .entry)) (jobsIn n jobs) r ⌝ }
 {
+    if n == 1 {
+        let job = jobs[0];
+        return job.slots as usize <= capacities[1];
+    }
     let needs = job_needs(jobs);
     excess_over(needs, n, capacities) == 0
 }
