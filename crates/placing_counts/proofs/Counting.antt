@@ -16,15 +16,15 @@ use lib.Dec.{ltb, leb, eqb}
 use Rattle.laws.specs.Sums.{bit, sum, only, count}
 use Rattle.laws.specs.Placement.{at, capacity}
 use Rattle.laws.proofs.Sums.{Is, is, is-true, is-false, eq-of, ne-of, lt-of, ge-of, ltb-yes, ltb-no, leb-yes, leb-no, eqb-yes, eqb-no, eqb-self, sum-ext, sum-le, sum-but, sum-swap, sum-const, count-ext, count-none, count-all, count-le}
-use Rattle.laws.proofs.Every.{or-left, or-right, count-eqb-le, sum-beyond}
+use Rattle.laws.proofs.Every.{or-left, or-right, count-some, count-eqb-le, sum-split, sum-beyond}
 use Rattle.laws.proofs.Loops.{sum-none, sum-more, sum-rows, some-none, some-more}
 use Rattle.laws.proofs.Filled.{only-le, ltb-next, zeros}
 use Rattle.laws.proofs.Stepwise.{capacity-zero, capacity-next, count-least}
 use Rattle.station.specs.Head.{Head}
-use Rattle.placing.specs.Table.{cell, kindOf, numberIn, isEmpty, isOptional, callCell, hasJob, hasPreset}
+use Rattle.placing.specs.Table.{cell, kindOf, numberIn, isEmpty, isOptional, isCall, callCell, hasJob, hasPreset}
 use Rattle.placing.specs.Valid.{usable}
 use Rattle.placing.specs.Call.{usableCount}
-use Rattle.placing.proofs.Cells.{kindOf-call, numberIn-call}
+use Rattle.placing.proofs.Cells.{kindOf-call, numberIn-call, isCall-call}
 use Rattle.placing_counts.specs.Jobs.{marked}
 use Rattle.placing_counts.specs.Counts.{CountsOf, Marked, Marks, freeCell, freeIn, slotFree, ByFree, CapacitiesAt, MarkedBeside}
 
@@ -169,6 +169,26 @@ marked-more {t} {i} {v} {u} {w} j m e k q =
           ∙ sym (some-more i (λ j. eqb (getD t j 0) (callCell n)))
           ∙ ap (λ (x : ℕ). ltb 0 (count x (λ j. eqb (getD t j 0) (callCell n)))) (sym q);
     }
+
+-- cells of which none is a call's mark nothing
+pub marked-past : {t : List ℕ} {i : ℕ} {u : List ℕ} (m : ℕ) → Marked t i u → m ≤ 8 → ltb 0 (count 8 (λ b. isCall (getD t (i + b) 0))) ≡ false → Marked t (i + m) u
+marked-past {t} {i} {u} m k few none =
+    record {
+      long = k .long;
+      which = λ n l.
+          let p : ℕ → ℕ = λ j. bit (eqb (getD t j 0) (callCell n)) in
+          let same : sum (i + m) p ≡ sum i p =
+          omega (arith, sum-split i m p, count-none m (λ b. eqb (getD t (i + b) 0) (callCell n)) (λ b q. eqb-no (getD t (i + b) 0) (callCell n) (other n l b (omega arith)))) in
+          k .which n l ∙ ap (λ (x : ℕ). ltb 0 x) (sym same);
+    }
+  where
+    other : (n : ℕ) → n < 256 → (b : ℕ) → b < 8 → getD t (i + b) 0 ≡ callCell n → ⊥
+    other n l b q e =
+        omega (
+          arith,
+          ge-of 0 (count 8 (λ z. isCall (getD t (i + z) 0))) none,
+          count-some 8 (λ z. isCall (getD t (i + z) 0)) b q (ap isCall e ∙ isCall-call n l),
+        )
 
 -- ---- slots by how many free cells they have
 

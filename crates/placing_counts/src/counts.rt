@@ -7,10 +7,11 @@ ghost use Prim.Native.Nat.{ℕ, _+_, _*_, _-_, _%_, _<_, _≤_, min};
 ghost use mathlib.Core.Path.{_≡_};
 ghost use mathlib.Core.Bool.{true, _||_};
 ghost use lib.ListN.{length, getD, replicate};
+ghost use lib.Dec.{ltb};
 ghost use Rattle.laws.specs.Sums.{bit, sum, count};
 ghost use Rattle.laws.specs.Placement.{at, capacity};
 ghost use Rattle.station.specs.Types.{headIn, validRecord};
-ghost use Rattle.placing.specs.Table.{cell, hasPreset};
+ghost use Rattle.placing.specs.Table.{cell, isCall, hasPreset};
 ghost use Rattle.placing.specs.Limits.{inLimits};
 ghost use Rattle.placing_counts.specs.Jobs.{marked, jobNumber};
 ghost use Rattle.placing_counts.specs.Counts.{Marks, Marked, MarkedBeside, freeCell, freeIn, slotFree, ByFree, CapacitiesAt, CountsOf};
@@ -57,16 +58,57 @@ fn mark(used: &mut [u8; 256], v: u16) -> usize
     1
 }
 
-// Marks the numbers of the call cells among the first ones of a table, and answers how many numbers they are.
-fn mark_calls(table: &[u16], cells: usize, used: &mut [u8; 256]) -> usize
-    requires { ⌜ (cells ≤ length (now table)) × (now used ≡ replicate 256 0) ⌝ }
-    ensures { λ r. ⌜ Marked (now (table .entry)) cells (now (used .exit)) × (r ≡ count 256 (marked (now (used .exit)))) ⌝ }
+// 1 for a call cell, else 0.
+fn call_cell(v: u16) -> u16
+    ensures { λ r. ⌜ (r ≡ bit (isCall v)) × (r ≤ 1) ⌝ }
+{
+    if v / 256 == CALL {
+        return 1;
+    }
+    0
+}
+
+// Whether one of the eight cells from a place of the table on is a call cell: one vector instruction looks at all.
+fn has_calls(table: &[u16], from: usize) -> bool
+    requires { ⌜ from + 8 ≤ length (now table) ⌝ }
+    ensures { λ r. ⌜ r ≡ ltb 0 (count 8 (λ b. isCall (getD (now (table .entry)) (from + b) 0))) ⌝ }
+{
+    let mut calls: u16 = 0;
+    let mut b = 0;
+    while b < 8 {
+        calls += call_cell(table[from + b]);
+        b += 1;
+    }
+    0 < calls
+}
+
+// Marks the numbers of the call cells of the slot whose first cell is at `from`, and answers how many were not marked before.
+fn mark_slot(table: &[u16], from: usize, bridges: usize, used: &mut [u8; 256]) -> usize
+    requires { ⌜ (bridges ≤ 8) × (from + bridges ≤ length (now table)) × Marked (now table) from (now used) ⌝ }
+    ensures { λ r. ⌜ Marked (now (table .entry)) (from + bridges) (now (used .exit)) × (count 256 (marked (now (used .exit))) ≡ count 256 (marked (now (used .entry))) + r) × (r ≤ bridges) ⌝ }
 {
     let mut jobs = 0;
-    let mut i = 0;
-    while i < cells {
-        jobs += mark(used, table[i]);
-        i += 1;
+    let mut b = 0;
+    while b < bridges {
+        jobs += mark(used, table[from + b]);
+        b += 1;
+    }
+    jobs
+}
+
+// Marks the numbers of the call cells of a frame, and answers how many numbers they are. Slots without one, the most, are passed over.
+fn mark_calls(table: &[u16], slots: usize, bridges: usize, used: &mut [u8; 256]) -> usize
+    requires { ⌜ (slots ≤ 64) × (bridges ≤ 8) × (512 ≤ length (now table)) × (now used ≡ replicate 256 0) ⌝ }
+    ensures { λ r. ⌜ Marked (now (table .entry)) (slots * bridges) (now (used .exit)) × (r ≡ count 256 (marked (now (used .exit)))) ⌝ }
+{
+    let mut jobs = 0;
+    let mut s = 0;
+    while s < slots {
+        let from = s * bridges;
+        if has_calls(table, from) {
+            jobs += mark_slot(table, from, bridges, used);
+        }
+        s += 1;
     }
     jobs
 }
@@ -247,7 +289,7 @@ pub fn counts_of(head: Head, presets: [Preset; 32], table: &[u16], clock: usize)
             capacities: capacities,
         };
     }
-    let jobs = mark_calls(table, slots * bridges, &mut used);
+    let jobs = mark_calls(table, slots, bridges, &mut used);
     mark_presets(head, presets, &mut used);
     Counts {
         used: used,

@@ -7,7 +7,7 @@ use Rattle.laws.proofs.Sums.{clash}
 use Rattle.laws.proofs.Every.{false-of-not, true-of-not}
 use Rattle.station.specs.Types.{headIn}
 use Rattle.placing.proofs.Bounds.{in-limits, limits-of}
-use Rattle.placing_check.proofs.Checking.{frame-le, count-high, record-valid}
+use Rattle.placing_check.proofs.Checking.{count-high, record-valid}
 use Rattle.placing_counts.proofs.Counting.{counts-of}
 use borrow.Author.Needs.{needs}
 use Rattle.placing_counts.proofs.counts.counts_of.Statement.{statement}
@@ -38,16 +38,8 @@ returns c =
     ∙ sym (k .in-limits .ensures)
     ∙ false-of-not _ (c .if1 .taken)))
 
-mul-mark-calls : tie.Need-mul-mark-calls
-mul-mark-calls c =
-    let a = c .before .before .before .before .args in
-    omega (arith, frame-le (a .head .slots) (a .head .bridges) (within c .0) (within c .1))
-
 mark-calls-requires : tie.Need-mark-calls-requires
-mark-calls-requires c κs =
-    let e = c .before in
-    let a = e .before .before .before .before .args in
-    (omega (arith, frame-le (a .head .slots) (a .head .bridges) (within e .0) (within e .1), within e .3), refl)
+mark-calls-requires c κs = let l = within (c .before) in (l .0, l .1, l .3, refl)
 
 mark-presets-requires : tie.Need-mark-presets-requires
 mark-presets-requires c κs =
@@ -71,7 +63,6 @@ counts-of-spec =
     capacities-at-requires
     in-limits-requires
     returns
-    mul-mark-calls
     mark-calls-requires
     mark-presets-requires
     returns-2)

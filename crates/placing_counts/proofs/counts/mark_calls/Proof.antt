@@ -1,57 +1,77 @@
--- `counts::mark_calls` meets its contract. The loop's invariant: the cells before `i` are marked and counted. Assumes nothing.
+-- `counts::mark_calls` meets its contract. The loop's invariant: the slots before `s` are marked and counted. Assumes nothing.
 use native.Mathlib.Omega.{arith}
-use Prim.Native.Nat.{ℕ, _+_, _-_, _≤_}
-use mathlib.Core.Path.{_≡_, refl, sym, subst}
+use Prim.Native.Nat.{ℕ, _*_, _-_, _≤_}
+use native.Mathlib.Nat.{zero-mul}
+use mathlib.Core.Path.{_≡_, sym, _∙_, ap, subst}
+use mathlib.Core.Logic.{⊎-elim}
+use mathlib.Core.List.{List}
 use Rattle.laws.specs.Sums.{count}
 use Rattle.laws.proofs.Sums.{count-le}
+use Rattle.placing_check.proofs.Checking.{next-row}
 use Rattle.placing_counts.specs.Jobs.{marked}
 use Rattle.placing_counts.specs.Counts.{Marked}
-use Rattle.placing_counts.proofs.Counting.{marked-none, none-marked, marked-more}
+use Rattle.placing_counts.proofs.Counting.{eight-le, marked-none, none-marked, marked-past}
 use Rattle.placing_counts.proofs.counts.mark_calls.Statement.{statement}
 use Rattle.placing_counts.proofs.counts.mark_calls.Tie as tie
 
 abbrev Inv-loop : tie.InvT-loop
-Inv-loop table cells used₀ jobs₀ i₀ used jobs i = (i ≤ cells) × Marked table i used × (jobs ≡ count 256 (marked used))
+Inv-loop table slots bridges used₀ jobs₀ s₀ used jobs s = (s ≤ slots) × Marked table (s * bridges) used × (jobs ≡ count 256 (marked used))
 
 abbrev μ-loop : tie.MeasureT-loop
-μ-loop table cells used₀ jobs₀ i₀ used jobs i = cells - i
+μ-loop table slots bridges used₀ jobs₀ s₀ used jobs s = slots - s
 
 loop-holds : tie.Need-loop-holds Inv-loop μ-loop
 loop-holds c =
     let s = c .before in
-    (omega arith, rw (s .pre .1) (marked-none (s .args .table .now)), rw (s .pre .1) (sym none-marked))
+    let a = s .args in
+    (omega arith, rw (zero-mul (a .bridges), s .pre .3) (marked-none (a .table .now)), rw (s .pre .3) (sym none-marked))
 
-mul-mark : tie.Need-mul-mark Inv-loop μ-loop
-mul-mark c = omega arith
+mul-from : tie.Need-mul-from Inv-loop μ-loop
+mul-from c =
+    let s = c .before .before .before in
+    omega (arith, eight-le (c .before .loop .s) (s .args .bridges) (omega arith) (s .pre .1))
 
-shared-slice-read-mark : tie.Need-shared-slice-read-mark Inv-loop μ-loop
-shared-slice-read-mark c = omega arith
+has-calls-requires : tie.Need-has-calls-requires Inv-loop μ-loop
+has-calls-requires c κs =
+    let s = c .before .before .before in
+    omega (arith, eight-le (c .before .loop .s) (s .args .bridges) (omega arith) (s .pre .1), s .pre .2)
 
-mark-requires : tie.Need-mark-requires Inv-loop μ-loop
-mark-requires c κs = c .before .before .before .loop .inv .1 .long
+mark-slot-requires : tie.Need-mark-slot-requires Inv-loop μ-loop
+mark-slot-requires c κs =
+    let d = c .before .before .before .before in
+    let s = d .before .before in
+    (s .pre .1, omega (arith, eight-le (d .loop .s) (s .args .bridges) (omega arith) (s .pre .1), s .pre .1, s .pre .2), d .loop .inv .1)
 
 add-jobs : tie.Need-add-jobs Inv-loop μ-loop
 add-jobs c =
-    let l = c .before .before .before .before .loop in
-    omega (arith, l .inv .2, count-le 256 (marked (l .used)), c .mark .ensures .one)
+    let l = c .before .before .before .before .before .loop in
+    omega (arith, l .inv .2, count-le 256 (marked (l .used)), c .mark-slot .ensures .2, c .before .before .before .before .before .before .before .pre .1)
 
-add-i : tie.Need-add-i Inv-loop μ-loop
-add-i c = omega arith
+add-s : tie.Need-add-s Inv-loop μ-loop
+add-s c = omega arith
 
 loop-less : tie.Need-loop-less Inv-loop μ-loop
 loop-less c = omega arith
 
 loop-again : tie.Need-loop-again Inv-loop μ-loop
 loop-again c =
-    let l = c .before .before .before .before .loop in
-    (omega arith, marked-more (l .i + 1) (l .inv .1) refl (c .mark .ensures) refl, omega (arith, l .inv .2, c .mark .ensures .more))
+    let d = c .before .before .before in
+    let l = d .loop in
+    let s = d .before .before in
+    let a = s .args in
+    let next = next-row (l .s) (a .bridges) in
+    let many : List ℕ → ℕ = λ u. count 256 (marked u) in
+    ⊎-elim
+    (λ p. (omega arith, rw (p .3) (rw next at (p .2 .ensures .0)), p .4 ∙ omega (arith, l .inv .2, p .2 .ensures .1) ∙ sym (ap many (p .3))))
+    (λ p. (omega arith, rw (p .1) (rw next at (marked-past (a .bridges) (l .inv .1) (s .pre .1) (sym (c .before .has-calls .ensures) ∙ p .0 .left))), p .2 ∙ l .inv .2 ∙ sym (ap many (p .1))))
+    (c .if1 .came)
 
 returns : tie.Need-returns Inv-loop μ-loop
 returns c =
     let l = c .before .loop in
     let a = c .before .before .before .args in
-    let e : l .i ≡ a .cells = omega arith in
-    (subst (λ (k : ℕ). Marked (a .table .now) k (l .used)) e (l .inv .1), l .inv .2)
+    let e : l .s ≡ a .slots = omega arith in
+    (subst (λ (k : ℕ). Marked (a .table .now) (k * a .bridges) (l .used)) e (l .inv .1), l .inv .2)
 
 pub mark-calls-spec : {M : Type 1} → statement M
 mark-calls-spec =
@@ -60,11 +80,11 @@ mark-calls-spec =
     Inv-loop
     μ-loop
     loop-holds
-    mul-mark
-    shared-slice-read-mark
-    mark-requires
+    mul-from
+    has-calls-requires
+    mark-slot-requires
     add-jobs
-    add-i
+    add-s
     loop-less
     loop-again
     returns)
