@@ -3,7 +3,7 @@ use frame::types::Answer;
 use frame::types::Outcome;
 use placing_call::call::CallAnswer;
 use placing_call::call::call_by_counts;
-use placing_counts::counts::pass_slots;
+use placing_counts::capacities::pass_slots;
 use station::types::Head;
 use station::types::Preset;
 use station::types::Refusal;

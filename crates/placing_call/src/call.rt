@@ -1,8 +1,8 @@
 // A call over presets by value: the causes, by the counts of the table and the clock, then the eviction search, then the jobs into the table.
 use placing_check::cause::Cause;
 use placing_check::cause::frame_cause;
+use placing_counts::capacities::capacities_at;
 use placing_counts::cause::cause_by_counts;
-use placing_counts::counts::capacities_at;
 use placing_counts::counts::counts_of;
 use placing_counts::counts::mark_jobs;
 use placing_counts::needs::job_needs;

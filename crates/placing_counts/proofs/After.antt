@@ -20,7 +20,8 @@ use Rattle.placing.proofs.Numbers.{numberOf, isOneOf, left-isUsed, left-jobCoun
 use Rattle.placing.proofs.Theorems.{call-accepted, call-claim}
 use Rattle.placing_counts.specs.Jobs.{jobNumber, marked}
 use Rattle.placing_counts.specs.Counts.{CountsOf, CapacitiesAt, MarkedBeside}
-use Rattle.placing_counts.proofs.Counting.{or-comm, capacity-is}
+use Rattle.placing_counts.proofs.Counting.{or-comm}
+use Rattle.placing_counts.proofs.Usable.{capacity-is}
 use Rattle.placing_counts.proofs.Tried.{jobs-length, number-of, inside-number}
 
 -- the clock moved

@@ -1,70 +1,27 @@
--- Laws of the counts of a table and a clock.
+-- Laws of the numbers that are marked, and of the counts of a table and a clock.
 --
--- In order: a cell that a call may use (`free-..`); numbers that are marked, by one cell (`mark-..`) and by those so far (`marked-..`); slots by how many free cells they
--- have (`with-..`), and their capacities (`least-..`); numbers marked beside others (`beside-..`); slots before the clock and from it on (`slot-..`), and a slot that it passes (`pass-slot`);
--- the counts of the frame (`counts-of`). Those of what an event leaves are in After.antt.
+-- In order: numbers that are marked, by one cell (`mark-..`) and by those so far (`marked-..`); numbers marked beside others (`beside-..`); the counts of the frame (`counts-of`). Those of what an event
+-- leaves are in After.antt, the capacities in Usable.antt.
 -- Assumes nothing.
-use Prim.Native.Nat.{ℕ, suc, _+_, _*_, _-_, _≤_, _<_, min}
+use Prim.Native.Nat.{ℕ, _+_, _*_, _≤_, _<_}
 use native.Mathlib.Omega.{arith}
-use native.Mathlib.Nat.{mul-le-mul}
 use mathlib.Core.Path.{_≡_, refl, sym, _∙_, ap, ap₂}
 use mathlib.Core.Bool.{Bool, true, false, _||_}
 use mathlib.Core.List.{List}
 use lib.ListN.{length, getD, set, replicate, length-set}
 use lib.Seq.{getD-set-same, getD-set-other}
-use lib.Dec.{ltb, leb, eqb}
-use Rattle.laws.specs.Sums.{bit, sum, only, count}
-use Rattle.laws.specs.Placement.{at, capacity}
-use Rattle.laws.proofs.Sums.{Is, is, is-true, is-false, eq-of, ne-of, lt-of, ge-of, ltb-yes, ltb-no, leb-yes, leb-no, eqb-yes, eqb-no, eqb-self, sum-ext, sum-le, sum-but, sum-swap, sum-const, count-ext, count-none, count-all, count-le}
-use Rattle.laws.proofs.Every.{or-left, or-right, count-some, count-eqb-le, sum-split, sum-beyond}
-use Rattle.laws.proofs.Loops.{sum-none, sum-more, sum-rows, some-none, some-more}
-use Rattle.laws.proofs.Filled.{only-le, ltb-next, zeros}
-use Rattle.laws.proofs.Stepwise.{capacity-zero, capacity-next, count-least}
+use lib.Dec.{ltb, eqb}
+use Rattle.laws.specs.Sums.{bit, sum, count}
+use Rattle.laws.proofs.Sums.{Is, is, is-true, is-false, eq-of, ne-of, ge-of, ltb-yes, ltb-no, eqb-yes, eqb-no, eqb-self, sum-but, count-ext, count-none}
+use Rattle.laws.proofs.Every.{or-left, or-right, count-some, sum-split}
+use Rattle.laws.proofs.Loops.{sum-rows, some-none, some-more}
+use Rattle.laws.proofs.Filled.{zeros}
 use Rattle.station.specs.Head.{Head}
-use Rattle.placing.specs.Table.{cell, kindOf, numberIn, isEmpty, isOptional, isCall, callCell, hasJob, hasPreset}
-use Rattle.placing.specs.Valid.{usable}
-use Rattle.placing.specs.Call.{usableCount}
+use Rattle.placing.specs.Table.{cell, kindOf, numberIn, isCall, callCell, hasJob, hasPreset}
 use Rattle.placing.proofs.Cells.{kindOf-call, numberIn-call, isCall-call}
 use Rattle.placing_counts.specs.Jobs.{marked}
-use Rattle.placing_counts.specs.Counts.{CountsOf, Marked, Marks, freeCell, freeIn, slotFree, ByFree, CapacitiesAt, MarkedBeside}
-
--- ---- a cell that a call may use
-
-pub free-empty : (v : ℕ) → v ≡ 0 → 1 ≡ bit (freeCell v)
-free-empty v z = ap (λ (x : ℕ). bit (freeCell x)) (sym z)
-
-pub free-optional : (v : ℕ) → kindOf v ≡ 3 → 1 ≡ bit (freeCell v)
-free-optional v k = ap bit (sym (or-right (isEmpty v) (isOptional v) (eqb-yes (kindOf v) 3 k)))
-
-pub free-none : (v : ℕ) → (v ≡ 0 → ⊥) → (kindOf v ≡ 3 → ⊥) → 0 ≡ bit (freeCell v)
-free-none v z k = sym (ap₂ (λ (a b : Bool). bit (a || b)) (eqb-no v 0 z) (eqb-no (kindOf v) 3 k))
-
--- the cells from a place on, no cell and one more
-pub free-in-none : (t : List ℕ) (from : ℕ) → freeIn t from 0 ≡ 0
-unfolding freeIn
-free-in-none t from = sum-none (λ b. bit (freeCell (getD t (from + b) 0)))
-
-free-in-more : (t : List ℕ) (from n : ℕ) → freeIn t from (n + 1) ≡ freeIn t from n + bit (freeCell (getD t (from + n) 0))
-unfolding freeIn
-free-in-more t from n = sum-more n (λ b. bit (freeCell (getD t (from + b) 0)))
-
--- eight cells from the start of a slot are within a table of 512
-pub eight-le : (s m : ℕ) → s < 64 → m ≤ 8 → s * m + 8 ≤ 512
-eight-le s m ls lm = omega (arith, mul-le-mul {n₁ = s} {n₂ = 63} {m₂ = 8} (omega arith) lm)
-
--- one cell more of eight, in the slot or past it
-pub free-in-here : (t : List ℕ) (from n b : ℕ) → b < n → freeIn t from (min (b + 1) n) ≡ freeIn t from (min b n) + bit (freeCell (getD t (from + b) 0))
-free-in-here t from n b l =
-    let next : min (b + 1) n ≡ b + 1 = omega arith in
-    let now : min b n ≡ b = omega arith in
-    omega (arith, ap (freeIn t from) next, ap (freeIn t from) now, free-in-more t from b)
-
-pub free-in-past : (t : List ℕ) (from n b : ℕ) → n ≤ b → freeIn t from (min (b + 1) n) ≡ freeIn t from (min b n)
-free-in-past t from n b l = ap (freeIn t from) (let same : min (b + 1) n ≡ min b n = omega arith in same)
-
-pub free-in-le : (t : List ℕ) (from n : ℕ) → freeIn t from n ≤ n
-unfolding freeIn
-free-in-le t from n = count-le n (λ b. freeCell (getD t (from + b) 0))
+use Rattle.placing_counts.specs.Counts.{CountsOf, Marked, Marks, CapacitiesAt, MarkedBeside}
+use Rattle.placing_counts.proofs.Usable.{capacity-is}
 
 -- ---- numbers that are marked
 
@@ -190,93 +147,6 @@ marked-past {t} {i} {u} m k few none =
           count-some 8 (λ z. isCall (getD t (i + z) 0)) b q (ap isCall e ∙ isCall-call n l),
         )
 
--- ---- slots by how many free cells they have
-
--- one slot more, which has f of them
-pub with-more : (l : List ℕ) (n : ℕ) (x : ℕ → ℕ) (f : ℕ) → f < length l → ByFree l n x → f ≡ x n
-    → ByFree (set l f (getD l f 0 + 1)) (n + 1) x
-with-more l n x f inside h e g low = go (is (eqb g (x n)))
-  where
-    more : count (n + 1) (λ s. eqb g (x s)) ≡ count n (λ s. eqb g (x s)) + bit (eqb g (x n))
-    more = sum-more n (λ s. bit (eqb g (x s)))
-
-    go : Is (eqb g (x n)) → getD (set l f (getD l f 0 + 1)) g 0 ≡ count (n + 1) (λ s. eqb g (x s))
-    go (is-true y) =
-        let same : g ≡ f = eq-of g (x n) y ∙ sym e in
-        ap (λ (k : ℕ). getD (set l f (getD l f 0 + 1)) k 0) same
-        ∙ getD-set-same l f (getD l f 0 + 1) 0 inside
-        ∙ omega (arith, h g low, ap (λ (k : ℕ). getD l k 0) same, more, ap bit y)
-    go (is-false y) =
-        getD-set-other l f g (getD l f 0 + 1) 0 (λ q. ne-of g (x n) y (q ∙ e)) ∙ omega (arith, h g low, more, ap bit y)
-
-pub with-none : (x : ℕ → ℕ) → ByFree (replicate 9 0) 0 x
-with-none x g l = zeros 9 g ∙ sym (sum-none (λ s. bit (eqb g (x s))))
-
--- no more slots are counted than there are
-pub with-le : (l : List ℕ) (n : ℕ) (x : ℕ → ℕ) → ByFree l n x → sum 9 (at l) ≤ n
-with-le l n x h =
-    omega (
-      arith,
-      sum-ext 9 (at l) (λ g. sum n (λ s. bit (eqb g (x s)))) h,
-      sum-swap 9 n (λ g s. bit (eqb g (x s))),
-      sum-le n (λ s. sum 9 (λ g. bit (eqb g (x s)))) (λ s. 1) (λ s l. count-eqb-le 9 (x s)),
-      sum-const n 1,
-    )
-
--- Of the slots counted in l, `left` have r free cells or more, and `out` has the capacities up to r.
-pub record Least (l : List ℕ) (n r left : ℕ) (out : List ℕ) : Type 0 where
-  pub long : length out ≡ 9
-  pub rest : left + sum r (at l) ≡ n
-  pub low : getD out r 0 ≤ 64 * r
-  pub right : (x : ℕ → ℕ) → ByFree l n x
-      → (left ≡ count n (λ s. leb r (x s))) × ((q : ℕ) → q ≤ r → getD out q 0 ≡ capacity n x q)
-
-pub least-none : (l : List ℕ) (n : ℕ) → Least l n 0 n (replicate 9 0)
-least-none l n =
-    record {
-      long = refl;
-      rest = omega (arith, sum-none (at l));
-      low = omega arith;
-      right = λ x h. (
-        sym (count-all n (λ s. leb 0 (x s)) (λ s m. leb-yes 0 (x s) (omega arith))),
-        λ q m. let z : q ≡ 0 = omega arith in zeros 9 q ∙ sym (ap (capacity n x) z ∙ capacity-zero n x),
-      );
-    }
-
-module _ {l : List ℕ} {n r left : ℕ} {out : List ℕ} (i : Least l n r left out) (most : n ≤ 64) (few : sum 9 (at l) ≤ n) (room : r < 8) where
-  -- the slots that have just r are among those that are left
-  pub least-here : getD l r 0 ≤ left
-  least-here = omega (arith, i .rest, sum-beyond r 9 (at l) r (omega arith) (omega arith), few)
-
-  pub least-more : Least l n (r + 1) (left - getD l r 0) (set out (r + 1) (getD out r 0 + (left - getD l r 0)))
-  least-more =
-      record {
-        long = length-set out (r + 1) v ∙ i .long;
-        rest = omega (arith, i .rest, sum-more r (at l), least-here);
-        low = omega (arith, here, i .low, i .rest, most);
-        right = λ x h.
-            let now = i .right x h in
-            let least : left - getD l r 0 ≡ count n (λ s. leb (r + 1) (x s)) = omega (arith, now .0, h r (omega arith), count-least n x r) in
-            (least, λ q m. go x q m (now .1) least (is (eqb q (r + 1))));
-      }
-    where
-      v : ℕ
-      v = getD out r 0 + (left - getD l r 0)
-
-      inside : r + 1 < length out
-      inside = omega (arith, i .long, room)
-
-      here : getD (set out (r + 1) v) (r + 1) 0 ≡ v
-      here = getD-set-same out (r + 1) v 0 inside
-
-      go : (x : ℕ → ℕ) (q : ℕ) → q ≤ r + 1 → ((q : ℕ) → q ≤ r → getD out q 0 ≡ capacity n x q) → left - getD l r 0 ≡ count n (λ s. leb (r + 1) (x s))
-          → Is (eqb q (r + 1)) → getD (set out (r + 1) v) q 0 ≡ capacity n x q
-      go x q m known least (is-true e) =
-          rw (eq-of q (r + 1) e) (here ∙ omega (arith, known r (omega arith), least, capacity-next n x r))
-      go x q m known least (is-false e) =
-          let ne = ne-of q (r + 1) e in
-          getD-set-other out (r + 1) q v 0 ne ∙ known q (omega arith)
-
 -- ---- numbers marked beside others
 
 pub beside-none : (f : ℕ → ℕ) (u : List ℕ) → length u ≡ 256 → MarkedBeside f u 0 u
@@ -297,100 +167,7 @@ beside-more {f} {u} {w} {i} m b small e =
     swap true c d = refl
     swap false c d = or-comm c d
 
--- ---- values lowered from the front
-
-abbrev pub LoweredBelow : List ℕ → (ℕ → ℕ) → ℕ → List ℕ → Type 0
-LoweredBelow l f r m = (q : ℕ) → getD m q 0 ≡ getD l q 0 - only (ltb q r) (f q)
-
-pub lowered-none : (l : List ℕ) (f : ℕ → ℕ) → LoweredBelow l f 0 l
-lowered-none l f q = rw (ltb-no q 0 (omega arith)) (omega arith)
-
-pub lowered-more : (l m : List ℕ) (f : ℕ → ℕ) (r v : ℕ) → r < length m → LoweredBelow l f r m → v ≡ getD m r 0 - f r → LoweredBelow l f (r + 1) (set m r v)
-lowered-more l m f r v inside h e q = go (is (eqb q r))
-  where
-    go : Is (eqb q r) → getD (set m r v) q 0 ≡ getD l q 0 - only (ltb q (r + 1)) (f q)
-    go (is-true y) =
-        let here : getD m r 0 ≡ getD l r 0 - only (ltb r r) (f r) = h r in
-        rw (eq-of q r y)
-        (rw (getD-set-same m r v 0 inside, ltb-yes r (r + 1) (omega arith)) (omega (arith, e, rw (ltb-no r r (omega arith)) at here)))
-    go (is-false y) =
-        let other = ne-of q r y in
-        rw (getD-set-other m r q v 0 other) (h q ∙ ap (λ (b : Bool). getD l q 0 - only b (f q)) (ltb-next q r other))
-
-pub lowered-all : (l m : List ℕ) (f : ℕ → ℕ) (r : ℕ) → LoweredBelow l f r m → (q : ℕ) → q < r → getD m q 0 ≡ getD l q 0 - f q
-lowered-all l m f r h q low = h q ∙ ap (λ (b : Bool). getD l q 0 - only b (f q)) (ltb-yes q r low)
-
--- ---- capacities, and a slot that the clock passes
-
--- a slot before the clock has no free cells, and one from it on has its own
-pub slot-before : (t : List ℕ) (bridges clock s : ℕ) → s + 1 < clock → slotFree t bridges clock s ≡ 0
-unfolding slotFree
-slot-before t bridges clock s l = ap (λ (b : Bool). only b (freeIn t (s * bridges) bridges)) (leb-no clock (suc s) (omega arith))
-
-pub slot-from : (t : List ℕ) (bridges clock s : ℕ) → clock ≤ s + 1 → slotFree t bridges clock s ≡ freeIn t (s * bridges) bridges
-unfolding slotFree
-slot-from t bridges clock s l = ap (λ (b : Bool). only b (freeIn t (s * bridges) bridges)) (leb-yes clock (suc s) (omega arith))
-
--- the slots before the clock are counted as having none
-pub with-before : (t : List ℕ) (bridges clock n : ℕ) → n ≤ clock - 1 → ByFree (set (replicate 9 0) 0 n) n (slotFree t bridges clock)
-with-before t bridges clock n l f low = go (is (eqb f 0))
-  where
-    none : (s : ℕ) → s < n → slotFree t bridges clock s ≡ 0
-    none s m = slot-before t bridges clock s (omega arith)
-
-    go : Is (eqb f 0) → getD (set (replicate 9 0) 0 n) f 0 ≡ count n (λ s. eqb f (slotFree t bridges clock s))
-    go (is-true e) =
-        let z : f ≡ 0 = eq-of f 0 e in
-        ap (λ (k : ℕ). getD (set (replicate 9 0) 0 n) k 0) z
-        ∙ sym (count-all n (λ s. eqb f (slotFree t bridges clock s)) (λ s m. eqb-yes f (slotFree t bridges clock s) (z ∙ sym (none s m))))
-    go (is-false e) =
-        getD-set-other (replicate 9 0) 0 f n 0 (ne-of f 0 e)
-        ∙ zeros 9 f
-        ∙ sym (count-none n (λ s. eqb f (slotFree t bridges clock s)) (λ s m. eqb-no f (slotFree t bridges clock s) (λ q. ne-of f 0 e (q ∙ none s m))))
-
--- the clock passes one slot: its free cells are no more
-pub pass-slot : (t : List ℕ) (slots bridges s : ℕ) {xs ys : List ℕ} → s < slots → CapacitiesAt t slots bridges (s + 1) xs → length ys ≡ length xs
-    → ((k : ℕ) → k < 9 → getD ys k 0 ≡ getD xs k 0 - min k (freeIn t (s * bridges) bridges)) → CapacitiesAt t slots bridges (s + 1 + 1) ys
-pass-slot t slots bridges s {xs} {ys} inside was size less = record { long = size ∙ was .long; right = next }
-  where
-    other : (z : ℕ) → (z ≡ s → ⊥) → Is (ltb z s) → slotFree t bridges (s + 1 + 1) z ≡ slotFree t bridges (s + 1) z
-    other z ne (is-true e) =
-        let l = lt-of z s e in
-        slot-before t bridges (s + 1 + 1) z (omega arith) ∙ sym (slot-before t bridges (s + 1) z (omega arith))
-    other z ne (is-false e) =
-        let l = ge-of z s e in
-        slot-from t bridges (s + 1 + 1) z (omega arith) ∙ sym (slot-from t bridges (s + 1) z (omega arith))
-
-    next : (k : ℕ) → k < 9 → getD ys k 0 ≡ capacity slots (slotFree t bridges (s + 1 + 1)) k
-    next k low =
-        omega (
-          arith,
-          less k low,
-          was .right k low,
-          sum-but slots (λ z. min k (slotFree t bridges (s + 1 + 1) z)) (λ z. min k (slotFree t bridges (s + 1) z)) s inside (λ z m ne. ap (min k) (other z ne (is (ltb z s)))),
-          ap (min k) (slot-before t bridges (s + 1 + 1) s (omega arith)),
-          ap (min k) (slot-from t bridges (s + 1) s (omega arith)),
-        )
-
 -- ---- the counts of the frame
-
--- a slot's cells as those that a call may use
-slot-free-is : (h : Head) (t : List ℕ) (clock s : ℕ) → slotFree t (h .bridges) clock s ≡ usableCount h clock (cell h t) s
-unfolding slotFree freeIn
-slot-free-is h t clock s = go (is (usable clock s))
-  where
-    go : Is (usable clock s) → only (usable clock s) (count (h .bridges) (λ b. freeCell (cell h t s b))) ≡ usableCount h clock (cell h t) s
-    go (is-true e) = rw e
-    go (is-false e) = rw e (sym (count-none (h .bridges) (λ b. false) (λ b l. refl)))
-
-pub slot-free-le : (t : List ℕ) (bridges clock s : ℕ) → slotFree t bridges clock s ≤ bridges
-unfolding slotFree
-slot-free-le t bridges clock s = omega (arith, only-le (usable clock s) (freeIn t (s * bridges) bridges), free-in-le t (s * bridges) bridges)
-
--- the capacities of the table, as those of its free cells
-pub capacity-is : (h : Head) (clock : ℕ) (t : List ℕ) (k : ℕ) → capacity (h .slots) (slotFree t (h .bridges) clock) k ≡ capacity (h .slots) (usableCount h clock (cell h t)) k
-capacity-is h clock t k =
-    sum-ext (h .slots) (λ s. min k (slotFree t (h .bridges) clock s)) (λ s. min k (usableCount h clock (cell h t) s)) (λ s z. ap (min k) (slot-free-is h t clock s))
 
 module _ (h : Head) (clock : ℕ) (t : List ℕ) {u : List ℕ} (m : Marked t (h .slots * h .bridges) u) where
   job-marked : (n : ℕ) → n < 256 → marked u n ≡ hasJob h (cell h t) n

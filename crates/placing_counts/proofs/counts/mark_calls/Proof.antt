@@ -10,7 +10,8 @@ use Rattle.laws.proofs.Sums.{count-le}
 use Rattle.placing_check.proofs.Checking.{next-row}
 use Rattle.placing_counts.specs.Jobs.{marked}
 use Rattle.placing_counts.specs.Counts.{Marked}
-use Rattle.placing_counts.proofs.Counting.{eight-le, marked-none, none-marked, marked-past}
+use Rattle.placing_counts.proofs.Usable.{eight-le}
+use Rattle.placing_counts.proofs.Counting.{marked-none, none-marked, marked-past}
 use Rattle.placing_counts.proofs.counts.mark_calls.Statement.{statement}
 use Rattle.placing_counts.proofs.counts.mark_calls.Tie as tie
 

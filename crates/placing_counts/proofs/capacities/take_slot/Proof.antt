@@ -1,12 +1,12 @@
--- `counts::take_slot` meets its contract. The loop's invariant: the slot is taken off the capacities below r. Assumes nothing.
+-- `capacities::take_slot` meets its contract. The loop's invariant: the slot is taken off the capacities below r. Assumes nothing.
 use native.Mathlib.Omega.{arith}
 use Prim.Native.Nat.{_-_, _≤_, min}
 use mathlib.Core.Path.{_≡_, refl}
 use lib.ListN.{length, length-set}
-use Rattle.placing_counts.proofs.Counting.{LoweredBelow, lowered-none, lowered-more, lowered-all}
+use Rattle.placing_counts.proofs.Usable.{LoweredBelow, lowered-none, lowered-more, lowered-all}
 use borrow.Author.Needs.{needs}
-use Rattle.placing_counts.proofs.counts.take_slot.Statement.{statement}
-use Rattle.placing_counts.proofs.counts.take_slot.Tie as tie
+use Rattle.placing_counts.proofs.capacities.take_slot.Statement.{statement}
+use Rattle.placing_counts.proofs.capacities.take_slot.Tie as tie
 
 abbrev Inv-loop : tie.InvT-loop
 Inv-loop capacities₀ x r₀ capacities r = (r ≤ 9) × (length capacities ≡ length capacities₀) × (length capacities₀ ≡ 9 → LoweredBelow capacities₀ (λ q. min q x) r capacities)

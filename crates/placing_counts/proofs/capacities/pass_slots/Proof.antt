@@ -1,4 +1,4 @@
--- `counts::pass_slots` meets its contract. The loop's invariant: where the capacities were those of the first clock, they are those of the clock at slot s. Assumes nothing.
+-- `capacities::pass_slots` meets its contract. The loop's invariant: where the capacities were those of the first clock, they are those of the clock at slot s. Assumes nothing.
 use native.Mathlib.Omega.{arith}
 use Prim.Native.Nat.{ℕ, _+_, _-_, _≤_, _<_, min}
 use mathlib.Core.Path.{_≡_, sym, _∙_, ap, subst}
@@ -7,10 +7,10 @@ use Rattle.laws.proofs.Sums.{clash}
 use Rattle.laws.proofs.Every.{false-of-not, true-of-not}
 use Rattle.placing.proofs.Bounds.{limits-of}
 use Rattle.placing_counts.specs.Counts.{CapacitiesAt}
-use Rattle.placing_counts.proofs.Counting.{eight-le, pass-slot}
+use Rattle.placing_counts.proofs.Usable.{eight-le, pass-slot}
 use borrow.Author.Needs.{needs}
-use Rattle.placing_counts.proofs.counts.pass_slots.Statement.{statement}
-use Rattle.placing_counts.proofs.counts.pass_slots.Tie as tie
+use Rattle.placing_counts.proofs.capacities.pass_slots.Statement.{statement}
+use Rattle.placing_counts.proofs.capacities.pass_slots.Tie as tie
 
 abbrev Inv-loop : tie.InvT-loop
 Inv-loop slots bridges table from to capacities₀ end s₀ capacities s =

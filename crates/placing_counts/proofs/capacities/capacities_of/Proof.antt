@@ -1,9 +1,9 @@
--- `counts::capacities_of` meets its contract. The loop's invariant: `left` slots have r free cells or more, and the capacities up to r are found. Assumes nothing.
+-- `capacities::capacities_of` meets its contract. The loop's invariant: `left` slots have r free cells or more, and the capacities up to r are found. Assumes nothing.
 use native.Mathlib.Omega.{arith}
 use Prim.Native.Nat.{_-_, _≤_}
-use Rattle.placing_counts.proofs.Counting.{Least, least-none, least-here, least-more}
-use Rattle.placing_counts.proofs.counts.capacities_of.Statement.{statement}
-use Rattle.placing_counts.proofs.counts.capacities_of.Tie as tie
+use Rattle.placing_counts.proofs.Usable.{Least, least-none, least-here, least-more}
+use Rattle.placing_counts.proofs.capacities.capacities_of.Statement.{statement}
+use Rattle.placing_counts.proofs.capacities.capacities_of.Tie as tie
 
 abbrev Inv-loop : tie.InvT-loop
 Inv-loop with slots out₀ left₀ r₀ out left r = (r ≤ 8) × Least with slots r left out

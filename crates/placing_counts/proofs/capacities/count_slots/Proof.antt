@@ -1,4 +1,4 @@
--- `counts::count_slots` meets its contract. The loop's invariant: the slots before `s` are counted, those before the clock among them. Assumes nothing.
+-- `capacities::count_slots` meets its contract. The loop's invariant: the slots before `s` are counted, those before the clock among them. Assumes nothing.
 use native.Mathlib.Omega.{arith}
 use Prim.Native.Nat.{ℕ, _*_, _-_, _≤_, _<_, min}
 use mathlib.Core.Path.{_≡_, refl, sym, _∙_, ap}
@@ -7,10 +7,10 @@ use lib.Dec.{eqb}
 use Rattle.laws.specs.Sums.{count}
 use Rattle.laws.proofs.Sums.{count-le}
 use Rattle.placing_counts.specs.Counts.{slotFree, ByFree}
-use Rattle.placing_counts.proofs.Counting.{eight-le, free-in-le, slot-from, with-before, with-more, with-le}
+use Rattle.placing_counts.proofs.Usable.{eight-le, free-in-le, slot-from, with-before, with-more, with-le}
 use borrow.Author.Needs.{needs}
-use Rattle.placing_counts.proofs.counts.count_slots.Statement.{statement}
-use Rattle.placing_counts.proofs.counts.count_slots.Tie as tie
+use Rattle.placing_counts.proofs.capacities.count_slots.Statement.{statement}
+use Rattle.placing_counts.proofs.capacities.count_slots.Tie as tie
 
 abbrev Inv-loop : tie.InvT-loop
 Inv-loop table slots bridges clock with₀ s₀ with s =

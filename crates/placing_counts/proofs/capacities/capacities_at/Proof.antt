@@ -1,4 +1,4 @@
--- `counts::capacities_at` meets its contract: beyond the limits it promises nothing; within them the slots are counted. Assumes nothing.
+-- `capacities::capacities_at` meets its contract: beyond the limits it promises nothing; within them the slots are counted. Assumes nothing.
 use Prim.Native.Nat.{_≤_}
 use mathlib.Core.Path.{sym, _∙_}
 use lib.ListN.{length}
@@ -7,8 +7,8 @@ use Rattle.laws.proofs.Every.{false-of-not, true-of-not}
 use Rattle.placing.proofs.Bounds.{limits-of}
 use Rattle.placing_counts.specs.Counts.{slotFree}
 use borrow.Author.Needs.{needs}
-use Rattle.placing_counts.proofs.counts.capacities_at.Statement.{statement}
-use Rattle.placing_counts.proofs.counts.capacities_at.Tie as tie
+use Rattle.placing_counts.proofs.capacities.capacities_at.Statement.{statement}
+use Rattle.placing_counts.proofs.capacities.capacities_at.Tie as tie
 
 -- the frame is within the limits
 within : (c : tie.Else1)

@@ -1,13 +1,13 @@
--- `counts::free_in` meets its contract. The loop's invariant: the cells before `b` that are within the slot are counted. Assumes nothing.
+-- `capacities::free_in` meets its contract. The loop's invariant: the cells before `b` that are within the slot are counted. Assumes nothing.
 use native.Mathlib.Omega.{arith}
 use Prim.Native.Nat.{_-_, _≤_, min}
 use mathlib.Core.Path.{_≡_, _∙_, ap}
 use mathlib.Core.Logic.{⊎-elim}
 use Rattle.placing_counts.specs.Counts.{freeIn}
-use Rattle.placing_counts.proofs.Counting.{free-in-none, free-in-here, free-in-past}
+use Rattle.placing_counts.proofs.Usable.{free-in-none, free-in-here, free-in-past}
 use borrow.Author.Needs.{needs}
-use Rattle.placing_counts.proofs.counts.free_in.Statement.{statement}
-use Rattle.placing_counts.proofs.counts.free_in.Tie as tie
+use Rattle.placing_counts.proofs.capacities.free_in.Statement.{statement}
+use Rattle.placing_counts.proofs.capacities.free_in.Tie as tie
 
 abbrev Inv-loop : tie.InvT-loop
 Inv-loop table from bridges free₀ b₀ free b = (b ≤ 8) × (free ≤ b) × (free ≡ freeIn table from (min b bridges))

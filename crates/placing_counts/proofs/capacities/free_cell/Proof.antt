@@ -1,8 +1,8 @@
--- `counts::free_cell` meets its contract: a law for each answer. Assumes nothing.
+-- `capacities::free_cell` meets its contract: a law for each answer. Assumes nothing.
 use native.Mathlib.Omega.{arith}
-use Rattle.placing_counts.proofs.Counting.{free-empty, free-optional, free-none}
-use Rattle.placing_counts.proofs.counts.free_cell.Statement.{statement}
-use Rattle.placing_counts.proofs.counts.free_cell.Tie as tie
+use Rattle.placing_counts.proofs.Usable.{free-empty, free-optional, free-none}
+use Rattle.placing_counts.proofs.capacities.free_cell.Statement.{statement}
+use Rattle.placing_counts.proofs.capacities.free_cell.Tie as tie
 
 returns : tie.Need-returns
 returns c = (free-empty (c .before .args .v) (c .if1 .taken), omega arith)
