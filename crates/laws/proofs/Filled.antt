@@ -1,7 +1,7 @@
 -- Lists of numbers that are changed place by place.
 --
 -- In order: tests one place further (`leb-next`, `ltb-next`); zeros; a list filled from the front (`FilledBelow`); a list to each of whose numbers, from
--- the front, a number is added (`AddedBelow`); a list whose numbers past a place are raised (`RaisedTo`). Each has the laws none, more and all.
+-- the front, a number is added (`AddedBelow`); a list whose numbers past a place are raised (`RaisedTo`). Each has the laws none and more, the first two also all.
 -- Assumes nothing.
 use Prim.Native.Nat.{ℕ, zero, suc, _+_, _-_, _≤_, _<_}
 use native.Mathlib.Omega.{arith}
@@ -16,10 +16,6 @@ use Rattle.laws.specs.Placement.{at}
 use Rattle.laws.proofs.Sums.{Is, is, is-true, is-false, lt-of, le-of, ge-of, gt-of, eq-of, ne-of, ltb-yes, ltb-no, leb-yes, leb-no}
 
 -- ---- tests
-
-and-true : (b : Bool) → (b && true) ≡ b
-and-true true = refl
-and-true false = refl
 
 pub only-le : (b : Bool) (n : ℕ) → only b n ≤ n
 only-le true n = omega arith
@@ -122,8 +118,3 @@ raised-more l m from amount r low inside h q = go (is (eqb q (r + 1)))
     go (is-false e) =
         let other = ne-of q (r + 1) e in
         rw (getD-set-other m (r + 1) q (getD m (r + 1) 0 + amount) 0 other) (h q ∙ ap (λ (b : Bool). getD l q 0 + only (ltb from q && b) amount) (leb-next q r other))
-
-pub raised-all : (l m : List ℕ) (from amount r : ℕ) → 8 ≤ r → RaisedTo l from amount r m → (q : ℕ) → q < 9 → getD m q 0 ≡ getD l q 0 + only (ltb from q) amount
-raised-all l m from amount r high h q low =
-    let e : (ltb from q && leb q r) ≡ ltb from q = rw (leb-yes q r (omega arith)) (and-true (ltb from q)) in
-    h q ∙ ap (λ (b : Bool). getD l q 0 + only b amount) e

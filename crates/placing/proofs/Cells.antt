@@ -15,7 +15,7 @@ use Rattle.laws.proofs.Sums.{sum-zero, term-le, sum-add, count-imp, count-none,
 use Rattle.laws.proofs.Every.{not-is-true, false-of-not, injective-below, sum-pos, count-pos, count-some, count-split}
 use Rattle.station.specs.Head.{Head, Valid, presetAt}
 use Rattle.placing.specs.Table.{Cells, Each, cells, holding, kindOf, numberIn, mandatoryCell, optionalCell, callCell, isBusy}
-use Rattle.placing.specs.Table.{isMandatory, isOptional, isCall, presetCount, numberAt, hasPreset}
+use Rattle.placing.specs.Table.{isOptional, isCall, presetCount, numberAt, hasPreset}
 use Rattle.placing.specs.Valid.{lost, priorityOf}
 use Rattle.placing.specs.Plan.{rank}
 use Rattle.placing.specs.Call.{rankOf}
@@ -131,12 +131,6 @@ module _ (n : ℕ) (h : n < 256) where
   pub numberIn-call : numberIn (callCell n) ≡ n
   numberIn-call = numberIn-cell 4 n h
 
-  pub isMandatory-mandatory : isMandatory (mandatoryCell n) ≡ true
-  isMandatory-mandatory = kind-test 2 2 n h
-
-  pub isOptional-optional : isOptional (optionalCell n) ≡ true
-  isOptional-optional = kind-test 3 3 n h
-
   pub isOptional-call : isOptional (callCell n) ≡ false
   isOptional-call = kind-test 3 4 n h
 
@@ -145,9 +139,6 @@ module _ (n : ℕ) (h : n < 256) where
 
 pub mandatory-of : (v : ℕ) → kindOf v ≡ 2 → v ≡ mandatoryCell (numberIn v)
 mandatory-of = cell-of-kind 2
-
-pub optional-of : (v : ℕ) → kindOf v ≡ 3 → v ≡ optionalCell (numberIn v)
-optional-of = cell-of-kind 3
 
 pub call-of : (v : ℕ) → kindOf v ≡ 4 → v ≡ callCell (numberIn v)
 call-of = cell-of-kind 4
