@@ -1,7 +1,7 @@
 -- Lists of numbers that are changed place by place.
 --
 -- In order: tests one place further (`leb-next`, `ltb-next`); zeros; a list filled from the front (`FilledBelow`); a list to each of whose numbers, from
--- the front, a number is added (`AddedBelow`); a list whose numbers past a place are raised (`RaisedTo`). Each has the laws none and more, the first two also all.
+-- the front, a number is added (`AddedBelow`) or taken off (`LoweredBelow`); a list whose numbers past a place are raised (`RaisedTo`). Each has the laws none and more, all but the last also all.
 -- Assumes nothing.
 use Prim.Native.Nat.{ℕ, zero, suc, _+_, _-_, _≤_, _<_}
 use native.Mathlib.Omega.{arith}
@@ -92,6 +92,30 @@ added-more l m f r v inside h e q = go (is (eqb q r))
 
 pub added-all : (l m : List ℕ) (f : ℕ → ℕ) (r : ℕ) → AddedBelow l f r m → (q : ℕ) → q < r → getD m q 0 ≡ getD l q 0 + f q
 added-all l m f r h q low = h q ∙ ap (λ (b : Bool). getD l q 0 + only b (f q)) (ltb-yes q r low)
+
+-- ---- values lowered from the front
+
+-- each of the first r numbers of l is less by what f says
+abbrev pub LoweredBelow : List ℕ → (ℕ → ℕ) → ℕ → List ℕ → Type 0
+LoweredBelow l f r m = (q : ℕ) → getD m q 0 ≡ getD l q 0 - only (ltb q r) (f q)
+
+pub lowered-none : (l : List ℕ) (f : ℕ → ℕ) → LoweredBelow l f 0 l
+lowered-none l f q = rw (ltb-no q 0 (omega arith)) (omega arith)
+
+pub lowered-more : (l m : List ℕ) (f : ℕ → ℕ) (r v : ℕ) → r < length m → LoweredBelow l f r m → v ≡ getD m r 0 - f r → LoweredBelow l f (r + 1) (set m r v)
+lowered-more l m f r v inside h e q = go (is (eqb q r))
+  where
+    go : Is (eqb q r) → getD (set m r v) q 0 ≡ getD l q 0 - only (ltb q (r + 1)) (f q)
+    go (is-true y) =
+        let here : getD m r 0 ≡ getD l r 0 - only (ltb r r) (f r) = h r in
+        rw (eq-of q r y)
+        (rw (getD-set-same m r v 0 inside, ltb-yes r (r + 1) (omega arith)) (omega (arith, e, rw (ltb-no r r (omega arith)) at here)))
+    go (is-false y) =
+        let other = ne-of q r y in
+        rw (getD-set-other m r q v 0 other) (h q ∙ ap (λ (b : Bool). getD l q 0 - only b (f q)) (ltb-next q r other))
+
+pub lowered-all : (l m : List ℕ) (f : ℕ → ℕ) (r : ℕ) → LoweredBelow l f r m → (q : ℕ) → q < r → getD m q 0 ≡ getD l q 0 - f q
+lowered-all l m f r h q low = h q ∙ ap (λ (b : Bool). getD l q 0 - only b (f q)) (ltb-yes q r low)
 
 -- ---- values raised past a place
 

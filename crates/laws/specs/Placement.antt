@@ -8,7 +8,7 @@ use mathlib.Core.Logic.{_⊎_}
 use mathlib.Core.Bool.{Bool, true, false, _&&_}
 use mathlib.Core.List.{List, [], _∷_}
 use lib.ListN.{length, getD}
-use lib.Dec.{ltb}
+use lib.Dec.{ltb, eqb}
 use Rattle.laws.specs.Sums.{bit, only, sum, count, greatest, position}
 
 -- A placement: `a i s` says that job i has a cell in slot s. A job has as many slots as it needs, at most one cell in each; a slot
@@ -74,3 +74,7 @@ largest k c r = sum k (λ i. only (ltb (position k (before c) i) r) (c i))
 -- By how much the r largest needs exceed the capacity for r, at the worst r: 0 exactly if the needs fit.
 abbrev pub excess : ℕ → (ℕ → ℕ) → ℕ → (ℕ → ℕ) → ℕ
 excess k c n x = greatest k (λ r. largest k c r - capacity n x r)
+
+-- for 0 to 8 the list has how many of n slots have so many of the free cells x
+abbrev pub ByFree : List ℕ → ℕ → (ℕ → ℕ) → Type 0
+ByFree l n x = (f : ℕ) → f < 9 → getD l f 0 ≡ count n (λ s. eqb f (x s))

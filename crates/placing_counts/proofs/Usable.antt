@@ -1,7 +1,6 @@
 -- Laws of the cells that a call may use, and of their capacities.
 --
--- In order: a cell that a call may use (`free-..`), and those of a slot (`free-in-..`); slots by how many such cells they have (`with-..`), and their capacities (`least-..`); values lowered from the front
--- (`lowered-..`); slots before the clock and from it on (`slot-..`, `with-before`), and a slot that it passes (`pass-slot`); the capacities of the frame (`capacity-is`).
+-- In order: a cell that a call may use (`free-..`), and those of a slot (`free-in-..`); slots before the clock and from it on (`slot-..`, `with-before`), and a slot that it passes (`pass-slot`); the capacities of the frame (`capacity-is`).
 -- Assumes nothing.
 use Prim.Native.Nat.{ℕ, suc, _+_, _*_, _-_, _≤_, _<_, min}
 use native.Mathlib.Omega.{arith}
@@ -9,21 +8,20 @@ use native.Mathlib.Nat.{mul-le-mul}
 use mathlib.Core.Path.{_≡_, refl, sym, _∙_, ap, ap₂}
 use mathlib.Core.Bool.{Bool, false, _||_}
 use mathlib.Core.List.{List}
-use lib.ListN.{length, getD, set, replicate, length-set}
-use lib.Seq.{getD-set-same, getD-set-other}
-use lib.Dec.{ltb, leb, eqb}
-use Rattle.laws.specs.Sums.{bit, sum, only, count}
-use Rattle.laws.specs.Placement.{at, capacity}
-use Rattle.laws.proofs.Sums.{Is, is, is-true, is-false, eq-of, ne-of, lt-of, ge-of, ltb-yes, ltb-no, leb-yes, leb-no, eqb-yes, eqb-no, sum-ext, sum-le, sum-but, sum-swap, sum-const, count-none, count-all, count-le}
-use Rattle.laws.proofs.Every.{or-right, count-eqb-le, sum-beyond}
+use lib.ListN.{length, getD, set, replicate}
+use lib.Seq.{getD-set-other}
+use lib.Dec.{ltb, eqb}
+use Rattle.laws.specs.Sums.{bit, only, count}
+use Rattle.laws.specs.Placement.{capacity, ByFree}
+use Rattle.laws.proofs.Sums.{Is, is, is-true, is-false, eq-of, ne-of, lt-of, ge-of, leb-yes, leb-no, eqb-yes, eqb-no, sum-ext, sum-but, count-none, count-all, count-le}
+use Rattle.laws.proofs.Every.{or-right}
 use Rattle.laws.proofs.Loops.{sum-none, sum-more}
-use Rattle.laws.proofs.Filled.{ltb-next, zeros}
-use Rattle.laws.proofs.Stepwise.{capacity-zero, capacity-next, count-least}
+use Rattle.laws.proofs.Filled.{zeros}
 use Rattle.station.specs.Head.{Head}
 use Rattle.placing.specs.Table.{cell, kindOf, isEmpty, isOptional}
 use Rattle.placing.specs.Valid.{usable}
 use Rattle.placing.specs.Call.{usableCount}
-use Rattle.placing_counts.specs.Counts.{freeCell, freeIn, slotFree, ByFree, CapacitiesAt}
+use Rattle.placing_counts.specs.Counts.{freeCell, freeIn, slotFree, CapacitiesAt}
 
 -- ---- a cell that a call may use
 
@@ -62,113 +60,6 @@ free-in-past t from n b l = ap (freeIn t from) (let same : min (b + 1) n ≡ min
 pub free-in-le : (t : List ℕ) (from n : ℕ) → freeIn t from n ≤ n
 unfolding freeIn
 free-in-le t from n = count-le n (λ b. freeCell (getD t (from + b) 0))
-
--- ---- slots by how many free cells they have
-
--- one slot more, which has f of them
-pub with-more : (l : List ℕ) (n : ℕ) (x : ℕ → ℕ) (f : ℕ) → f < length l → ByFree l n x → f ≡ x n
-    → ByFree (set l f (getD l f 0 + 1)) (n + 1) x
-with-more l n x f inside h e g low = go (is (eqb g (x n)))
-  where
-    more : count (n + 1) (λ s. eqb g (x s)) ≡ count n (λ s. eqb g (x s)) + bit (eqb g (x n))
-    more = sum-more n (λ s. bit (eqb g (x s)))
-
-    go : Is (eqb g (x n)) → getD (set l f (getD l f 0 + 1)) g 0 ≡ count (n + 1) (λ s. eqb g (x s))
-    go (is-true y) =
-        let same : g ≡ f = eq-of g (x n) y ∙ sym e in
-        ap (λ (k : ℕ). getD (set l f (getD l f 0 + 1)) k 0) same
-        ∙ getD-set-same l f (getD l f 0 + 1) 0 inside
-        ∙ omega (arith, h g low, ap (λ (k : ℕ). getD l k 0) same, more, ap bit y)
-    go (is-false y) =
-        getD-set-other l f g (getD l f 0 + 1) 0 (λ q. ne-of g (x n) y (q ∙ e)) ∙ omega (arith, h g low, more, ap bit y)
-
--- no more slots are counted than there are
-pub with-le : (l : List ℕ) (n : ℕ) (x : ℕ → ℕ) → ByFree l n x → sum 9 (at l) ≤ n
-with-le l n x h =
-    omega (
-      arith,
-      sum-ext 9 (at l) (λ g. sum n (λ s. bit (eqb g (x s)))) h,
-      sum-swap 9 n (λ g s. bit (eqb g (x s))),
-      sum-le n (λ s. sum 9 (λ g. bit (eqb g (x s)))) (λ s. 1) (λ s l. count-eqb-le 9 (x s)),
-      sum-const n 1,
-    )
-
--- Of the slots counted in l, `left` have r free cells or more, and `out` has the capacities up to r.
-pub record Least (l : List ℕ) (n r left : ℕ) (out : List ℕ) : Type 0 where
-  pub long : length out ≡ 9
-  pub rest : left + sum r (at l) ≡ n
-  pub low : getD out r 0 ≤ 64 * r
-  pub right : (x : ℕ → ℕ) → ByFree l n x
-      → (left ≡ count n (λ s. leb r (x s))) × ((q : ℕ) → q ≤ r → getD out q 0 ≡ capacity n x q)
-
-pub least-none : (l : List ℕ) (n : ℕ) → Least l n 0 n (replicate 9 0)
-least-none l n =
-    record {
-      long = refl;
-      rest = omega (arith, sum-none (at l));
-      low = omega arith;
-      right = λ x h. (
-        sym (count-all n (λ s. leb 0 (x s)) (λ s m. leb-yes 0 (x s) (omega arith))),
-        λ q m. let z : q ≡ 0 = omega arith in zeros 9 q ∙ sym (ap (capacity n x) z ∙ capacity-zero n x),
-      );
-    }
-
-module _ {l : List ℕ} {n r left : ℕ} {out : List ℕ} (i : Least l n r left out) (most : n ≤ 64) (few : sum 9 (at l) ≤ n) (room : r < 8) where
-  -- the slots that have just r are among those that are left
-  pub least-here : getD l r 0 ≤ left
-  least-here = omega (arith, i .rest, sum-beyond r 9 (at l) r (omega arith) (omega arith), few)
-
-  pub least-more : Least l n (r + 1) (left - getD l r 0) (set out (r + 1) (getD out r 0 + (left - getD l r 0)))
-  least-more =
-      record {
-        long = length-set out (r + 1) v ∙ i .long;
-        rest = omega (arith, i .rest, sum-more r (at l), least-here);
-        low = omega (arith, here, i .low, i .rest, most);
-        right = λ x h.
-            let now = i .right x h in
-            let least : left - getD l r 0 ≡ count n (λ s. leb (r + 1) (x s)) = omega (arith, now .0, h r (omega arith), count-least n x r) in
-            (least, λ q m. go x q m (now .1) least (is (eqb q (r + 1))));
-      }
-    where
-      v : ℕ
-      v = getD out r 0 + (left - getD l r 0)
-
-      inside : r + 1 < length out
-      inside = omega (arith, i .long, room)
-
-      here : getD (set out (r + 1) v) (r + 1) 0 ≡ v
-      here = getD-set-same out (r + 1) v 0 inside
-
-      go : (x : ℕ → ℕ) (q : ℕ) → q ≤ r + 1 → ((q : ℕ) → q ≤ r → getD out q 0 ≡ capacity n x q) → left - getD l r 0 ≡ count n (λ s. leb (r + 1) (x s))
-          → Is (eqb q (r + 1)) → getD (set out (r + 1) v) q 0 ≡ capacity n x q
-      go x q m known least (is-true e) =
-          rw (eq-of q (r + 1) e) (here ∙ omega (arith, known r (omega arith), least, capacity-next n x r))
-      go x q m known least (is-false e) =
-          let ne = ne-of q (r + 1) e in
-          getD-set-other out (r + 1) q v 0 ne ∙ known q (omega arith)
-
--- ---- values lowered from the front
-
-abbrev pub LoweredBelow : List ℕ → (ℕ → ℕ) → ℕ → List ℕ → Type 0
-LoweredBelow l f r m = (q : ℕ) → getD m q 0 ≡ getD l q 0 - only (ltb q r) (f q)
-
-pub lowered-none : (l : List ℕ) (f : ℕ → ℕ) → LoweredBelow l f 0 l
-lowered-none l f q = rw (ltb-no q 0 (omega arith)) (omega arith)
-
-pub lowered-more : (l m : List ℕ) (f : ℕ → ℕ) (r v : ℕ) → r < length m → LoweredBelow l f r m → v ≡ getD m r 0 - f r → LoweredBelow l f (r + 1) (set m r v)
-lowered-more l m f r v inside h e q = go (is (eqb q r))
-  where
-    go : Is (eqb q r) → getD (set m r v) q 0 ≡ getD l q 0 - only (ltb q (r + 1)) (f q)
-    go (is-true y) =
-        let here : getD m r 0 ≡ getD l r 0 - only (ltb r r) (f r) = h r in
-        rw (eq-of q r y)
-        (rw (getD-set-same m r v 0 inside, ltb-yes r (r + 1) (omega arith)) (omega (arith, e, rw (ltb-no r r (omega arith)) at here)))
-    go (is-false y) =
-        let other = ne-of q r y in
-        rw (getD-set-other m r q v 0 other) (h q ∙ ap (λ (b : Bool). getD l q 0 - only b (f q)) (ltb-next q r other))
-
-pub lowered-all : (l m : List ℕ) (f : ℕ → ℕ) (r : ℕ) → LoweredBelow l f r m → (q : ℕ) → q < r → getD m q 0 ≡ getD l q 0 - f q
-lowered-all l m f r h q low = h q ∙ ap (λ (b : Bool). getD l q 0 - only b (f q)) (ltb-yes q r low)
 
 -- ---- capacities, and a slot that the clock passes
 

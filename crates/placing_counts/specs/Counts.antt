@@ -74,10 +74,6 @@ freeIn t from n = count n (λ b. freeCell (getD t (from + b) 0))
 unfoldable pub slotFree : List ℕ → ℕ → ℕ → ℕ → ℕ
 slotFree t bridges clock s = only (usable clock s) (freeIn t (s * bridges) bridges)
 
--- for 0 to 8 the list has how many of n slots have so many of the free cells x
-abbrev pub ByFree : List ℕ → ℕ → (ℕ → ℕ) → Type 0
-ByFree l n x = (f : ℕ) → f < 9 → getD l f 0 ≡ count n (λ s. eqb f (x s))
-
 -- the list has the capacities for 0 to 8 of the free cells of so many slots
 pub record CapacitiesAt (t : List ℕ) (slots bridges clock : ℕ) (xs : List ℕ) : Type 0 where
   pub long : length xs ≡ 9

@@ -1,13 +1,14 @@
 // The capacities of the cells that a call may use: those of a table and a clock, and what is left of them where the clock moves.
 use placing::limits::in_limits;
+use placing_evict::evict::capacities_of;
 ghost use Prim.Native.Nat.{ℕ, _+_, _-_, _<_, _≤_, min};
 ghost use mathlib.Core.Path.{_≡_};
 ghost use mathlib.Core.Bool.{true};
 ghost use lib.ListN.{length, getD};
-ghost use Rattle.laws.specs.Sums.{bit, sum};
-ghost use Rattle.laws.specs.Placement.{at, capacity};
+ghost use Rattle.laws.specs.Sums.{bit};
+ghost use Rattle.laws.specs.Placement.{ByFree};
 ghost use Rattle.placing.specs.Limits.{inLimits};
-ghost use Rattle.placing_counts.specs.Counts.{freeCell, freeIn, slotFree, ByFree, CapacitiesAt};
+ghost use Rattle.placing_counts.specs.Counts.{freeCell, freeIn, slotFree, CapacitiesAt};
 
 // A cell is kind × 256 + number: the kind of an optional cell.
 const OPTIONAL: u16 = 3;
@@ -59,7 +60,7 @@ fn slots_before(clock: usize, slots: usize) -> usize
 // For 0 to 8 the number of slots that have as many cells that a call may use. A slot before the clock has none.
 fn count_slots(table: &[u16], slots: usize, bridges: usize, clock: usize) -> [usize; 9]
     requires { ⌜ (slots ≤ 64) × (bridges ≤ 8) × (512 ≤ length (now table)) ⌝ }
-    ensures { λ r. ⌜ (sum 9 (at r) ≤ slots) × ByFree r slots (slotFree (now (table .entry)) bridges clock) ⌝ }
+    ensures { λ r. ⌜ ByFree r slots (slotFree (now (table .entry)) bridges clock) ⌝ }
 {
     let mut with = [0usize; 9];
     let mut s = slots_before(clock, slots);
@@ -70,23 +71,6 @@ fn count_slots(table: &[u16], slots: usize, bridges: usize, clock: usize) -> [us
         s += 1;
     }
     with
-}
-
-// The capacities for 0 to 8 of so many slots, of which `with` has how many have each number of free cells. One job more can use one cell more of each slot that has
-// as many: those are the ones that are left once the slots with fewer are taken off.
-fn capacities_of(with: &[usize; 9], slots: usize) -> [usize; 9]
-    requires { ⌜ (slots ≤ 64) × (sum 9 (at (now with)) ≤ slots) ⌝ }
-    ensures { λ v. ⌜ (length v ≡ 9) × ((x : ℕ → ℕ) → ByFree (now (with .entry)) slots x → (r : ℕ) → r < 9 → getD v r 0 ≡ capacity slots x r) ⌝ }
-{
-    let mut out = [0usize; 9];
-    let mut left = slots;
-    let mut r = 0;
-    while r < 8 {
-        left -= with[r];
-        out[r + 1] = out[r] + left;
-        r += 1;
-    }
-    out
 }
 
 // The capacities for 0 to 8 of the cells that a call may use, of a table and a clock. Beyond the limits all are 0.

@@ -1,5 +1,4 @@
 -- The laws that the eviction search's code cites.
-pub mod ByFree
 pub mod Bridges
 pub mod Evicting
 pub mod Walk

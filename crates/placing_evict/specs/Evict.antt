@@ -70,10 +70,6 @@ emptyMask t from n = bridgeMask n (emptyIn t from)
 unfoldable pub slotMask : List ℕ → ℕ → ℕ → ℕ → ℕ
 slotMask t bridges clock s = only (usable clock s) (emptyMask t (s * bridges) bridges)
 
--- for 0 to 8 the list has how many of n slots have so many of the free cells x
-abbrev pub ByFree : List ℕ → ℕ → (ℕ → ℕ) → Type 0
-ByFree l n x = (f : ℕ) → f < 9 → getD l f 0 ≡ count n (λ s. eqb f (x s))
-
 -- By how much sums of the longest jobs exceed the capacities for 0 to k of the free cells x of n slots, at the worst. Where `sums` has the sums of the
 -- r longest of k jobs this is `excess`.
 unfoldable pub shortage : List ℕ → ℕ → ℕ → (ℕ → ℕ) → ℕ

@@ -28,7 +28,7 @@ count-slots-requires : tie.Need-count-slots-requires
 count-slots-requires c κs = let l = within c in (l .0, l .1, l .3)
 
 capacities-of-requires : tie.Need-capacities-of-requires
-capacities-of-requires c κs = let k = c .before in (within (k .before) .0, k .count-slots .ensures .0)
+capacities-of-requires c κs = search needs
 
 returns-2 : tie.Need-returns-2
 returns-2 c =
@@ -37,7 +37,7 @@ returns-2 c =
     let a = k .before .before .before .before .args in
     record {
       long = c .capacities-of .ensures .0;
-      right = c .capacities-of .ensures .1 (slotFree (a .table .now) (a .bridges) (a .clock)) (k .count-slots .ensures .1);
+      right = c .capacities-of .ensures .1 (within (k .before) .0) (slotFree (a .table .now) (a .bridges) (a .clock)) (k .count-slots .ensures);
     }
 
 pub capacities-at-spec : {M : Type 1} → statement M

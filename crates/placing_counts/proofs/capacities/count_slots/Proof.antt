@@ -6,8 +6,10 @@ use lib.ListN.{length, length-set}
 use lib.Dec.{eqb}
 use Rattle.laws.specs.Sums.{count}
 use Rattle.laws.proofs.Sums.{count-le}
-use Rattle.placing_counts.specs.Counts.{slotFree, ByFree}
-use Rattle.placing_counts.proofs.Usable.{eight-le, free-in-le, slot-from, with-before, with-more, with-le}
+use Rattle.laws.specs.Placement.{ByFree}
+use Rattle.laws.proofs.ByFree.{with-more}
+use Rattle.placing_counts.specs.Counts.{slotFree}
+use Rattle.placing_counts.proofs.Usable.{eight-le, free-in-le, slot-from, with-before}
 use borrow.Author.Needs.{needs}
 use Rattle.placing_counts.proofs.capacities.count_slots.Statement.{statement}
 use Rattle.placing_counts.proofs.capacities.count_slots.Tie as tie
@@ -98,8 +100,7 @@ returns c =
     let a = c .before .before .before .before .args in
     let e : l .s ≡ a .slots = omega (arith, l .inv .1, c .loop-test .left) in
     let x = slotFree (a .table .now) (a .bridges) (a .clock) in
-    let counted : ByFree (l .with) (a .slots) x = λ f m. l .inv .3 f m ∙ ap (λ (k : ℕ). count k (λ z. eqb f (x z))) e in
-    (with-le (l .with) (a .slots) x counted, counted)
+    λ f m. l .inv .3 f m ∙ ap (λ (k : ℕ). count k (λ z. eqb f (x z))) e
 
 pub count-slots-spec : {M : Type 1} → statement M
 count-slots-spec =

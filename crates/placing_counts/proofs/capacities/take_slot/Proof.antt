@@ -3,7 +3,7 @@ use native.Mathlib.Omega.{arith}
 use Prim.Native.Nat.{_-_, _≤_, min}
 use mathlib.Core.Path.{_≡_, refl}
 use lib.ListN.{length, length-set}
-use Rattle.placing_counts.proofs.Usable.{LoweredBelow, lowered-none, lowered-more, lowered-all}
+use Rattle.laws.proofs.Filled.{LoweredBelow, lowered-none, lowered-more, lowered-all}
 use borrow.Author.Needs.{needs}
 use Rattle.placing_counts.proofs.capacities.take_slot.Statement.{statement}
 use Rattle.placing_counts.proofs.capacities.take_slot.Tie as tie

@@ -10,14 +10,13 @@ use mathlib.Core.List.{List}
 use lib.ListN.{length, getD, set, replicate, length-set}
 use lib.Seq.{getD-set-same, getD-set-other}
 use lib.Dec.{leb, eqb}
 use Rattle.laws.specs.Sums.{bit, sum, count}
-use Rattle.laws.specs.Placement.{at, capacity}
+use Rattle.laws.specs.Placement.{at, capacity, ByFree}
 use Rattle.laws.proofs.Sums.{Is, is, is-true, is-false, eq-of, ne-of, leb-yes, sum-ext, sum-le, sum-swap, sum-const, count-all}
 use Rattle.laws.proofs.Every.{count-eqb-le, sum-beyond}
 use Rattle.laws.proofs.Loops.{sum-none, sum-more}
 use Rattle.laws.proofs.Filled.{zeros}
 use Rattle.laws.proofs.Stepwise.{capacity-zero, capacity-next, count-least}
-use Rattle.placing_evict.specs.Evict.{ByFree}
 
 -- one slot more, which has f of them
 pub with-more : (l : List ℕ) (n : ℕ) (x : ℕ → ℕ) (f : ℕ) → f < length l → ByFree l n x → f ≡ x n
@@ -70,16 +69,16 @@ least-none l n =
       );
     }
 
-module _ {l : List ℕ} {n r left : ℕ} {out : List ℕ} (i : Least l n r left out) (most : n ≤ 64) (few : sum 9 (at l) ≤ n) (room : r < 8) where
+module _ {l : List ℕ} {n r left : ℕ} {out : List ℕ} (i : Least l n r left out) (below : r < 8) where
   -- the slots that have just r are among those that are left
-  pub least-here : getD l r 0 ≤ left
-  least-here = omega (arith, i .rest, sum-beyond r 9 (at l) r (omega arith) (omega arith), few)
+  pub least-here : (x : ℕ → ℕ) → ByFree l n x → getD l r 0 ≤ left
+  least-here x h = omega (arith, i .rest, sum-beyond r 9 (at l) r (omega arith) (omega arith), with-le l n x h)
 
-  pub least-more : Least l n (r + 1) (left - getD l r 0) (set out (r + 1) (getD out r 0 + (left - getD l r 0)))
-  least-more =
+  pub least-more : n ≤ 64 → getD l r 0 ≤ left → Least l n (r + 1) (left - getD l r 0) (set out (r + 1) (getD out r 0 + (left - getD l r 0)))
+  least-more most few =
       record {
         long = length-set out (r + 1) v ∙ i .long;
-        rest = omega (arith, i .rest, sum-more r (at l), least-here);
+        rest = omega (arith, i .rest, sum-more r (at l), few);
         low = omega (arith, here, i .low, i .rest, most);
         right = λ x h.
             let now = i .right x h in
@@ -91,7 +90,7 @@ module _ {l : List ℕ} {n r left : ℕ} {out : List ℕ} (i : Least l n r left 
       v = getD out r 0 + (left - getD l r 0)
 
       inside : r + 1 < length out
-      inside = omega (arith, i .long, room)
+      inside = omega (arith, i .long, below)
 
       here : getD (set out (r + 1) v) (r + 1) 0 ≡ v
       here = getD-set-same out (r + 1) v 0 inside
