@@ -1,6 +1,8 @@
 // The capacities of the cells that a call may use: those of a table and a clock, and what is left of them where the clock moves.
 use placing::limits::in_limits;
 use placing_evict::evict::capacities_of;
+use placing_evict::evict::first_slot;
+use placing_evict::evict::over;
 ghost use Prim.Native.Nat.{ℕ, _+_, _-_, _<_, _≤_, min};
 ghost use mathlib.Core.Path.{_≡_};
 ghost use mathlib.Core.Bool.{true};
@@ -44,26 +46,13 @@ fn free_in(table: &[u16], from: usize, bridges: usize) -> usize
     free as usize
 }
 
-// How many slots of a frame are before a clock.
-fn slots_before(clock: usize, slots: usize) -> usize
-    ensures { λ r. ⌜ r ≡ min (clock - 1) slots ⌝ }
-{
-    if clock < 1 {
-        return 0;
-    }
-    if slots < clock - 1 {
-        return slots;
-    }
-    clock - 1
-}
-
 // For 0 to 8 the number of slots that have as many cells that a call may use. A slot before the clock has none.
 fn count_slots(table: &[u16], slots: usize, bridges: usize, clock: usize) -> [usize; 9]
     requires { ⌜ (slots ≤ 64) × (bridges ≤ 8) × (512 ≤ length (now table)) ⌝ }
     ensures { λ r. ⌜ ByFree r slots (slotFree (now (table .entry)) bridges clock) ⌝ }
 {
     let mut with = [0usize; 9];
-    let mut s = slots_before(clock, slots);
+    let mut s = first_slot(clock, slots);
     with[0] = s;
     while s < slots {
         let free = free_in(table, s * bridges, bridges);
@@ -94,23 +83,13 @@ fn least(a: usize, b: usize) -> usize
     b
 }
 
-// What is left of a without b: nothing where b is more.
-fn less(a: usize, b: usize) -> usize
-    ensures { λ r. ⌜ r ≡ a - b ⌝ }
-{
-    if a < b {
-        return 0;
-    }
-    a - b
-}
-
 // Takes a slot that has x free cells off the capacities.
 fn take_slot(capacities: &mut [usize; 9], x: usize)
     ensures { λ _. ⌜ (length (now (capacities .exit)) ≡ length (now (capacities .entry))) × (length (now (capacities .entry)) ≡ 9 → (r : ℕ) → r < 9 → getD (now (capacities .exit)) r 0 ≡ getD (now (capacities .entry)) r 0 - min r x) ⌝ }
 {
     let mut r = 0;
     while r < 9 {
-        capacities[r] = less(capacities[r], least(r, x));
+        capacities[r] = over(capacities[r], least(r, x));
         r += 1;
     }
 }
@@ -130,8 +109,8 @@ pub fn pass_slots(
     if !in_limits(slots, bridges, 0, table.len()) {
         return;
     }
-    let end = slots_before(to, slots);
-    let mut s = slots_before(from, slots);
+    let end = first_slot(to, slots);
+    let mut s = first_slot(from, slots);
     while s < end {
         let free = free_in(table, s * bridges, bridges);
         take_slot(capacities, free);

@@ -21,8 +21,8 @@ Inv-loop table slots bridges clock with₀ s₀ with s =
 abbrev μ-loop : tie.MeasureT-loop
 μ-loop table slots bridges clock with₀ s₀ with s = slots - s
 
-slots-before-requires : tie.Need-slots-before-requires Inv-loop μ-loop
-slots-before-requires c κs = search needs
+first-slot-requires : tie.Need-first-slot-requires Inv-loop μ-loop
+first-slot-requires c κs = search needs
 
 array-write-with : tie.Need-array-write-with Inv-loop μ-loop
 array-write-with c = omega arith
@@ -30,8 +30,8 @@ array-write-with c = omega arith
 loop-holds : tie.Need-loop-holds Inv-loop μ-loop
 loop-holds c =
     let a = c .before .before .args in
-    let e = c .slots-before .ensures in
-    (omega (arith, e), omega (arith, e), refl, with-before (a .table .now) (a .bridges) (a .clock) (c .slots-before .result) (omega (arith, e)))
+    let e = c .first-slot .ensures in
+    (omega (arith, e), omega (arith, e), refl, with-before (a .table .now) (a .bridges) (a .clock) (c .first-slot .result) (omega (arith, e)))
 
 mul-free-in : tie.Need-mul-free-in Inv-loop μ-loop
 mul-free-in c =
@@ -108,7 +108,7 @@ count-slots-spec =
     (tie.spec
     Inv-loop
     μ-loop
-    slots-before-requires
+    first-slot-requires
     array-write-with
     loop-holds
     mul-free-in

@@ -26,19 +26,19 @@ in-limits-requires c κs = search needs
 returns : tie.Need-returns Inv-loop μ-loop
 returns c = λ e. absurd (clash (sym e ∙ sym (c .before .in-limits .ensures) ∙ false-of-not _ (c .if1 .taken)))
 
-slots-before-requires : tie.Need-slots-before-requires Inv-loop μ-loop
-slots-before-requires c κs = search needs
+first-slot-requires : tie.Need-first-slot-requires Inv-loop μ-loop
+first-slot-requires c κs = search needs
 
-slots-before-requires-2 : tie.Need-slots-before-requires-2 Inv-loop μ-loop
-slots-before-requires-2 c κs = search needs
+first-slot-requires-2 : tie.Need-first-slot-requires-2 Inv-loop μ-loop
+first-slot-requires-2 c κs = search needs
 
 loop-holds : tie.Need-loop-holds Inv-loop μ-loop
 loop-holds c =
     let a = c .before .before .before .before .before .args in
-    let b = c .slots-before2 .ensures in (
-      λ h. omega (arith, h, b, c .before .slots-before .ensures),
+    let b = c .first-slot2 .ensures in (
+      λ h. omega (arith, h, b, c .before .first-slot .ensures),
       λ low up high right.
-          let e : a .from ≡ c .slots-before2 .result + 1 = omega (arith, b, low, up, high) in
+          let e : a .from ≡ c .first-slot2 .result + 1 = omega (arith, b, low, up, high) in
           subst (λ (k : ℕ). CapacitiesAt (a .table .now) (a .slots) (a .bridges) k (a .capacities .now)) e right,
     )
 
@@ -52,7 +52,7 @@ within c =
     limits-of (a .slots) (a .bridges) 0 (length (a .table .now)) (sym (e .before .in-limits .ensures) ∙ true-of-not _ (e .if1 .left))
 
 below : (c : tie.In-loop Inv-loop μ-loop) → c .before .loop .s < 64
-below c = omega (arith, c .loop-test .taken, c .before .before .before .slots-before .ensures, within c .0)
+below c = omega (arith, c .loop-test .taken, c .before .before .before .first-slot .ensures, within c .0)
 
 mul-free-in : tie.Need-mul-free-in Inv-loop μ-loop
 mul-free-in c =
@@ -81,7 +81,7 @@ loop-again c =
       λ h. omega (arith, f .before .loop-test .taken),
       λ low up high right.
           let r = l .inv .1 low up high right in
-          pass-slot (a .table .now) (a .slots) (a .bridges) (l .s) (omega (arith, f .before .loop-test .taken, f .before .before .before .before .slots-before .ensures)) r
+          pass-slot (a .table .now) (a .slots) (a .bridges) (l .s) (omega (arith, f .before .loop-test .taken, f .before .before .before .before .first-slot .ensures)) r
           (c .take-slot .ensures .0) (λ k m. c .take-slot .ensures .1 (r .long) k m ∙ ap (λ (z : ℕ). getD (l .capacities) k 0 - min k z) (f .free-in .ensures)),
     )
 
@@ -91,7 +91,7 @@ returns-2 c =
     let l = c .before .loop in
     let n = c .before .before .before in
     let a = n .before .before .before .before .args in
-    let same : l .s + 1 ≡ a .to = omega (arith, l .inv .0 up, c .loop-test .left, n .slots-before .ensures, low, up, high) in
+    let same : l .s + 1 ≡ a .to = omega (arith, l .inv .0 up, c .loop-test .left, n .first-slot .ensures, low, up, high) in
     subst (λ (k : ℕ). CapacitiesAt (a .table .now) (a .slots) (a .bridges) k (l .capacities)) same (l .inv .1 low up high right)
 
 pub pass-slots-spec : {M : Type 1} → statement M
@@ -102,8 +102,8 @@ pass-slots-spec =
     μ-loop
     in-limits-requires
     returns
-    slots-before-requires
-    slots-before-requires-2
+    first-slot-requires
+    first-slot-requires-2
     loop-holds
     mul-free-in
     free-in-requires

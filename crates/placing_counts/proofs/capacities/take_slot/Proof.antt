@@ -17,17 +17,17 @@ abbrev μ-loop : tie.MeasureT-loop
 loop-holds : tie.Need-loop-holds Inv-loop μ-loop
 loop-holds c = (omega arith, refl, λ long. lowered-none (c .args .capacities .now) (λ q. min q (c .args .x)))
 
-mul-less : tie.Need-mul-less Inv-loop μ-loop
-mul-less c = omega arith
+mul-over : tie.Need-mul-over Inv-loop μ-loop
+mul-over c = omega arith
 
-element-copy-out-less : tie.Need-element-copy-out-less Inv-loop μ-loop
-element-copy-out-less c = omega arith
+element-copy-out-over : tie.Need-element-copy-out-over Inv-loop μ-loop
+element-copy-out-over c = omega arith
 
 least-requires : tie.Need-least-requires Inv-loop μ-loop
 least-requires c κs = search needs
 
-less-requires : tie.Need-less-requires Inv-loop μ-loop
-less-requires c κs = search needs
+over-requires : tie.Need-over-requires Inv-loop μ-loop
+over-requires c κs = search needs
 
 mul-capacities : tie.Need-mul-capacities Inv-loop μ-loop
 mul-capacities c = omega arith
@@ -46,7 +46,7 @@ loop-again c =
     let d = c .before .before .before .before in
     let l = d .loop in
     let a = d .before .args in
-    (omega arith, simp length-set (l .inv .1), λ long. lowered-more (a .capacities .now) (l .capacities) (λ q. min q (a .x)) (l .r) _ (omega (arith, l .inv .1)) (l .inv .2 long) (omega (arith, c .less .ensures, c .before .least .ensures)))
+    (omega arith, simp length-set (l .inv .1), λ long. lowered-more (a .capacities .now) (l .capacities) (λ q. min q (a .x)) (l .r) _ (omega (arith, l .inv .1)) (l .inv .2 long) (omega (arith, c .over .ensures, c .before .least .ensures)))
 
 returns : tie.Need-returns Inv-loop μ-loop
 returns c =
@@ -61,10 +61,10 @@ take-slot-spec =
     Inv-loop
     μ-loop
     loop-holds
-    mul-less
-    element-copy-out-less
+    mul-over
+    element-copy-out-over
     least-requires
-    less-requires
+    over-requires
     mul-capacities
     element-write-capacities
     add-r
