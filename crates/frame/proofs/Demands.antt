@@ -11,34 +11,31 @@ use mathlib.Core.Option.{none}
 use mathlib.Core.List.{List}
 use lib.ListN.{length, drop}
 use lib.Dec.{eqb, ltb, lit≤}
-use Rattle.laws.specs.Placement.{at, left, lrtf, SlotRule}
-use Rattle.laws.proofs.Sums.{Is, is-true, is-false, is, test-ext, lt-of, ge-of, eq-of, ltb-yes, eqb-yes}
+use Rattle.laws.specs.Lists.{at}
+use Rattle.laws.specs.Placement.{left, lrtf, SlotRule}
+use Rattle.laws.proofs.Tests.{Is, is-true, is-false, is, test-ext}
+use Rattle.laws.proofs.Comparisons.{lt-of, ge-of, eq-of, ltb-yes, eqb-yes}
 use Rattle.laws.proofs.Placement.{chosen-rule}
 use Rattle.station.specs.Head.{Head, Job}
 use Rattle.station.specs.Refusal.{callNotFeasible, firstOf}
 use Rattle.station.specs.Reading.{Reading, headOf}
-use Rattle.station.proofs.Reading.{read-means}
-use Rattle.station.proofs.Writing.{read-valid, read-written}
-use Rattle.station.proofs.Written.{written-read, yielded}
+use Rattle.station.proofs.Theorems.{read-means, read-valid, read-written, written-read, yielded}
 use Rattle.placing.specs.Table.{cell, cells, Each, holding, hasJob, callCell}
 use Rattle.placing.specs.Valid.{ValidCall, usable, jobAt, lost, lostUpTo}
 use Rattle.placing.specs.Plan.{planFreeCount, freeCount, needs, planned}
 use Rattle.placing.specs.Call.{lengths, callFree, called}
-use Rattle.placing.specs.Entries.{PlanAnswer, planOf, CallAnswer, callOf}
+use Rattle.placing.specs.Outcomes.{PlanAnswer, planOf, CallAnswer, callOf}
 use Rattle.placing.specs.Claims.{Running, CallClaim, beforeSeven}
-use Rattle.placing.proofs.Cells.{cells-ext}
-use Rattle.placing.proofs.Written.{cell-written}
-use Rattle.placing.proofs.Good.{length-lengths}
-use Rattle.placing.proofs.Plan.{needs-long, grants-rule}
-use Rattle.placing.proofs.Called.{changed-job-usable}
+use Rattle.placing.proofs.Theorems.{cells-ext, cell-written, length-lengths, needs-long, grants-rule}
+use Rattle.placing.proofs.Theorems.{changed-job-usable}
 use Rattle.placing.proofs.Theorems.{plan-granted, plan-claim, plan-only-five, nine-counts-all, call-accepted, call-claim}
 use Rattle.frame.specs.Event.{Event, taken, refused, State, Run, runOf}
 use Rattle.frame.specs.Text.{Whole, ran, startOf, eventsOf, wholeWithPlan, wholeWithHead, wholeOf}
 use Rattle.frame.specs.Demands.{stateAt, eventAt, answerAt, cellsAt, Ends, too-long, too-short, head-refused, is-not-planned, is-planned}
 use Rattle.frame.specs.Demands.{EventIs, Demand1, Demand2, OneText, CallAt, Demand3}
-use Rattle.frame.proofs.Run.{answered, outcome-at, answer-at, state-next, state-end, kept-at, run-rest}
-use Rattle.frame.proofs.Event.{event-is, call-taken, call-refused, call-table, now-asks, event-never-eleven, seven-asks, event-running}
-use Rattle.frame.proofs.Kept.{Kept, call-cell, run-kept, run-counted, run-clock}
+use Rattle.frame.proofs.EventList.{answered, outcome-at, answer-at, state-next, state-end, kept-at, run-rest}
+use Rattle.frame.proofs.OneEvent.{event-is, call-taken, call-refused, call-table, now-asks, event-never-eleven, seven-asks, event-running}
+use Rattle.frame.proofs.KeptCells.{Kept, call-cell, run-kept, run-counted, run-clock}
 
 -- ---- demand 1
 

@@ -1,6 +1,9 @@
--- The laws of layer 3, by subject: a list of events taken apart; one event; what events leave as it was; the demands; the starred frames computed.
-pub mod Run
-pub mod Event
-pub mod Kept
+-- The laws of layer 3. What programs and the static library cite: the theorems; and the three demands.
+pub mod Theorems
 pub mod Demands
-pub mod Starred
+-- A list of events taken apart; one event; what events leave as it was; the starred frames computed. The laws about one part of the code stand beside its proofs, in the folder
+-- of its name.
+mod EventList
+mod OneEvent
+mod KeptCells
+mod Starred

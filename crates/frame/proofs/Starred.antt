@@ -1,8 +1,8 @@
 -- The starred frames of document 01, "Frames to try": one list of cases, each a station text and how its listing begins, and one fact, that all
--- hold, by computing. Beside them the other frames to try of that list that a text can state, and the frames that docs/CALLS.md works out against
--- versions 1 to 3 of the manual's page.
+-- hold, by computing. Beside them the other frames to try of that list that a text can state, and all frames of docs/CALLS.md: against versions 1 to 3 of
+-- the manual's page, and against readings that mislead.
 --
--- In order: cases and their test; `starred`, `others`, `refuting`; `frames-hold`. (What holds of every placement of the frame with free 3, 1, 1, 1 is
+-- In order: cases and their test; `starred`, `others`, `refuting`, `misleading`; `frames-hold`. (What holds of every placement of the frame with free 3, 1, 1, 1 is
 -- in the placing crate's proofs/Examples.antt.)
 -- Assumes nothing.
 use Prim.Native.Nat.{ℕ}
@@ -81,27 +81,50 @@ others =
     ∷ shows "" "(refused 1 3)\n"
     ∷ []
 
--- The frames of docs/CALLS.md.
+-- The frames of docs/CALLS.md against versions 1 to 3 of the manual's page.
 pub refuting : List Case
 refuting =
-    -- version 1, "as many cells as slots asked for are enough": six cells, six slots asked for, and no placement; nor with an optional cell in
-    -- slot 1
-    shows "(frame 4 3)\n(busy 2 (2 4))\n(busy 3 (2 4))\n(call (5 3) (6 3))\n" "(refused 4 7)\n(slot 1 0 0 0)\n"
-    ∷ shows "(frame 4 4)\n(busy 2 (2 4))\n(busy 3 (2 4))\n(busy 4 (2 4))\n(preset 1 0 0 1)\n(call (5 3) (6 3))\n"
-    "(granted 1 1)\n(refused 6 7)\n(slot 1 o1 0 0 0)\n"
-    -- version 2, "a call takes refinement only for what the empty cells lack in number, in time order": six empty cells for six slots, and one
-    -- must go; and where one is lacking, the first in time does not help
-    ∷ shows "(frame 4 4)\n(busy 2 (3 4))\n(busy 3 (2 4))\n(busy 4 (2 4))\n(preset 1 0 1 1)\n(call (5 3) (6 3))\n" "(granted 1 1)\n(taken 1)\n"
+    -- version 1, "a call fits if enough cells are empty": four are empty, the job needs three different slots, and there are two
+    shows "(frame 2 2)\n(call (5 3))\n" "(refused 2 7)\n(slot 1 0 0)\n(slot 2 0 0)\n"
+    -- version 2, "and no job may be longer than the time left": empty 3, 1, 1, 1, two jobs of three slots
+    ∷ shows "(frame 4 3)\n(busy 2 (2 4))\n(busy 3 (2 4))\n(call (5 3) (6 3))\n" "(refused 4 7)\n(slot 1 0 0 0)\n(slot 2 0 - -)\n(slot 3 0 - -)\n(slot 4 0 - -)\n"
+    -- version 3, "the refinement lost is the call's length less the empty cells": 6 - 6 makes none, and one goes; the frame before the call
+    ∷ shows "(frame 4 4)\n(busy 2 (3 4))\n(busy 3 (2 4))\n(busy 4 (2 4))\n(preset 1 0 1 1)\n"
+    "(granted 1 1)\n(slot 1 m1 0 0 0)\n(slot 2 o1 0 - -)\n(slot 3 0 - - -)\n(slot 4 0 - - -)\n"
+    -- and with it
+    ∷ shows "(frame 4 4)\n(busy 2 (3 4))\n(busy 3 (2 4))\n(busy 4 (2 4))\n(preset 1 0 1 1)\n(call (5 3) (6 3))\n"
+    "(granted 1 1)\n(taken 1)\n(slot 1 m1 c5 c6 0)\n(slot 2 c5 c6 - -)\n(slot 3 c5 - - -)\n(slot 4 c6 - - -)\n"
+    ∷ []
+
+-- The frames of docs/CALLS.md against document 01's "Readings that mislead", and against two other readings of that page.
+pub misleading : List Case
+misleading =
+    -- as many cells as slots, refinement counted in: seven cells, six slots asked for, and no placement
+    shows "(frame 4 4)\n(busy 2 (2 4))\n(busy 3 (2 4))\n(busy 4 (2 4))\n(preset 1 0 0 1)\n(call (5 3) (6 3))\n"
+    "(granted 1 1)\n(refused 6 7)\n(slot 1 o1 0 0 0)\n(slot 2 0 - - -)\n(slot 3 0 - - -)\n(slot 4 0 - - -)\n"
+    -- refinement for what the empty cells lack in number, the first in time: that cell does not help
     ∷ shows "(frame 3 3)\n(busy 1 (2 3))\n(busy 2 (2 2))\n(preset 1 0 0 2)\n(preset 2 0 1 0)\n(call (5 3) (6 1))\n"
     "(granted 1 2)\n(granted 2 0)\n(taken 1)\n(slot 1 o1 m2 c5)\n(slot 2 - - c5)\n(slot 3 - c5 c6)\n"
-    -- version 3, "in each slot the worst preset loses first": over the whole frame the worst preset loses first, though its slot comes later
+    -- refinement first and empty cells later
+    ∷ shows "(frame 2 1)\n(preset 1 0 0 1)\n(call (5 1))\n" "(granted 1 1)\n(taken 0)\n(slot 1 o1)\n(slot 2 c5)\n"
+    -- the better preset spared slot by slot: over the whole frame the worse one loses, though its slot comes later
     ∷ shows "(frame 2 1)\n(preset 1 0 0 1)\n(preset 2 1 0 1)\n(call (5 1))\n"
     "(granted 1 1)\n(granted 2 1)\n(taken 1)\n(slot 1 o1)\n(slot 2 c5)\n"
+    -- a whole job on one bridge: no bridge is free in both slots
+    ∷ shows "(frame 2 2)\n(busy 1 (2 2))\n(busy 2 (1 1))\n(call (5 2))\n" "(taken 0)\n(slot 1 c5 -)\n(slot 2 - c5)\n"
+    -- the worse preset always loses before the better one, also a cell that ends up empty: here its cell does not help, and is spared
+    ∷ shows "(frame 2 2)\n(busy 2 (1 1))\n(preset 1 0 0 1)\n(preset 2 9 0 1)\n(call (5 2))\n"
+    "(granted 1 1)\n(granted 2 1)\n(taken 1)\n(slot 1 c5 -)\n(slot 2 o2 c5)\n"
+    -- two calls cost the least that they can cost together: each is placed for itself, and the second one takes what both in one call would have spared
+    ∷ shows "(frame 3 3)\n(busy 2 (3 3))\n(busy 3 (1 1) (3 3))\n(preset 1 0 2 1)\n(call (5 1))\n(call (6 2))\n"
+    "(granted 1 1)\n(taken 0)\n(taken 1)\n(slot 1 m1 c5 -)\n(slot 2 m1 c6 0)\n(slot 3 c6 - -)\n"
+    ∷ shows "(frame 3 3)\n(busy 2 (3 3))\n(busy 3 (1 1) (3 3))\n(preset 1 0 2 1)\n(call (5 1) (6 2))\n"
+    "(granted 1 1)\n(taken 0)\n(slot 1 m1 c6 -)\n(slot 2 m1 c5 c6)\n(slot 3 o1 - -)\n"
     ∷ []
 
 -- Every starred frame comes out as document 01 says, and so do the others; every frame of docs/CALLS.md comes out as that page says.
-pub frames-hold : (allHold starred ≡ true) × (allHold others ≡ true) × (allHold refuting ≡ true)
+pub frames-hold : (allHold starred ≡ true) × (allHold others ≡ true) × (allHold refuting ≡ true) × (allHold misleading ≡ true)
 unfolding
-    allHold starred others refuting reads plans calls jobsOf ownCauses carriedOut comesTo runOf wholeWithPlan wholeWithHead wholeOf
+    allHold starred others refuting misleading reads plans calls jobsOf ownCauses carriedOut comesTo runOf wholeWithPlan wholeWithHead wholeOf
     digits digitsIn refusedLine grantedLine answerLine cellText cellTexts slotLine slotLines grantedLines answerLines listingOf
-frames-hold = (refl, refl, refl)
+frames-hold = (refl, refl, refl, refl)

@@ -8,7 +8,8 @@ use mathlib.Core.Bool.{true, _||_}
 use mathlib.Core.Option.{none, some}
 use mathlib.Core.List.{List, [], _∷_}
 use lib.ListN.{length, getD, take}
-use Rattle.laws.specs.Placement.{at, left, lrtf, SlotRule}
+use Rattle.laws.specs.Lists.{at}
+use Rattle.laws.specs.Placement.{left, lrtf, SlotRule}
 use Rattle.laws.specs.Eviction.{FirstSmallest, ones}
 use Rattle.station.specs.Head.{Head, Job, Valid}
 use Rattle.station.specs.Refusal.{Refusal, noForm, callNotFeasible, mandatoryNotFeasible, notWellFormed, tooShort, textTooLong, firstOf}
@@ -19,7 +20,7 @@ use Rattle.placing.specs.Table.{Cells, cell, cells, Each, presetCount, holding,
 use Rattle.placing.specs.Valid.{ValidPlan, ValidCall, usable, jobAt, lost, lostUpTo, optionalCount}
 use Rattle.placing.specs.Plan.{GrantRule, planFreeCount, freeCount, needs, planned}
 use Rattle.placing.specs.Call.{emptyCount, evictionOrder, InEvictionOrder, slotsOf, lengths, evictedSet, callFree, called}
-use Rattle.placing.specs.Entries.{written, PlanAnswer, planOf, CallAnswer, callOf}
+use Rattle.placing.specs.Outcomes.{written, PlanAnswer, planOf, CallAnswer, callOf}
 use Rattle.placing.specs.Claims.{Running, SamePast, Fits, beforeSeven}
 use Rattle.frame.specs.Event.{Event, line, setClock, place, asked, Answer, now, taken, refused, State, Outcome, Run, eventCauses, runOf}
 use Rattle.frame.specs.Text.{Whole, notRead, notPlanned, ran, startOf, eventsOf, wholeOf}

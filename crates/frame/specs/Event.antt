@@ -11,7 +11,7 @@ use Rattle.station.specs.Refusal.{Refusal, noForm, outOfLimits, outOfPlace, clo
 use Rattle.station.specs.Form.{Form, frameLine, busyLine, presetLine, clockLine, callLine, jobsOf, form}
 use Rattle.placing.specs.Table.{cell}
 use Rattle.placing.specs.Call.{evictedSet, called}
-use Rattle.placing.specs.Entries.{written, frameCauses, callCauses, CallAnswer}
+use Rattle.placing.specs.Outcomes.{written, frameCauses, callCauses, CallAnswer}
 
 -- "events of every kind (here clocks and calls) .. and faulty lines": a line of whatever bytes, its end included, or a clock or a call handed over.
 pub data Event : Type 0 where

@@ -1,6 +1,15 @@
--- Layer 3, the running frame: one event, a list of events, a whole text, the listing, the three demands; and what the code's answers stand for.
+-- Layer 3, the running frame. What a reader must believe: one event and a list of events; a whole text; the listing; the three demands; then what the code's answers stand for,
+-- and what each entry answers and leaves.
 pub mod Event
 pub mod Text
 pub mod Listing
 pub mod Demands
 pub mod Types
+pub mod EventDone
+pub mod EventEntry
+pub mod TextDone
+pub mod TextEntry
+pub mod WroteLine
+pub mod WriteListing
+-- What only the code's method needs.
+pub mod method

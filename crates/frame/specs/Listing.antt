@@ -2,7 +2,7 @@
 -- Assumes nothing.
 use Prim.Native.Nat.{ℕ, zero, suc}
 use mathlib.Core.List.{List, [], _∷_}
-use Rattle.laws.specs.Placement.{at}
+use Rattle.laws.specs.Lists.{at}
 use Rattle.station.specs.Head.{Head, Preset}
 use Rattle.station.specs.Refusal.{Refusal, numberOf}
 use Rattle.station.specs.Text.{bytes, _then_}

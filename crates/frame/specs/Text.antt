@@ -9,7 +9,7 @@ use Rattle.station.specs.Head.{Head}
 use Rattle.station.specs.Refusal.{Refusal, tooShort, textTooLong, try, firstOf}
 use Rattle.station.specs.Text.{lines}
 use Rattle.station.specs.Reading.{Reading, headOf}
-use Rattle.placing.specs.Entries.{PlanAnswer, planOf}
+use Rattle.placing.specs.Outcomes.{PlanAnswer, planOf}
 use Rattle.frame.specs.Event.{Event, State, Run, runOf, line}
 
 -- What a text comes to. `notRead`: the head is refused, with its line; nothing is changed. `notPlanned`: the head is read and its plan refused, at the last

@@ -1,4 +1,4 @@
-// The answers of the running frame. What each stands for is in specs/Types.antt and specs/Running.antt.
+// The answers of the running frame. What each stands for is in specs/Types.antt and specs/EventDone.antt.
 use station::types::Refusal;
 
 // The answer to one event: the new clock, the number of optional cells that a call evicts, or the cause of its refusal.

@@ -13,9 +13,10 @@ use lib.Dec.{ltb, eqb}
 use Rattle.laws.specs.Sums.{bit, only, sum, count}
 use Rattle.laws.specs.Placement.{Placed}
 use Rattle.laws.specs.Cells.{takes, slotCell}
-use Rattle.laws.proofs.Sums.{Is, is-true, is-false, is, not-true, eq-of, ne-of, ltb-yes, eqb-comm, bit-le, bit-ltb, sum-ext, sum-le, sum-zero}
-use Rattle.laws.proofs.Sums.{term-le, sum-add, sum-swap, count-ext}
-use Rattle.laws.proofs.Every.{sum-beyond}
+use Rattle.laws.proofs.Tests.{Is, is-true, is-false, is, not-true}
+use Rattle.laws.proofs.Comparisons.{eq-of, ne-of, ltb-yes, eqb-comm}
+use Rattle.laws.proofs.Sums.{sum-ext, sum-le, sum-zero, term-le, sum-add, sum-swap, sum-beyond}
+use Rattle.laws.proofs.Counts.{bit-le, bit-ltb, count-ext}
 
 -- ---- the cells that pass a test
 

@@ -1,9 +1,10 @@
 -- Eviction: the search takes the fewest cells after every position, and its set is the first of the smallest ones.
 --
 -- In order: sets of cells and what they add; the search over any shortage (how many cells it takes, that no set does better, fewest after every
--- position, for a priority and in all); the first smallest set; the excess over a capacity is a shortage.
+-- position, for a priority and in all), and from free cells that agree below n (`searched-same`, `added-same`); the first smallest set; the excess over a capacity is a shortage.
+-- What one cell more does to a capacity is in Capacities.
 -- Assumes nothing.
-use Prim.Native.Nat.{ℕ, zero, suc, _+_, _-_, _≤_, _<_, min, zero-le}
+use Prim.Native.Nat.{ℕ, zero, suc, _+_, _-_, _≤_, _<_, zero-le}
 use native.Mathlib.Nat.{le-refl}
 use native.Mathlib.Omega.{arith}
 use mathlib.Core.Path.{_≡_, refl, sym, _∙_, ap}
@@ -11,14 +12,14 @@ use mathlib.Core.Logic.{_⊎_, inl, inr, _↔_}
 use mathlib.Core.Bool.{Bool, true, false}
 use mathlib.Core.List.{List, [], _∷_}
 use lib.ListN.{length, take, drop, replicate}
-use lib.Dec.{ltb, leb, eqb}
+use lib.Dec.{ltb, leb}
 use Rattle.laws.specs.Sums.{bit, greatest}
 use Rattle.laws.specs.Placement.{capacity}
 use Rattle.laws.specs.Eviction.{put, added, ones, evictedIn, marked, Rising, high, low, First, here, later, FirstSmallest, searched, Shortage}
-use Rattle.laws.proofs.Sums.{Is, is-true, is-false, is, lt-of, ge-of, le-of, gt-of, eq-of, eqb-self, eqb-no, bit-le, sum-ext, sum-le-two}
-use Rattle.laws.proofs.Sums.{sum-but, greatest-bounds, greatest-attained}
-use Rattle.laws.proofs.Every.{count-eqb-le}
-use Rattle.laws.proofs.Placement.{capacity-mono}
+use Rattle.laws.proofs.Tests.{Is, is, is-true, is-false}
+use Rattle.laws.proofs.Comparisons.{lt-of, ge-of, le-of, gt-of}
+use Rattle.laws.proofs.Sums.{greatest-bounds, greatest-attained}
+use Rattle.laws.proofs.Capacities.{Below, capacity-mono, capacity-spread, capacity-put-le, capacity-put-same, capacity-put-full}
 
 -- ---- sets of cells
 
@@ -59,6 +60,13 @@ searched-cons short x z zs = go (is (lowers short x z))
     go (is-true e) = rw (e, searched)
     go (is-false e) = rw (e, searched)
 
+-- the search at its first cell, taken or left
+pub searched-true : (short : (ℕ → ℕ) → ℕ) (x : ℕ → ℕ) (z : ℕ) (zs : List ℕ) → lowers short x z ≡ true → searched short x (z ∷ zs) ≡ true ∷ searched short (put x z) zs
+searched-true short x z zs e = searched-cons short x z zs ∙ rw e
+
+pub searched-false : (short : (ℕ → ℕ) → ℕ) (x : ℕ → ℕ) (z : ℕ) (zs : List ℕ) → lowers short x z ≡ false → searched short x (z ∷ zs) ≡ false ∷ searched short x zs
+searched-false short x z zs e = searched-cons short x z zs ∙ rw e
+
 pub searched-long : (short : (ℕ → ℕ) → ℕ) (x : ℕ → ℕ) (zs : List ℕ) → length (searched short x zs) ≡ length zs
 unfolding searched
 searched-long short x [] = refl
@@ -85,7 +93,8 @@ rising-drop (low {w = w} r) = go (rising-drop r)
         next [] l = refl
         next (b ∷ e) l = omega (arith, p .1 e (omega arith))
 
-first-later : (b : Bool) {d e : List Bool} → (e ≡ d) ⊎ First d e → (b ∷ e ≡ b ∷ d) ⊎ First (b ∷ d) (b ∷ e)
+-- two lists with the same cell in front
+pub first-later : (b : Bool) {d e : List Bool} → (e ≡ d) ⊎ First d e → (b ∷ e ≡ b ∷ d) ⊎ First (b ∷ d) (b ∷ e)
 first-later b (inl q) = inl (rw q refl)
 first-later b (inr f) = inr (later f)
 
@@ -100,14 +109,10 @@ first-of-drops (true ∷ d) (false ∷ e) l h c = inr here
 first-of-drops (false ∷ d) (true ∷ e) l h c = absurd (omega (arith, h 1))
 first-of-drops (false ∷ d) (false ∷ e) l h c = first-later false (first-of-drops d e (omega arith) (λ m. h (suc m)) (omega arith))
 
-first-asym : {d e : List Bool} → First d e → First e d → ⊥
+pub first-asym : {d e : List Bool} → First d e → First e d → ⊥
 first-asym (later f) (later g) = first-asym f g
 
 -- ---- the search, over any shortage
-
--- x has at most the free cells of y in each of the n slots
-abbrev pub Below : ℕ → (ℕ → ℕ) → (ℕ → ℕ) → Type 0
-Below n x y = (s : ℕ) → s < n → x s ≤ y s
 
 -- a cell more on the right, and a cell more or not on the left
 moved-below : (n : ℕ) (x y : ℕ → ℕ) (z : ℕ) (b : Bool) → Below n x y → Below n (moved x z b) (put y z)
@@ -234,6 +239,44 @@ module _ (n : ℕ) (short : (ℕ → ℕ) → ℕ) (S : Shortage n short) where
             (λ m. searched-fewest x zs d m ld hd) (omega arith);
       }
 
+-- ---- the search from other free cells that agree in the frame
+
+abbrev pub Same : ℕ → (ℕ → ℕ) → (ℕ → ℕ) → Type 0
+Same n x y = (s : ℕ) → s < n → x s ≡ y s
+
+module _ (n : ℕ) (short : (ℕ → ℕ) → ℕ) (S : Shortage n short) where
+  pub short-same : (x y : ℕ → ℕ) → Same n x y → short x ≡ short y
+  short-same x y h = omega (arith, S .mono x y (λ s l. omega (arith, h s l)), S .mono y x (λ s l. omega (arith, h s l)))
+
+  same-put : (x y : ℕ → ℕ) (z : ℕ) → Same n x y → Same n (put x z) (put y z)
+  same-put x y z h s l = omega (arith, h s l)
+
+  pub searched-same : (x y : ℕ → ℕ) (zs : List ℕ) → Same n x y → searched short x zs ≡ searched short y zs
+  unfolding searched
+  searched-same x y [] h = refl
+  searched-same x y (z ∷ zs) h = go (λ x′ y′ m. searched-same x′ y′ zs m) (is (lowers short x z))
+    where
+      test : lowers short y z ≡ lowers short x z
+      test =
+          ap (λ (m : ℕ). ltb m (short y)) (sym (short-same (put x z) (put y z) (same-put x y z h)))
+          ∙ ap (ltb (short (put x z))) (sym (short-same x y h))
+
+      go : ((x′ y′ : ℕ → ℕ) → Same n x′ y′ → searched short x′ zs ≡ searched short y′ zs) → Is (lowers short x z)
+          → searched short x (z ∷ zs) ≡ searched short y (z ∷ zs)
+      go ih (is-true t) =
+          searched-true short x z zs t
+          ∙ ap (λ (l : List Bool). true ∷ l) (ih (put x z) (put y z) (same-put x y z h))
+          ∙ sym (searched-true short y z zs (test ∙ t))
+      go ih (is-false t) =
+          searched-false short x z zs t ∙ ap (λ (l : List Bool). false ∷ l) (ih x y h) ∙ sym (searched-false short y z zs (test ∙ t))
+
+  pub added-same : (x y : ℕ → ℕ) (zs : List ℕ) (e : List Bool) → Same n x y → Same n (added x zs e) (added y zs e)
+  unfolding added
+  added-same x y [] e h = h
+  added-same x y (z ∷ zs) [] h = h
+  added-same x y (z ∷ zs) (true ∷ e) h = added-same (put x z) (put y z) zs e (same-put x y z h)
+  added-same x y (z ∷ zs) (false ∷ e) h = added-same x y zs e h
+
 -- ---- the first smallest set, for any meaning of fitting
 
 pub first-smallest-of-iff : (Fits Fits′ : (ℕ → ℕ) → Type 0) → ((y : ℕ → ℕ) → Fits y ↔ Fits′ y) → (x : ℕ → ℕ) (zs : List ℕ) (d : List Bool)
@@ -259,42 +302,6 @@ first-unique Fits x zs d e D E = go (E .first d (D .long) (D .fits) size) (D .fi
     go (inr f) (inr g) = absurd (first-asym f g)
 
 -- ---- the excess over a capacity is a shortage
-
--- one cell more adds at most one
-pub capacity-put-le : (n : ℕ) (x : ℕ → ℕ) (z r : ℕ) → capacity n (put x z) r ≤ suc (capacity n x r)
-capacity-put-le n x z r =
-    omega (
-      arith,
-      sum-le-two n (λ s. min r (put x z s)) (λ s. 0) (λ s. min r (x s)) (λ s. bit (eqb s z)) (λ s l. omega arith),
-      count-eqb-le n z,
-    )
-
--- a cell in a slot that has r cells already, or in no slot, does not change the capacity for r
-pub capacity-put-same : (n : ℕ) (x : ℕ → ℕ) (z r : ℕ) → (z < n → r ≤ x z) → capacity n (put x z) r ≡ capacity n x r
-capacity-put-same n x z r h = sum-ext n (λ s. min r (put x z s)) (λ s. min r (x s)) each
-  where
-    each : (s : ℕ) → s < n → min r (x s + bit (eqb s z)) ≡ min r (x s)
-    each s l = go (is (eqb s z))
-      where
-        go : Is (eqb s z) → min r (x s + bit (eqb s z)) ≡ min r (x s)
-        go (is-true e) =
-            let at-z : s ≡ z = eq-of s z e in
-            omega (arith, ap x at-z, h (omega arith), bit-le (eqb s z))
-        go (is-false e) = omega (arith, ap bit e)
-
--- and it is only such a cell that does not
-pub capacity-put-full : (n : ℕ) (x : ℕ → ℕ) (z r : ℕ) → capacity n (put x z) r ≡ capacity n x r → z < n → r ≤ x z
-capacity-put-full n x z r same l =
-    omega
-    (arith, sum-but n (λ s. min r (put x z s)) (λ s. min r (x s)) z l (λ s m ne. other s (eqb-no s z ne)), ap bit (eqb-self z))
-  where
-    other : (s : ℕ) → eqb s z ≡ false → min r (put x z s) ≡ min r (x s)
-    other s e = omega (arith, ap bit e)
-
--- more free cells help a larger number at least as much
-pub capacity-spread : (n : ℕ) (x y : ℕ → ℕ) (r q : ℕ) → r ≤ q → Below n x y → capacity n y r + capacity n x q ≤ capacity n y q + capacity n x r
-capacity-spread n x y r q h b =
-    sum-le-two n (λ s. min r (y s)) (λ s. min q (x s)) (λ s. min q (y s)) (λ s. min r (x s)) (λ s l. omega (arith, b s l))
 
 module _ (k n : ℕ) (C : ℕ → ℕ) where
   -- by how much C r exceeds the capacity for r, at the worst r up to k

@@ -1,6 +1,6 @@
 -- Grants in rank order are best for every number of ranks counted.
 --
--- In order: two numbers are equal or not; the capacity is concave; tight selections; the greatest number that passes a test; one turn; the grants:
+-- In order: two numbers are equal or not; tight selections; the greatest number that passes a test; one turn; the grants:
 -- what each turn keeps, the rule itself, their sum as a minimum over selections, and that no plan gives the first ranks more.
 -- Assumes nothing.
 use Prim.Native.Nat.{ℕ, zero, suc, _+_, _-_, _≤_, _<_, min, zero-le}
@@ -13,13 +13,17 @@ use mathlib.Core.List.{List}
 use lib.ListN.{length, set, length-set}
 use lib.Seq.{ext-getD, getD-set-same, getD-set-other, set-getD}
 use lib.Dec.{ltb, eqb}
-use Rattle.laws.specs.Sums.{bit, only, sum, count}
-use Rattle.laws.specs.Placement.{capacity, Criterion, at}
+use Rattle.laws.specs.Sums.{only, sum, count}
+use Rattle.laws.specs.Lists.{at}
+use Rattle.laws.specs.Placement.{capacity, Criterion}
 use Rattle.laws.specs.Grants.{most, raised, turn, granted}
-use Rattle.laws.proofs.Sums.{Is, is-true, is-false, is, clash, not-true, lt-of, ge-of, eq-of, ne-of, eqb-yes, eqb-no, left-of, right-of}
-use Rattle.laws.proofs.Sums.{only-le, sum-ext, sum-le, sum-zero, sum-le-two, sum-or-and, count-imp, count-none, sum-but}
-use Rattle.laws.proofs.Every.{or-left, or-right, either}
-use Rattle.laws.proofs.Placement.{length-tabulate, at-tabulate, at-past}
+use Rattle.laws.proofs.Tests.{Is, is, is-true, is-false, clash, not-true, or-left, or-right}
+use Rattle.laws.proofs.Comparisons.{lt-of, ge-of, eq-of, ne-of, eqb-yes, eqb-no}
+use Rattle.laws.proofs.Every.{either}
+use Rattle.laws.proofs.Sums.{only-le, sum-ext, sum-le, sum-zero, sum-le-two, sum-or-and, sum-but}
+use Rattle.laws.proofs.Counts.{count-none}
+use Rattle.laws.proofs.Lists.{length-tabulate, at-tabulate, at-past}
+use Rattle.laws.proofs.Capacities.{capacity-or-and}
 
 -- ---- two numbers are equal or not
 
@@ -29,22 +33,6 @@ eq-or-ne m n = go (is (eqb m n))
     go : Is (eqb m n) → (m ≡ n) ⊎ (m ≡ n → ⊥)
     go (is-true e) = inl (eq-of m n e)
     go (is-false e) = inr (ne-of m n e)
-
--- ---- the capacity is concave
-
--- two numbers further apart have no more capacity than two of the same sum between them
-pub capacity-concave : (n : ℕ) (x : ℕ → ℕ) (a b c d : ℕ) → a ≤ c → a ≤ d → a + b ≡ c + d
-    → capacity n x b + capacity n x a ≤ capacity n x c + capacity n x d
-capacity-concave n x a b c d hc hd e =
-    sum-le-two n (λ s. min b (x s)) (λ s. min a (x s)) (λ s. min c (x s)) (λ s. min d (x s)) (λ s l. omega arith)
-
-pub capacity-or-and : (k n : ℕ) (x : ℕ → ℕ) (p q : ℕ → Bool)
-    → capacity n x (count k (λ i. p i || q i)) + capacity n x (count k (λ i. p i && q i)) ≤ capacity n x (count k p) + capacity n x (count k q)
-capacity-or-and k n x p q =
-    capacity-concave n x (count k (λ i. p i && q i)) (count k (λ i. p i || q i)) (count k p) (count k q)
-    (count-imp k (λ i. p i && q i) p (λ i l h. left-of (p i) (q i) h))
-    (count-imp k (λ i. p i && q i) q (λ i l h. right-of (p i) (q i) h))
-    (let e : count k (λ i. p i || q i) + count k (λ i. p i && q i) ≡ count k p + count k q = sum-or-and k (λ i b. bit b) p q in omega arith)
 
 -- ---- tight selections
 

@@ -14,9 +14,12 @@ use mathlib.Core.Bool.{Bool, true, false, not, _&&_, _||_}
 use lib.Dec.{ltb, leb, eqb}
 use Rattle.laws.specs.Sums.{bit, only, sum, count, position}
 use Rattle.laws.specs.Placement.{Criterion, capacity, before, largest}
-use Rattle.laws.proofs.Sums.{Is, is, is-true, is-false, clash, lt-of, ge-of, le-of, gt-of, eq-of, ne-of, eqb-self, eqb-no, ltb-yes, ltb-no, only-le, sum-zero, sum-ext, sum-le, sum-but, count-le}
+use Rattle.laws.proofs.Tests.{Is, is, is-true, is-false, clash}
+use Rattle.laws.proofs.Comparisons.{lt-of, ge-of, le-of, gt-of, eq-of, eqb-self, ne-of, ltb-yes, ltb-no, eqb-no, ltb-next}
+use Rattle.laws.proofs.Sums.{only-le, sum-ext, sum-le, sum-zero, sum-but}
+use Rattle.laws.proofs.Counts.{count-le}
 use Rattle.laws.proofs.Order.{position-count, position-below, before-total}
-use Rattle.laws.proofs.Filled.{ltb-next}
+use Rattle.laws.proofs.Capacities.{capacity-up, capacity-high, capacity-top}
 use Rattle.laws.proofs.Placement.{largest-slope, largest-bounds, largest-attained}
 
 -- ---- a larger number of needs, all of them, and none
@@ -244,18 +247,7 @@ largest-upto-all k c r = largest-ext k (upTo c k) c r (λ i l. ap (λ (b : Bool)
 
 -- ---- the criterion, where no slot has more than m free cells
 
--- a larger number has no less capacity
-pub capacity-up : (n : ℕ) (x : ℕ → ℕ) (r t : ℕ) → r ≤ t → capacity n x r ≤ capacity n x t
-capacity-up n x r t h = sum-le n (λ s. min r (x s)) (λ s. min t (x s)) (λ s l. omega arith)
-
 module _ (n : ℕ) (x : ℕ → ℕ) (m : ℕ) (few : (s : ℕ) → s < n → x s ≤ m) where
-  -- from m on the capacity is the same
-  pub capacity-top : (r : ℕ) → m ≤ r → capacity n x r ≡ capacity n x m
-  capacity-top r h = sum-ext n (λ s. min r (x s)) (λ s. min m (x s)) (λ s l. omega (arith, few s l))
-
-  pub capacity-high : (r : ℕ) → capacity n x r ≤ capacity n x m
-  capacity-high r = sum-le n (λ s. min r (x s)) (λ s. min m (x s)) (λ s l. omega (arith, few s l))
-
   module _ (k : ℕ) (c : ℕ → ℕ) where
     -- the sums up to m and the sum of all needs are enough ..
     pub criterion-of-sums : ((r : ℕ) → r ≤ m → largest k c r ≤ capacity n x r) → sum k c ≤ capacity n x m → Criterion k c n x
@@ -267,7 +259,7 @@ module _ (n : ℕ) (x : ℕ → ℕ) (m : ℕ) (few : (s : ℕ) → s < n → x 
             omega (
               arith,
               sum-le k (λ i. only (p i) (c i)) c (λ i l. only-part (p i) (c i)),
-              capacity-top (count k p) (omega (arith, gt-of (count k p) m e)),
+              capacity-top n x m few (count k p) (omega (arith, gt-of (count k p) m e)),
             )
           where
             only-part : (b : Bool) (v : ℕ) → only b v ≤ v
@@ -281,4 +273,4 @@ module _ (n : ℕ) (x : ℕ → ℕ) (m : ℕ) (few : (s : ℕ) → s < n → x 
         omega (arith, w .2, crit (w .0), capacity-up n x (count k (w .0)) r (w .1))
 
     pub all-of-criterion : Criterion k c n x → sum k c ≤ capacity n x m
-    all-of-criterion crit = omega (arith, largest-all k c k (le-refl k), sums-of-criterion crit k, capacity-high k)
+    all-of-criterion crit = omega (arith, largest-all k c k (le-refl k), sums-of-criterion crit k, capacity-high n x m few k)

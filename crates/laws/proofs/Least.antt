@@ -12,12 +12,16 @@ use mathlib.Core.List.{List}
 use lib.ListN.{length, length-set}
 use lib.Dec.{ltb, leb, eqb}
 use Rattle.laws.specs.Sums.{only, sum, count}
-use Rattle.laws.specs.Placement.{Criterion, capacity, largest, at}
+use Rattle.laws.specs.Lists.{at}
+use Rattle.laws.specs.Placement.{Criterion, capacity, largest}
 use Rattle.laws.specs.Grants.{most, raised}
-use Rattle.laws.specs.Least.{lowest, spare, highest}
-use Rattle.laws.proofs.Sums.{Is, is, is-true, is-false, clash, lt-of, ge-of, le-of, gt-of, eq-of, ne-of, count-le}
+use Rattle.laws.specs.method.Least.{lowest, spare, highest}
+use Rattle.laws.proofs.Tests.{Is, is, is-true, is-false, clash}
+use Rattle.laws.proofs.Comparisons.{lt-of, ge-of, le-of, gt-of, eq-of, ne-of}
+use Rattle.laws.proofs.Counts.{count-le}
+use Rattle.laws.proofs.Capacities.{capacity-up, capacity-high, capacity-top}
 use Rattle.laws.proofs.Placement.{largest-bounds}
-use Rattle.laws.proofs.Largest.{largest-part, largest-some, taken-out, taken-in, left-out, others-all, capacity-up, capacity-high, capacity-top}
+use Rattle.laws.proofs.Largest.{largest-part, largest-some, taken-out, taken-in, left-out, others-all}
 use Rattle.laws.proofs.Grants.{at-raised, at-raised-other, raised-zero, most-le, most-passes, most-stops}
 
 -- ---- the least of some numbers

@@ -1,18 +1,37 @@
--- The laws, by subject: sums; tests of every number; lists, element by element; positions in an order; placements (T1, T2); the sums of the largest needs; cells of a slot;
--- eviction (T4); grants (T3). Then for loops: stores of bytes; the highest need of a job; one number more; arrays filled step by step; capacities step by step, and from slots counted by their free cells.
-pub mod Sums
+-- The laws, by subject. Of numbers and lists: tests, comparisons, tests of every number, sums, counts, lists element by element, stores into them, what a loop over numbers keeps,
+-- positions in an order. Of jobs and slots: capacities, placements (T1, T2), the sums of the largest needs, cells of a slot, eviction (T4), grants (T3), the highest need of a job.
+pub mod Tests
+pub mod Comparisons
 pub mod Every
+pub mod Sums
+pub mod Counts
 pub mod Lists
+pub mod Stores
+pub mod Loops
 pub mod Order
+pub mod Capacities
 pub mod Placement
 pub mod Largest
 pub mod Cells
 pub mod Eviction
 pub mod Grants
-pub mod Stores
 pub mod Least
-pub mod More
-pub mod Loops
-pub mod Filled
-pub mod Stepwise
-pub mod ByFree
+-- Ahead of requests to come: the cells a search looks at (10); the excess past the bridges (06); one more free cell (14); the first largest set, needs
+-- that go into a number of cells, whole presets (13).
+pub mod Looked
+pub mod Excess
+pub mod Sensitivity
+pub mod Subsets
+pub mod Fitting
+pub mod Wholes
+-- Jobs with windows (09): the greatest value over all sets of jobs; the excess, a shortage; take or leave; placements within windows; the first of them, and Hall's theorem; eviction;
+-- what is reached from jobs that lack a cell, and slots handed over; a computed case.
+pub mod GreatestSet
+pub mod WindowExcess
+pub mod TakeOrLeave
+pub mod WindowPlacement
+pub mod FirstPlacement
+pub mod WindowEviction
+pub mod Reached
+pub mod Augmenting
+pub mod WindowExamples

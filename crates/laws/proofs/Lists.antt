@@ -1,11 +1,14 @@
--- Lists, element by element: what every element has, and what every two have.
+-- Lists, element by element: what every element has, and what every two have; and lists of numbers as functions.
 --
--- In order: `All` and `Pairwise`; a property that follows; lists one after the other; the element at a place, and two of them.
+-- In order: `All` and `Pairwise`; a property that follows; lists one after the other; the element at a place, and two of them; the list of a function's first values (`tabulate`),
+-- and that past its end a list has nothing (`at-past`). What is stored into a list is in Stores.
 -- Assumes nothing.
-use Prim.Native.Nat.{ℕ, zero, suc, _<_}
+use Prim.Native.Nat.{ℕ, zero, suc, _≤_, _<_}
 use native.Mathlib.Omega.{arith}
+use mathlib.Core.Path.{_≡_, refl, ap, ap₂}
 use mathlib.Core.List.{List, [], _∷_, _++_}
-use lib.ListN.{length, getD}
+use lib.ListN.{length, getD, List·getD-eq-default}
+use Rattle.laws.specs.Lists.{at, tabulate}
 
 pub data All {A : Type 0} (P : A → Type 0) : List A → Type 0 where
   none : All P []
@@ -50,3 +53,24 @@ module _ {A : Type 0} where
   pairwise-at d (first a p) i zero h n = absurd (omega arith)
   pairwise-at d (first a p) zero (suc j) h n = all-at d a j (omega arith)
   pairwise-at d (first a p) (suc i) (suc j) h n = pairwise-at d p i j (omega arith) (omega arith)
+
+-- ---- lists of numbers as functions
+
+pub length-tabulate : (n : ℕ) (f : ℕ → ℕ) → length (tabulate n f) ≡ n
+unfolding tabulate
+length-tabulate zero f = refl
+length-tabulate (suc n) f = ap suc (length-tabulate n (λ i. f (suc i)))
+
+pub at-tabulate : (n : ℕ) (f : ℕ → ℕ) (i : ℕ) → i < n → at (tabulate n f) i ≡ f i
+unfolding tabulate
+at-tabulate zero f i h = absurd (let l : i < 0 = h in omega arith)
+at-tabulate (suc n) f zero h = refl
+at-tabulate (suc n) f (suc i) h = at-tabulate n (λ j. f (suc j)) i (omega arith)
+
+pub tabulate-ext : (n : ℕ) (f g : ℕ → ℕ) → ((i : ℕ) → i < n → f i ≡ g i) → tabulate n f ≡ tabulate n g
+unfolding tabulate
+tabulate-ext zero f g e = refl
+tabulate-ext (suc n) f g e = ap₂ _∷_ (e 0 (omega arith)) (tabulate-ext n (λ i. f (suc i)) (λ i. g (suc i)) (λ i l. e (suc i) (omega arith)))
+
+pub at-past : (l : List ℕ) (i : ℕ) → length l ≤ i → at l i ≡ 0
+at-past l i h = List·getD-eq-default l 0 h

@@ -1,50 +1,31 @@
 -- Placements: a placement exists exactly if every selection of jobs obeys the capacity, and then largest remaining time first finds one.
 --
--- In order: lists as functions; capacity; a placement obeys the criterion; the r largest needs; the criterion and the excess; one slot for any
+-- In order: the criterion for more free cells and lower needs; a placement obeys the criterion; the r largest needs; the criterion and the excess; one slot for any
 -- choice of the largest needs, by the dual of the criterion; any way of breaking ties (T2); the choice of LRTF; the needs that are left; LRTF places.
+-- Laws of the capacity alone are in Capacities.
 -- Assumes nothing.
 use Prim.Native.Nat.{ℕ, zero, suc, _+_, _-_, _*_, _≤_, _<_, min}
 use native.Mathlib.Nat.{le-refl, mul-comm}
 use native.Mathlib.Omega.{arith}
-use mathlib.Core.Path.{_≡_, refl, sym, _∙_, ap, ap₂}
+use mathlib.Core.Path.{_≡_, refl, sym, _∙_, ap}
 use mathlib.Core.Logic.{_⊎_, inl, inr}
 use mathlib.Core.Bool.{Bool, true, false, not, _&&_}
-use mathlib.Core.List.{List, _∷_}
-use lib.ListN.{length, List·getD-eq-default}
+use mathlib.Core.List.{List}
+use lib.ListN.{length}
 use lib.Dec.{ltb}
 use Rattle.laws.specs.Sums.{bit, only, sum, count, position}
-use Rattle.laws.specs.Placement.{Placed, SlotRule, capacity, Criterion, before, chosen, at, tabulate, served, left, lrtf, largest, excess}
-use Rattle.laws.proofs.Sums.{Is, is-true, is-false, is, clash, lt-of, ge-of, ltb-yes, both, left-of, right-of, only-le, sum-ext, sum-le}
-use Rattle.laws.proofs.Sums.{sum-zero, term-le, sum-add, sum-first, sum-swap, count-ext, count-le, count-imp, sum-only-const, greatest-bounds}
-use Rattle.laws.proofs.Sums.{greatest-attained}
+use Rattle.laws.specs.Lists.{at}
+use Rattle.laws.specs.Placement.{Placed, SlotRule, capacity, Criterion, before, chosen, served, left, lrtf, largest, excess}
+use Rattle.laws.proofs.Tests.{Is, is, is-true, is-false, clash, both, left-of, right-of}
+use Rattle.laws.proofs.Comparisons.{lt-of, ge-of, ltb-yes}
 use Rattle.laws.proofs.Every.{either}
+use Rattle.laws.proofs.Sums.{only-le, sum-ext, sum-le, sum-zero, term-le, sum-add, sum-first, sum-swap, greatest-bounds, greatest-attained}
+use Rattle.laws.proofs.Counts.{count-ext, count-le, count-imp, sum-only-const}
+use Rattle.laws.proofs.Lists.{length-tabulate, at-tabulate, at-past}
 use Rattle.laws.proofs.Order.{position-order, order-of-position, position-count, at-position, before-total}
+use Rattle.laws.proofs.Capacities.{capacity-mono}
 
--- ---- lists as functions
-
-pub length-tabulate : (n : ℕ) (f : ℕ → ℕ) → length (tabulate n f) ≡ n
-unfolding tabulate
-length-tabulate zero f = refl
-length-tabulate (suc n) f = ap suc (length-tabulate n (λ i. f (suc i)))
-
-pub at-tabulate : (n : ℕ) (f : ℕ → ℕ) (i : ℕ) → i < n → at (tabulate n f) i ≡ f i
-unfolding tabulate
-at-tabulate zero f i h = absurd (let l : i < 0 = h in omega arith)
-at-tabulate (suc n) f zero h = refl
-at-tabulate (suc n) f (suc i) h = at-tabulate n (λ j. f (suc j)) i (omega arith)
-
-pub tabulate-ext : (n : ℕ) (f g : ℕ → ℕ) → ((i : ℕ) → i < n → f i ≡ g i) → tabulate n f ≡ tabulate n g
-unfolding tabulate
-tabulate-ext zero f g e = refl
-tabulate-ext (suc n) f g e = ap₂ _∷_ (e 0 (omega arith)) (tabulate-ext n (λ i. f (suc i)) (λ i. g (suc i)) (λ i l. e (suc i) (omega arith)))
-
-pub at-past : (l : List ℕ) (i : ℕ) → length l ≤ i → at l i ≡ 0
-at-past l i h = List·getD-eq-default l 0 h
-
--- ---- capacity
-
-pub capacity-mono : (n : ℕ) (x y : ℕ → ℕ) (r : ℕ) → ((s : ℕ) → s < n → x s ≤ y s) → capacity n x r ≤ capacity n y r
-capacity-mono n x y r h = sum-le n (λ s. min r (x s)) (λ s. min r (y s)) (λ s l. omega (arith, h s l))
+-- ---- more free cells, lower needs
 
 -- more free cells keep the criterion
 pub criterion-mono : (k : ℕ) (c : ℕ → ℕ) (n : ℕ) (x y : ℕ → ℕ) → ((s : ℕ) → s < n → x s ≤ y s) → Criterion k c n x → Criterion k c n y
@@ -57,7 +38,7 @@ criterion-less k c d n x less f p =
 
 -- ---- a placement obeys the criterion
 
-only-count : (n : ℕ) (q : ℕ → Bool) (b : Bool) → only b (count n q) ≡ count n (λ s. b && q s)
+pub only-count : (n : ℕ) (q : ℕ → Bool) (b : Bool) → only b (count n q) ≡ count n (λ s. b && q s)
 only-count n q true = refl
 only-count n q false = sym (sum-zero n (λ s. 0) (λ s l. refl))
 
@@ -152,7 +133,7 @@ largest-attained k c r h = ((λ i. ltb (position k (before c) i) r), position-co
 -- ---- the criterion and the excess
 
 -- some selection needs as much more than its capacity
-excess-attained : (k : ℕ) (c : ℕ → ℕ) (n : ℕ) (x : ℕ → ℕ)
+pub excess-attained : (k : ℕ) (c : ℕ → ℕ) (n : ℕ) (x : ℕ → ℕ)
     → (p : ℕ → Bool) × (sum k (λ i. only (p i) (c i)) - capacity n x (count k p) ≡ excess k c n x)
 excess-attained k c n x =
     let w = greatest-attained k (λ r. largest k c r - capacity n x r) in

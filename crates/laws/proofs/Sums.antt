@@ -1,128 +1,17 @@
--- Laws of sums, counts and the greatest of some numbers.
+-- Laws of sums, and of the greatest of some numbers.
 --
--- In order: tests as cases (`Is`), what a comparison says, both ways, conjunctions, comparisons as numbers; numbers where a test holds (`only`);
--- sums compared term by term; sums of sums, of unions and of parts; the first term; swapped sums; counts; one point, and two; the greatest.
+-- In order: numbers where a test holds (`only`); sums compared term by term; sums of sums, of unions and of parts, the first term, swapped sums, a sum split at a number, rows as
+-- one sum; one point, and two; the greatest. How many numbers pass a test is in Counts, no number and one more in Loops.
 -- Assumes nothing.
-use Prim.Native.Nat.{ℕ, zero, suc, _+_, _-_, _*_, _≤_, _<_, min, max, zero-le}
-use native.Mathlib.Nat.{le-refl, add-zero, zero-mul, suc-mul}
-use native.Mathlib.Numerals.{add-one}
+use Prim.Native.Nat.{ℕ, zero, suc, _+_, _-_, _*_, _≤_, _<_, max, zero-le}
+use native.Mathlib.Nat.{le-refl, add-zero, add-suc, suc-mul, zero-mul}
 use native.Mathlib.Omega.{arith}
-use mathlib.Core.Path.{_≡_, refl, sym, _∙_, ap, subst}
-use mathlib.Core.Bool.{Bool, true, false, not, _&&_, _||_, and-comm}
-use lib.Dec.{ltb, leb, eqb, T, ltb→lt, nltb→le, leb→le, nleb→lt, eqb→eq, eqb-refl, lt→ltb, le→leb}
-use Rattle.laws.specs.Sums.{bit, only, sum, count, greatest}
-
--- ---- tests
-
--- a test has one of two outcomes: `go (is b)` goes by cases and keeps the equation
-pub data Is (b : Bool) : Type 0 where
-  is-true : b ≡ true → Is b
-  is-false : b ≡ false → Is b
-
-pub is : (b : Bool) → Is b
-is true = is-true refl
-is false = is-false refl
-
-pub clash : true ≡ false → ⊥
-clash p = subst T p tt
-
-pub not-true : (b : Bool) → (b ≡ true → ⊥) → b ≡ false
-not-true true h = absurd (h refl)
-not-true false h = refl
-
--- two tests that imply each other are equal
-pub test-ext : (a b : Bool) → (a ≡ true → b ≡ true) → (b ≡ true → a ≡ true) → a ≡ b
-test-ext true b f g = sym (f refl)
-test-ext false b f g = sym (not-true b (λ e. clash (sym (g e))))
-
-pub T-of : {b : Bool} → b ≡ true → T b
-T-of e = rw e tt
-
-pub of-T : (b : Bool) → T b → b ≡ true
-of-T true t = refl
-of-T false t = absurd t
-
-pub not-T-of : {b : Bool} → b ≡ false → T (not b)
-not-T-of e = rw e tt
-
-pub lt-of : (m n : ℕ) → ltb m n ≡ true → m < n
-lt-of m n e = ltb→lt m n (T-of e)
-
-pub ge-of : (m n : ℕ) → ltb m n ≡ false → n ≤ m
-ge-of m n e = nltb→le m n (not-T-of e)
-
-pub le-of : (m n : ℕ) → leb m n ≡ true → m ≤ n
-le-of m n e = leb→le m n (T-of e)
-
-pub gt-of : (m n : ℕ) → leb m n ≡ false → n < m
-gt-of m n e = nleb→lt m n (not-T-of e)
-
-pub eq-of : (m n : ℕ) → eqb m n ≡ true → m ≡ n
-eq-of m n e = eqb→eq m n (T-of e)
-
-pub eqb-self : (n : ℕ) → eqb n n ≡ true
-eqb-self n = of-T _ (eqb-refl n)
-
-pub ne-of : (m n : ℕ) → eqb m n ≡ false → m ≡ n → ⊥
-ne-of m n e h = clash (sym (eqb-self n) ∙ ap (λ (k : ℕ). eqb k n) (sym h) ∙ e)
-
-pub ltb-yes : (m n : ℕ) → m < n → ltb m n ≡ true
-ltb-yes m n h = of-T _ (lt→ltb m n h)
-
-pub leb-yes : (m n : ℕ) → m ≤ n → leb m n ≡ true
-leb-yes m n h = of-T _ (le→leb m n h)
-
-pub ltb-no : (m n : ℕ) → n ≤ m → ltb m n ≡ false
-ltb-no m n h = not-true (ltb m n) (λ e. let l : m < n = lt-of m n e in omega arith)
-
-pub leb-no : (m n : ℕ) → n < m → leb m n ≡ false
-leb-no m n h = not-true (leb m n) (λ e. let l : m ≤ n = le-of m n e in omega arith)
-
--- one order is the other turned round and denied
-pub ltb-not : (m n : ℕ) → ltb m n ≡ not (leb n m)
-ltb-not m n = go (is (ltb m n))
-  where
-    go : Is (ltb m n) → ltb m n ≡ not (leb n m)
-    go (is-true e) = e ∙ sym (ap not (leb-no n m (lt-of m n e)))
-    go (is-false e) = e ∙ sym (ap not (leb-yes n m (ge-of m n e)))
-
-pub eqb-yes : (m n : ℕ) → m ≡ n → eqb m n ≡ true
-eqb-yes m n h = rw h (eqb-self n)
-
-pub eqb-no : (m n : ℕ) → (m ≡ n → ⊥) → eqb m n ≡ false
-eqb-no m n h = not-true (eqb m n) (λ e. h (eq-of m n e))
-
-pub eqb-comm : (m n : ℕ) → eqb m n ≡ eqb n m
-eqb-comm m n = test-ext (eqb m n) (eqb n m) (λ e. eqb-yes n m (sym (eq-of m n e))) (λ e. eqb-yes m n (sym (eq-of n m e)))
-
-pub bit-le : (b : Bool) → bit b ≤ 1
-bit-le true = le-refl 1
-bit-le false = zero-le
-
--- a conjunction holds exactly if both parts do
-pub both : (a b : Bool) → a ≡ true → b ≡ true → (a && b) ≡ true
-both true b p q = q
-both false b p q = p
-
-pub left-of : (a b : Bool) → (a && b) ≡ true → a ≡ true
-left-of true b p = refl
-left-of false b p = p
-
-pub right-of : (a b : Bool) → (a && b) ≡ true → b ≡ true
-right-of true b p = p
-right-of false b p = absurd (subst T (sym p) tt)
-
--- two comparisons that imply each other are the same test
-pub ltb-iff : (a b c d : ℕ) → (a < b → c < d) → (c < d → a < b) → ltb a b ≡ ltb c d
-ltb-iff a b c d f g = test-ext (ltb a b) (ltb c d) (λ e. ltb-yes c d (f (lt-of a b e))) (λ e. ltb-yes a b (g (lt-of c d e)))
-
--- a comparison in terms that omega reads
-pub bit-ltb : (a b : ℕ) → bit (ltb a b) ≡ min 1 (b - a)
-bit-ltb a b = go (is (ltb a b))
-  where
-    go : Is (ltb a b) → bit (ltb a b) ≡ min 1 (b - a)
-    go (is-true e) = omega (arith, ap bit e, lt-of a b e)
-    go (is-false e) = omega (arith, ap bit e, ge-of a b e)
+use mathlib.Core.Path.{_≡_, refl, sym, _∙_, ap}
+use mathlib.Core.Bool.{Bool, true, false, not, _&&_, _||_}
+use lib.Dec.{ltb, eqb, leb}
+use Rattle.laws.specs.Sums.{only, sum, greatest}
+use Rattle.laws.proofs.Tests.{Is, is, is-true, is-false}
+use Rattle.laws.proofs.Comparisons.{lt-of, ge-of, le-of, gt-of, eq-of, eqb-self, ne-of, eqb-no}
 
 -- ---- numbers where a test holds
 
@@ -135,12 +24,9 @@ pub only-le : (b : Bool) {m n : ℕ} → m ≤ n → only b m ≤ only b n
 only-le true h = h
 only-le false h = zero-le
 
-pub only-bit : (v c : Bool) → only v (bit c) ≡ bit (v && c)
-only-bit true c = refl
-only-bit false c = refl
-
-pub only-bit-comm : (v c : Bool) → only v (bit c) ≡ only c (bit v)
-only-bit-comm v c = only-bit v c ∙ ap bit (and-comm v c) ∙ sym (only-bit c v)
+pub only-le-self : (b : Bool) (n : ℕ) → only b n ≤ n
+only-le-self true n = le-refl n
+only-le-self false n = zero-le
 
 -- two tests that do not both hold, and what one that holds adds
 pub only-or : (p q : Bool) (n : ℕ) → (p ≡ true → q ≡ true → ⊥) → only (p || q) n ≡ only p n + only q n
@@ -185,6 +71,14 @@ sum-lt (suc n) f g i l h s = go (λ m. sum-lt n f g i m (λ j r. h j (omega arit
     go ih (is-true e) = omega (arith, sum-le n f g (λ j r. h j (omega arith)), ap f (eq-of i n e), ap g (eq-of i n e))
     go ih (is-false e) = let ne : i ≡ n → ⊥ = ne-of i n e in omega (arith, ih (omega arith), h n (omega arith))
 
+-- terms that are no greater, whose sum is no smaller, are none of them smaller
+pub sum-le-terms : (n : ℕ) (f g : ℕ → ℕ) → ((j : ℕ) → j < n → f j ≤ g j) → sum n g ≤ sum n f → (i : ℕ) → i < n → g i ≤ f i
+sum-le-terms n f g h back i l = go (is (ltb (f i) (g i)))
+  where
+    go : Is (ltb (f i) (g i)) → g i ≤ f i
+    go (is-true e) = absurd (omega (arith, sum-lt n f g i l h (lt-of (f i) (g i) e)))
+    go (is-false e) = ge-of (f i) (g i) e
+
 -- a smaller sum has a smaller term
 pub sum-lt-some : (n : ℕ) (f g : ℕ → ℕ) → sum n f < sum n g → (i : ℕ) × (i < n) × (f i < g i)
 unfolding sum
@@ -194,6 +88,10 @@ sum-lt-some (suc n) f g h = go (sum-lt-some n f g) (is (ltb (f n) (g n)))
     go : (sum n f < sum n g → (i : ℕ) × (i < n) × (f i < g i)) → Is (ltb (f n) (g n)) → (i : ℕ) × (i < suc n) × (f i < g i)
     go ih (is-true e) = (n, le-refl (suc n), lt-of (f n) (g n) e)
     go ih (is-false e) = let w = ih (omega (arith, ge-of (f n) (g n) e)) in (w .0, omega arith, w .2)
+
+-- a sum that is not 0 has a term that is not 0
+pub sum-pos : (n : ℕ) (f : ℕ → ℕ) → 0 < sum n f → (i : ℕ) × (i < n) × (0 < f i)
+sum-pos n f h = sum-lt-some n (λ i. 0) f (omega (arith, sum-zero n (λ i. 0) (λ i l. refl)))
 
 -- ---- sums of sums and of parts
 
@@ -235,47 +133,32 @@ sum-swap zero m f = sym (sum-zero m (λ j. 0) (λ j l. refl))
 sum-swap (suc n) m f =
     ap (λ (k : ℕ). k + sum m (λ j. f n j)) (sum-swap n m f) ∙ sym (sum-add m (λ j. sum n (λ i. f i j)) (λ j. f n j))
 
--- ---- counts
-
-pub count-ext : (n : ℕ) (p q : ℕ → Bool) → ((i : ℕ) → i < n → p i ≡ q i) → count n p ≡ count n q
-count-ext n p q h = sum-ext n (λ i. bit (p i)) (λ i. bit (q i)) (λ i l. ap bit (h i l))
-
-pub count-le : (n : ℕ) (p : ℕ → Bool) → count n p ≤ n
+-- the terms below m, and the rest
+pub sum-split : (m n : ℕ) (f : ℕ → ℕ) → sum (m + n) f ≡ sum m f + sum n (λ i. f (m + i))
 unfolding sum
-count-le zero p = le-refl 0
-count-le (suc n) p = omega (arith, count-le n p, bit-le (p n))
+sum-split m zero f = rw (add-zero m) (omega arith)
+sum-split m (suc n) f = rw (add-suc m n) (omega (arith, sum-split m n f))
 
-bit-imp : (a b : Bool) → (a ≡ true → b ≡ true) → bit a ≤ bit b
-bit-imp true b h = rw (h refl) (le-refl 1)
-bit-imp false b h = zero-le
+sum-from : (m n : ℕ) (f : ℕ → ℕ) → m ≤ n → sum n f ≡ sum m f + sum (n - m) (λ i. f (m + i))
+sum-from m n f h = let q : n ≡ m + (n - m) = omega arith in ap (λ (k : ℕ). sum k f) q ∙ sum-split m (n - m) f
 
--- what implies something else is counted no more often
-pub count-imp : (n : ℕ) (p q : ℕ → Bool) → ((i : ℕ) → i < n → p i ≡ true → q i ≡ true) → count n p ≤ count n q
-count-imp n p q h = sum-le n (λ i. bit (p i)) (λ i. bit (q i)) (λ i l. bit-imp (p i) (q i) (h i l))
+-- fewer terms; a sum whose terms from m on are 0; and a term from m on beside the terms below m
+pub sum-mono : (m n : ℕ) (f : ℕ → ℕ) → m ≤ n → sum m f ≤ sum n f
+sum-mono m n f h = omega (arith, sum-from m n f h)
 
-pub count-none : (n : ℕ) (p : ℕ → Bool) → ((i : ℕ) → i < n → p i ≡ false) → count n p ≡ 0
-count-none n p h = sum-zero n (λ i. bit (p i)) (λ i l. ap bit (h i l))
+pub sum-below : (m n : ℕ) (f : ℕ → ℕ) → m ≤ n → ((i : ℕ) → m ≤ i → i < n → f i ≡ 0) → sum m f ≡ sum n f
+sum-below m n f h z = omega (arith, sum-from m n f h, sum-zero (n - m) (λ i. f (m + i)) (λ i l. z (m + i) (omega arith) (omega arith)))
 
-pub count-all : (n : ℕ) (p : ℕ → Bool) → ((i : ℕ) → i < n → p i ≡ true) → count n p ≡ n
+pub sum-beyond : (m n : ℕ) (f : ℕ → ℕ) (i : ℕ) → m ≤ i → i < n → sum m f + f i ≤ sum n f
+sum-beyond m n f i h l =
+    let q : m + (i - m) ≡ i = omega arith in
+    omega (arith, sum-from m n f (omega arith), term-le (n - m) (λ j. f (m + j)) (i - m) (omega arith), ap f q)
+
+-- k rows of m numbers each, one after the other
+pub sum-rows : (k m : ℕ) (f : ℕ → ℕ) → sum (k * m) f ≡ sum k (λ s. sum m (λ b. f (s * m + b)))
 unfolding sum
-count-all zero p h = refl
-count-all (suc n) p h = omega (arith, count-all n p (λ i l. h i (omega arith)), ap bit (h n (omega arith)))
-
--- what implies something else, and is not all of it, is counted less often
-pub count-lt : (n : ℕ) (p q : ℕ → Bool) (i : ℕ) → i < n → ((j : ℕ) → j < n → p j ≡ true → q j ≡ true) → p i ≡ false → q i ≡ true →
-    count n p < count n q
-count-lt n p q i l h no-p yes-q =
-    sum-lt n (λ j. bit (p j)) (λ j. bit (q j)) i l (λ j r. bit-imp (p j) (q j) (h j r)) (rw (no-p, yes-q) (le-refl 1))
-
--- one number for each that passes the test
-pub sum-only-const : (n : ℕ) (p : ℕ → Bool) (c : ℕ) → sum n (λ i. only (p i) c) ≡ count n p * c
-unfolding sum
-sum-only-const zero p c = sym (zero-mul c)
-sum-only-const (suc n) p c = ap (λ (k : ℕ). k + only (p n) c) (sum-only-const n p c) ∙ add (p n)
-  where
-    add : (b : Bool) → count n p * c + only b c ≡ (count n p + bit b) * c
-    add true = rw (add-one, suc-mul)
-    add false = simp add-zero
+sum-rows zero m f = rw (zero-mul m) refl
+sum-rows (suc k) m f = rw (suc-mul k m) (omega (arith, sum-split (k * m) m f, sum-rows k m f))
 
 -- ---- one point
 
@@ -338,3 +221,12 @@ greatest-attained (suc n) f = go (greatest-attained n f) (is (leb (greatest n f)
         → (i : ℕ) × (i ≤ suc n) × (f i ≡ max (greatest n f) (f (suc n)))
     go w (is-true e) = (suc n, le-refl (suc n), (let l = le-of (greatest n f) (f (suc n)) e in omega arith))
     go w (is-false e) = (w .0, omega arith, (let l = gt-of (greatest n f) (f (suc n)) e in omega arith))
+
+-- what bounds each of some numbers bounds their greatest
+pub greatest-le : (n : ℕ) (f : ℕ → ℕ) (v : ℕ) → ((i : ℕ) → i ≤ n → f i ≤ v) → greatest n f ≤ v
+greatest-le n f v h = let w = greatest-attained n f in omega (arith, w .2, h (w .0) (w .1))
+
+pub greatest-ext : (k : ℕ) (f g : ℕ → ℕ) → ((r : ℕ) → r ≤ k → f r ≡ g r) → greatest k f ≡ greatest k g
+unfolding greatest
+greatest-ext zero f g h = h 0 (omega arith)
+greatest-ext (suc k) f g h = omega (arith, greatest-ext k f g (λ r l. h r (omega arith)), h (suc k) (omega arith))

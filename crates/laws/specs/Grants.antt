@@ -6,7 +6,7 @@ use mathlib.Core.List.{List}
 use lib.ListN.{length, set}
 use lib.Dec.{eqb}
 use Rattle.laws.specs.Sums.{only}
-use Rattle.laws.specs.Placement.{at, tabulate}
+use Rattle.laws.specs.Lists.{at, tabulate}
 
 -- the largest number up to o that passes the test, or 0
 unfoldable pub most : ℕ → (ℕ → Bool) → ℕ

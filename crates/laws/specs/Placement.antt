@@ -6,10 +6,11 @@ use Prim.Native.Nat.{ℕ, zero, suc, _+_, _-_, _≤_, _<_, min}
 use mathlib.Core.Path.{_≡_}
 use mathlib.Core.Logic.{_⊎_}
 use mathlib.Core.Bool.{Bool, true, false, _&&_}
-use mathlib.Core.List.{List, [], _∷_}
-use lib.ListN.{length, getD}
-use lib.Dec.{ltb, eqb}
+use mathlib.Core.List.{List}
+use lib.ListN.{length}
+use lib.Dec.{ltb}
 use Rattle.laws.specs.Sums.{bit, only, sum, count, greatest, position}
+use Rattle.laws.specs.Lists.{at, tabulate}
 
 -- A placement: `a i s` says that job i has a cell in slot s. A job has as many slots as it needs, at most one cell in each; a slot
 -- holds no more jobs than it has free cells.
@@ -44,15 +45,6 @@ pub record SlotRule (k : ℕ) (c : ℕ → ℕ) (d : ℕ) (D : ℕ → Bool) : T
   -- "never one with none left"
   pub needed : (i : ℕ) → i < k → D i ≡ true → 0 < c i
 
--- the needs of a list of jobs as a function: past the end nothing is needed
-abbrev pub at : List ℕ → ℕ → ℕ
-at l i = getD l i 0
-
--- the list of f 0, .., f (n - 1)
-unfoldable pub tabulate : ℕ → (ℕ → ℕ) → List ℕ
-tabulate zero f = []
-tabulate (suc n) f = f 0 ∷ tabulate n (λ i. f (suc i))
-
 -- the needs after a slot with d free cells: each chosen job needs one slot less
 unfoldable pub served : List ℕ → ℕ → List ℕ
 served l d = tabulate (length l) (λ i. at l i - bit (chosen (length l) (at l) d i))
@@ -74,7 +66,3 @@ largest k c r = sum k (λ i. only (ltb (position k (before c) i) r) (c i))
 -- By how much the r largest needs exceed the capacity for r, at the worst r: 0 exactly if the needs fit.
 abbrev pub excess : ℕ → (ℕ → ℕ) → ℕ → (ℕ → ℕ) → ℕ
 excess k c n x = greatest k (λ r. largest k c r - capacity n x r)
-
--- for 0 to 8 the list has how many of n slots have so many of the free cells x
-abbrev pub ByFree : List ℕ → ℕ → (ℕ → ℕ) → Type 0
-ByFree l n x = (f : ℕ) → f < 9 → getD l f 0 ≡ count n (λ s. eqb f (x s))

@@ -11,18 +11,19 @@ use mathlib.Core.List.{List, [], _∷_}
 use lib.ListN.{length}
 use lib.Dec.{ltb, eqb}
 use Rattle.laws.specs.Sums.{every}
-use Rattle.laws.proofs.Sums.{ge-of, ne-of, ltb-no, both, left-of, right-of}
-use Rattle.laws.proofs.Every.{false-of-not, true-of-not, not-is-false, every-all}
+use Rattle.laws.proofs.Tests.{both, left-of, right-of, false-of-not, true-of-not, not-is-false}
+use Rattle.laws.proofs.Comparisons.{ge-of, ne-of, ltb-no}
+use Rattle.laws.proofs.Every.{every-all}
 use Rattle.station.specs.Head.{Head, Job, valid, within, Valid}
 use Rattle.station.specs.Refusal.{tooShort, outOfLimits, notWellFormed, numberUsed, tooMany, firstOf, Refusal, try}
-use Rattle.station.proofs.Refusal.{first-of-none, passed, first-none, append-none, left-none}
-use Rattle.station.proofs.Head.{within-low, within-high, of-within, valid-of, of-valid}
+use Rattle.station.proofs.Theorems.{first-of-none, passed, first-none, append-none, append-left-none}
+use Rattle.station.proofs.Theorems.{within-low, within-high, of-within, valid-of, of-valid}
 use Rattle.placing.specs.Table.{Cells, cell, isUsed, jobCount, wellFormed}
 use Rattle.placing.specs.Valid.{jobAt}
-use Rattle.placing.specs.Entries.{frameCauses, frameAtFault, jobCauses, jobsOutside, jobsUsed, jobsTooMany}
+use Rattle.placing.specs.Outcomes.{frameCauses, frameAtFault, jobCauses, jobsOutside, jobsUsed, jobsTooMany}
 use Rattle.placing.specs.Claims.{Running}
 use Rattle.placing.proofs.WellFormed.{wellFormed-of, of-wellFormed}
-use Rattle.placing.proofs.Good.{Good}
+use Rattle.placing.proofs.NewJobs.{Good}
 
 -- a cause that holds is the first
 pub met : (r : Refusal) (b : Bool) (cs : List (Option Refusal)) → b ≡ true → firstOf (try r b ∷ cs) ≡ some r
@@ -53,7 +54,7 @@ tryEleven h clock t = try notWellFormed (frameAtFault h clock t) ∷ []
 
 pub running-of : (h : Head) (clock : ℕ) (t : List ℕ) → firstOf (frameCauses h clock t) ≡ none → Running h clock t
 running-of h clock t e =
-    let before = left-none (recordCauses h t) (tryEleven h clock t) e in
+    let before = append-left-none (recordCauses h t) (tryEleven h clock t) e in
     let passes = long-and-valid h t before in
     let eleven = first-none notWellFormed (frameAtFault h clock t) [] (sym (append-none (recordCauses h t) (tryEleven h clock t) before) ∙ e) in
     let ok : (wellFormed h (cell h t) && within 1 (suc (h .slots)) clock) ≡ true = true-of-not _ (eleven .0) in

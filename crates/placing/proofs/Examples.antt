@@ -13,7 +13,8 @@ use mathlib.Core.Bool.{Bool}
 use mathlib.Core.List.{List, [], _∷_}
 use lib.ListN.{take, replicate}
 use Rattle.laws.specs.Sums.{sum, greatest, every}
-use Rattle.laws.specs.Placement.{at, tabulate, served, left, Placed, excess}
+use Rattle.laws.specs.Lists.{at, tabulate}
+use Rattle.laws.specs.Placement.{served, left, Placed, excess}
 use Rattle.laws.specs.Grants.{granted, turn, most}
 use Rattle.laws.specs.Eviction.{added, searched, ones}
 use Rattle.laws.proofs.Placement.{placed-fits}
@@ -23,8 +24,8 @@ use Rattle.placing.specs.Table.{cell, cells, wellFormed}
 use Rattle.placing.specs.Valid.{ValidCall, lost}
 use Rattle.placing.specs.Plan.{needs, grants, planned, placing}
 use Rattle.placing.specs.Call.{emptyCount, called, evictedSet, evictionOrder, downward, inSet, callFits}
-use Rattle.placing.specs.Entries.{written, planOf, CallAnswer, CallOutcome, PlanOutcome, callOf}
-use Rattle.placing.proofs.Theorems.{call-claim}
+use Rattle.placing.specs.Outcomes.{written, planOf, CallAnswer, CallOutcome, PlanOutcome, callOf}
+use Rattle.placing.proofs.ClaimsHold.{call-claim}
 
 -- ---- what computes: `unfolding plans` opens all that a plan needs, `unfolding calls` all that a call needs
 

@@ -1,18 +1,24 @@
--- The laws of layer 2, by subject: cells and the well-formed table; what is written; the jobs of a call and the causes; the placing rule and the plan; the
--- eviction order, the least eviction the table that a call leaves and its numbers; the theorems; small frames computed; masks.
-pub mod Cells
-pub mod WellFormed
-pub mod Written
-pub mod Good
-pub mod Causes
-pub mod Placing
-pub mod Plan
-pub mod Order
-pub mod Least
-pub mod Called
-pub mod Numbers
-pub mod Room
+-- The laws of layer 2. What the layer above cites: the theorems; frames that compute.
 pub mod Theorems
 pub mod Examples
-pub mod Bounds
-pub mod Masks
+-- The meaning, in document 01's order: cells and the well-formed table; what is written; the placing rule and the plan; a call's jobs and the causes; the eviction order, the least
+-- eviction, the table that a call leaves and its numbers; a call by numbers alone; the claims.
+mod CountedCells
+mod WellFormed
+mod WrittenTable
+mod Placing
+mod PlanTheorem
+mod NewJobs
+mod Causes
+mod EvictionOrder
+mod LeastEviction
+mod CalledTable
+mod UsedNumbers
+mod CallByNumbers
+mod ClaimsHold
+-- The code's records: a head record and its cells; from the records by value to a list of them; masks. The laws about one part of the code stand beside its proofs, in the
+-- folder of its name.
+mod HeadRecord
+mod ListOfRecords
+mod BridgeMask
+mod MaskBits

@@ -11,10 +11,12 @@ use mathlib.Core.Bool.{Bool, true, false, not, _&&_, cond}
 use mathlib.Core.List.{List}
 use lib.ListN.{length}
 use Rattle.laws.specs.Sums.{bit, only, sum, count}
-use Rattle.laws.specs.Placement.{left, lrtf, at}
+use Rattle.laws.specs.Lists.{at}
+use Rattle.laws.specs.Placement.{left, lrtf}
 use Rattle.laws.specs.Cells.{takes}
-use Rattle.laws.proofs.Sums.{Is, is-true, is-false, is, bit-le, left-of, right-of, count-none, sum-point}
-use Rattle.laws.proofs.Every.{never-both, one-selected}
+use Rattle.laws.proofs.Tests.{Is, is-true, is-false, is, left-of, right-of, never-both}
+use Rattle.laws.proofs.Sums.{sum-point}
+use Rattle.laws.proofs.Counts.{bit-le, count-none, one-selected}
 use Rattle.laws.proofs.Placement.{chosen-count}
 use Rattle.laws.proofs.Cells.{takes-one-job, slot-holding}
 use Rattle.placing.specs.Table.{Cells}

@@ -13,15 +13,17 @@ use mathlib.Core.List.{List, [], _∷_}
 use lib.ListN.{getD}
 use lib.Dec.{ltb, leb, eqb}
 use Rattle.laws.specs.Sums.{count, every}
-use Rattle.laws.proofs.Sums.{le-of, eq-of, leb-yes, eqb-yes, eqb-no, count-ext, count-imp, count-none}
-use Rattle.laws.proofs.Every.{not-is-true, false-of-not, implied, implies, beq-eq, eq-beq, conjunction, AllTrue, end, _and_, conjunction-at}
-use Rattle.laws.proofs.Every.{all-conjunction, every-all, all-every, count-some, count-once, sum-below, sum-beyond}
+use Rattle.laws.proofs.Tests.{not-is-true, false-of-not, implied, implies, beq-eq, eq-beq, conjunction, AllTrue, end, _and_, conjunction-at, all-conjunction}
+use Rattle.laws.proofs.Comparisons.{le-of, eq-of, leb-yes, eqb-yes, eqb-no}
+use Rattle.laws.proofs.Every.{every-all, all-every}
+use Rattle.laws.proofs.Sums.{sum-below, sum-beyond}
+use Rattle.laws.proofs.Counts.{count-ext, count-imp, count-none, count-some, count-once}
 use Rattle.station.specs.Head.{Head, Job, busyAt, presetAt}
 use Rattle.placing.specs.Table.{Cells, Each, WellFormed, holding, kindOf, numberIn, mandatoryCell, optionalCell, callCell, isBusy, isMandatory}
 use Rattle.placing.specs.Table.{isOptional, isCall, presetCount, numberAt, hasPreset, hasJob, jobCount, eachCell, onceIn, mandatoryBelow}
 use Rattle.placing.specs.Table.{wellFormed}
 use Rattle.placing.specs.Valid.{ValidPlan, ValidCall, Change, jobAt}
-use Rattle.placing.proofs.Cells.{holding-ext}
+use Rattle.placing.proofs.CountedCells.{holding-ext}
 
 -- ---- tests of every cell
 

@@ -8,7 +8,8 @@ use mathlib.Core.List.{List, [], _∷_, _++_, map}
 use lib.ListN.{length, getD}
 use lib.Dec.{eqb}
 use Rattle.laws.specs.Sums.{bit, sum, only}
-use Rattle.laws.specs.Placement.{at, excess}
+use Rattle.laws.specs.Lists.{at}
+use Rattle.laws.specs.Placement.{excess}
 use Rattle.laws.specs.Eviction.{added, searched}
 use Rattle.station.specs.Head.{Head, Job}
 use Rattle.placing.specs.Table.{Cells, Each, cells, presetCount, numberAt, numberIn, isEmpty, isOptional, callCell}

@@ -10,7 +10,8 @@ use mathlib.Core.List.{List, _++_}
 use lib.ListN.{length, drop}
 use lib.Dec.{ltb}
 use Rattle.laws.specs.Sums.{sum, only}
-use Rattle.laws.specs.Placement.{at, Placed}
+use Rattle.laws.specs.Lists.{at}
+use Rattle.laws.specs.Placement.{Placed}
 use Rattle.laws.specs.Eviction.{FirstSmallest}
 use Rattle.station.specs.Head.{Head, Job, Valid}
 use Rattle.station.specs.Refusal.{Refusal, mandatoryNotFeasible, callNotFeasible, firstOf}
@@ -18,7 +19,7 @@ use Rattle.placing.specs.Table.{Cells, cell, cells, Each, presetCount, W
 use Rattle.placing.specs.Valid.{ValidPlan, ValidCall, lost, lostUpTo, optionalOf}
 use Rattle.placing.specs.Plan.{rank}
 use Rattle.placing.specs.Call.{evictionOrder, InEvictionOrder, slotsOf, emptyCount, lengths, evictedSet, called}
-use Rattle.placing.specs.Entries.{PlanAnswer, planOf, frameCauses, jobCauses, CallAnswer, callOf}
+use Rattle.placing.specs.Outcomes.{PlanAnswer, planOf, frameCauses, jobCauses, CallAnswer, callOf}
 
 -- A running frame that 8, a head record's 2 and 11 let pass: a lent table of 512 cells or more, a head that some text yields, "any sound table and clock".
 pub record Running (h : Head) (clock : ℕ) (t : List ℕ) : Type 0 where

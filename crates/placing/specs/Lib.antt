@@ -1,11 +1,15 @@
--- Layer 2, placing: the table, what a valid plan and a valid call are, the rule, plan and call, the two entries, and what is claimed of them; a slot's free
--- bridges as a mask, and a call's job records.
+-- Layer 2, placing. What a reader must believe, in document 01's order: the table; valid plans and calls; the plan; the call; what each comes to for all inputs; what is claimed of
+-- them; then what the code's records stand for, and what each entry answers and leaves.
 pub mod Table
 pub mod Valid
 pub mod Plan
 pub mod Call
-pub mod Entries
+pub mod Outcomes
 pub mod Claims
-pub mod Limits
-pub mod Mask
-pub mod CallJobs
+pub mod Types
+pub mod Causes
+pub mod PlanDone
+pub mod CallDone
+pub mod Entries
+-- What only the code's method needs.
+pub mod method

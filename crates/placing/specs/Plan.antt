@@ -7,7 +7,8 @@ use mathlib.Core.List.{List, map}
 use lib.ListN.{length}
 use lib.Dec.{ltb, eqb}
 use Rattle.laws.specs.Sums.{only, count, position, ascending}
-use Rattle.laws.specs.Placement.{Placed, at, left, lrtf, excess, tabulate}
+use Rattle.laws.specs.Lists.{at, tabulate}
+use Rattle.laws.specs.Placement.{Placed, left, lrtf, excess}
 use Rattle.laws.specs.Cells.{slotCell}
 use Rattle.laws.specs.Grants.{granted}
 use Rattle.station.specs.Head.{Head, Preset, busyAt, presetAt}

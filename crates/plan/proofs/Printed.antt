@@ -8,20 +8,20 @@ use mathlib.Core.Option.{Option, none, some}
 use mathlib.Core.List.{List, []}
 use lib.ListN.{length, take, drop, replicate, length-append, length-replicate}
 use lib.Seq.{take-at}
-use Rattle.laws.proofs.Sums.{ltb-no}
+use Rattle.laws.proofs.Comparisons.{ltb-no}
 use Rattle.station.specs.Refusal.{Refusal, firstOf}
 use Rattle.station.specs.Types.{refusalIn}
 use Rattle.station.specs.declared.types.Refusal as cause
-use Rattle.station_write.specs.WriteHead.{Answer, written, refused, answerOf, outputOf, answerIn}
-use Rattle.station_write.specs.declared.write.Writing as writing
-use Rattle.station_write.specs.declared.write.Writing.the-variants.{Written, Refused}
+use Rattle.station.specs.WriteHead.{Answer, written, refused, answerOf, outputOf, answerIn}
+use Rattle.station.specs.declared.write.Writing as writing
+use Rattle.station.specs.declared.write.Writing.the-variants.{Written, Refused}
 use Rattle.frame.specs.declared.types.Answer.the-variants as reply
 use Rattle.frame.specs.Event as meant
 use Rattle.frame.specs.Text.{wholeOf}
 use Rattle.frame.specs.Listing.{refusedLine, answerLine, listingOf}
-use Rattle.frame_lines.specs.Entries.{lineWritten, answerWritten, WroteLine}
-use Rattle.frame_print.specs.WriteListing.{listingCause, ListedWhole}
-use Rattle.frame_print.proofs.WriteListing.{cause-whole}
+use Rattle.frame.specs.WroteLine.{lineWritten, answerWritten, WroteLine}
+use Rattle.frame.specs.WriteListing.{listingCause, ListedWhole}
+use Rattle.frame.proofs.Theorems.{cause-whole}
 
 module _ {text t out out₁ : List ℕ} (long : 655360 ≤ length out) where
   -- the listing stands there already

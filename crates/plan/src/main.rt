@@ -1,8 +1,8 @@
 // The program `plan`: reads a station file from standard input and writes its listing to standard output. What the listing is, is decided in the library.
+use frame::listing::write_answer;
+use frame::listing::write_listing;
 use frame::types::Answer;
-use frame_lines::listing_entries::write_answer;
-use frame_print::print::write_listing;
-use station_write::write::Writing;
+use station::write::Writing;
 ghost use Prim.Native.Nat.{_≤_};
 ghost use mathlib.Core.Path.{_≡_};
 ghost use lib.ListN.{length, take};

@@ -9,24 +9,22 @@ use mathlib.Core.Path.{_≡_, refl, sym, _∙_, ap, subst}
 use mathlib.Core.Option.{Option, none, some}
 use mathlib.Core.List.{List, [], _∷_}
 use lib.ListN.{length}
-use Rattle.laws.proofs.Sums.{ltb-yes, ltb-no}
+use Rattle.laws.proofs.Comparisons.{ltb-yes, ltb-no}
 use Rattle.station.specs.Head.{Head}
 use Rattle.station.specs.Refusal.{Refusal, tooShort, firstOf}
 use Rattle.station.specs.Types.{headIn}
 use Rattle.station.specs.declared.types.Preset as record-of-preset
 use Rattle.station.specs.declared.types.Head as record-of-head
 use Rattle.placing.specs.Claims.{Running}
-use Rattle.placing_check.specs.Causes.{causesOf}
+use Rattle.placing.specs.Causes.{causesOf}
 use Rattle.frame.specs.Event.{Event, refused, State, Outcome}
 use Rattle.frame.specs.Types.{answerIn}
 use Rattle.frame.specs.declared.types.Outcome as result
 use Rattle.frame.specs.Demands.{EventIs, stopped, clockSet, placed}
-use Rattle.frame.proofs.Event.{event-is}
-use Rattle.frame.proofs.Demands.{demand-3}
-use Rattle.frame_events.specs.Running.{stateOf, eventMeant, EventDone}
-use Rattle.frame_events.proofs.Running.{done-running}
-use Rattle.planner_layout.specs.Layout.{recordsIn, headOfNumbers, clockOfNumbers, clockOver}
-use Rattle.planner_layout.proofs.RoundTrip.{clock-head, clock-new, clock-same}
+use Rattle.frame.proofs.Theorems.{event-is, demand-3, done-running}
+use Rattle.frame.specs.EventDone.{stateOf, eventMeant, EventDone}
+use Rattle.planner.specs.Layout.{recordsIn, headOfNumbers, clockOfNumbers, clockOver}
+use Rattle.planner.proofs.RoundTrip.{clock-head, clock-new, clock-same}
 use Rattle.planner.specs.Exports.{headOn, RunningOn, eventOn, answerNumber, answerCount, EventLeaves, EventPromise}
 
 -- a refusal changes nothing

@@ -11,26 +11,26 @@ use mathlib.Core.Option.{Option, none, some}
 use mathlib.Core.List.{List}
 use lib.ListN.{length, take}
 use lib.Seq.{sets}
-use Rattle.laws.specs.Placement.{at}
-use Rattle.laws.proofs.Sums.{ltb-yes, ltb-no}
+use Rattle.laws.specs.Lists.{at}
+use Rattle.laws.proofs.Comparisons.{ltb-yes, ltb-no}
 use Rattle.station.specs.Head.{Head}
 use Rattle.station.specs.Refusal.{Refusal, tooShort, numberOf, firstOf}
 use Rattle.station.specs.Types.{headIn, refusalIn}
 use Rattle.station.specs.declared.types.Preset as record-of-preset
 use Rattle.station.specs.declared.types.Head as record-of-head
 use Rattle.station.specs.declared.types.Refusal as cause
+use Rattle.station.proofs.Theorems.{number-some}
 use Rattle.placing.specs.Claims.{Running}
-use Rattle.placing.specs.Entries.{PlanAnswer, PlanOutcome, planCauses, planOf}
+use Rattle.placing.specs.Outcomes.{PlanAnswer, PlanOutcome, planCauses, planOf}
 use Rattle.placing.proofs.Theorems.{plan-claim}
-use Rattle.placing_check.specs.Causes.{causesOf}
-use Rattle.placing_grants.specs.Granting.{filled}
-use Rattle.placing_plan.specs.declared.plan.Planned as result
-use Rattle.placing_plan.specs.declared.plan.PlanAnswer.the-variants.{Granted, Refused}
-use Rattle.placing_plan.specs.Planning.{planMeant, repliedIn, grantsIn, PlanDone}
-use Rattle.frame.proofs.Demands.{planned-running}
-use Rattle.planner_layout.specs.Layout.{recordsIn, headOfNumbers}
+use Rattle.placing.specs.Causes.{causesOf}
+use Rattle.placing.specs.method.Grants.{filled}
+use Rattle.placing.specs.declared.plan.Planned as result
+use Rattle.placing.specs.declared.plan.PlanAnswer.the-variants.{Granted, Refused}
+use Rattle.placing.specs.PlanDone.{planMeant, repliedIn, grantsIn, PlanDone}
+use Rattle.frame.proofs.Theorems.{planned-running}
+use Rattle.planner.specs.Layout.{recordsIn, headOfNumbers}
 use Rattle.planner.specs.Exports.{headOn, planOn, planNumber, grantsAfter, PlanLeaves, PlanPromise}
-use Rattle.planner.proofs.Numbers.{number-some}
 
 -- a refused plan leaves the table
 of-keeps : (h : Head) (t : List ℕ) → 0 < planNumber (planOf h t .answer) → planOf h t .table ≡ t

@@ -10,24 +10,25 @@ use mathlib.Core.Path.{_≡_, refl, sym, _∙_, ap, subst}
 use mathlib.Core.List.{List, map}
 use lib.ListN.{length, drop, length-map, length-append, length-drop}
 use lib.Dec.{ltb}
-use Rattle.laws.proofs.Sums.{Is, is, is-true, is-false, lt-of, ge-of, ltb-yes, ltb-no}
+use Rattle.laws.proofs.Tests.{Is, is, is-true, is-false}
+use Rattle.laws.proofs.Comparisons.{lt-of, ge-of, ltb-yes, ltb-no}
 use Rattle.station.specs.Head.{Head}
 use Rattle.station.specs.Refusal.{Refusal, tooShort, textTooLong, numberOf, firstOf}
 use Rattle.station.specs.Types.{headIn}
 use Rattle.station.specs.declared.types.Preset as record-of-preset
 use Rattle.station.specs.declared.types.Head as record-of-head
-use Rattle.station_heads.specs.ReadHead.{headRecord, recordOf, recordsOver}
-use Rattle.station_heads.proofs.HeadText as heads
+use Rattle.station.specs.ReadHead.{headRecord, recordOf, recordsOver}
+use Rattle.station.proofs.Theorems as heads
+use Rattle.station.proofs.Theorems.{number-some}
 use Rattle.placing.specs.Claims.{Running}
 use Rattle.frame.specs.Text.{Whole, notRead, notPlanned, ran}
 use Rattle.frame.specs.Event.{Run}
-use Rattle.frame_text.specs.declared.whole.TextRun as run
-use Rattle.frame_text.specs.Whole.{wholeBeside, endIn, endOf, headAfter, presetsAfter, tableAfter, clockAfter, outputAfter, TextDone}
-use Rattle.frame_text.proofs.WholeText.{beside-long, text-claim}
-use Rattle.planner_layout.specs.Layout.{recordsIn, bytesOver, headOfNumbers, clockOfNumbers, numbersOver}
-use Rattle.planner_layout.proofs.RoundTrip.{records-back, bytes-back, bytes-over-rest, length-records, head-back, clock-back, numbers-back}
+use Rattle.frame.specs.declared.text.TextRun as run
+use Rattle.frame.specs.TextDone.{wholeBeside, endIn, endOf, headAfter, presetsAfter, tableAfter, clockAfter, outputAfter, TextDone}
+use Rattle.frame.proofs.Theorems.{beside-long, text-claim}
+use Rattle.planner.specs.Layout.{recordsIn, bytesOver, headOfNumbers, clockOfNumbers, numbersOver}
+use Rattle.planner.proofs.RoundTrip.{records-back, bytes-back, bytes-over-rest, length-records, head-back, clock-back, numbers-back}
 use Rattle.planner.specs.Exports.{RunningOn, textOn, endNumber, endPlace, frameAfter, recordsAfter, TextLeaves, TextPromise}
-use Rattle.planner.proofs.Numbers.{number-some}
 
 module _ (text f p t out : List ℕ) where
   on-long : 32768 < length text → textOn text f p t out ≡ notRead 0 textTooLong

@@ -4,9 +4,9 @@ use Prim.Native.Nat.{ℕ, _≤_}
 use mathlib.Core.Path.{_≡_, _∙_, ap}
 use mathlib.Core.List.{List}
 use lib.ListN.{length}
-use Rattle.station_write.specs.WriteHead.{answerIn}
-use Rattle.station_write.specs.declared.write.Writing as writing
-use Rattle.frame_print.specs.WriteListing.{Listed, ListedWhole}
+use Rattle.station.specs.WriteHead.{answerIn}
+use Rattle.station.specs.declared.write.Writing as writing
+use Rattle.frame.specs.WriteListing.{Listed, ListedWhole}
 use Rattle.planner.specs.Exports.{writtenNumber, writtenCount, ListingLeaves, ListingWhole}
 
 module _ (text t out : List ℕ) (x : writing.Writing) {out₁ : List ℕ} {n : ℕ} (e : n ≡ writtenCount (answerIn x)) where

@@ -11,24 +11,24 @@ use mathlib.Core.List.{List, [], _∷_, map}
 use lib.ListN.{length}
 use lib.Seq.{sets}
 use lib.Dec.{ltb}
-use Rattle.laws.specs.Placement.{at}
+use Rattle.laws.specs.Lists.{at}
 use Rattle.station.specs.Head.{Head}
 use Rattle.station.specs.Refusal.{Refusal, numberOf, tooShort, textTooLong, try, firstOf}
 use Rattle.station.specs.Types.{headIn}
-use Rattle.station_heads.specs.ReadHead.{headRecord, recordOf}
-use Rattle.station_write.specs.WriteHead as writing
+use Rattle.station.specs.ReadHead.{headRecord, recordOf}
+use Rattle.station.specs.WriteHead as writing
 use Rattle.placing.specs.Claims.{Running, PlanClaim}
-use Rattle.placing.specs.Entries.{PlanAnswer, PlanOutcome}
-use Rattle.placing_grants.specs.Granting.{filled}
-use Rattle.placing_plan.specs.Planning.{planMeant}
+use Rattle.placing.specs.Outcomes.{PlanAnswer, PlanOutcome}
+use Rattle.placing.specs.method.Grants.{filled}
+use Rattle.placing.specs.PlanDone.{planMeant}
 use Rattle.frame.specs.Event.{Event, Answer, now, taken, refused, Outcome}
 use Rattle.frame.specs.Text.{Whole, notRead, notPlanned, ran, wholeOf}
 use Rattle.frame.specs.Listing.{listingOf}
 use Rattle.frame.specs.Demands.{Demand3}
-use Rattle.frame_events.specs.Running.{stateOf, eventMeant}
-use Rattle.frame_text.specs.Whole.{wholeBeside, End, listed, refusedAt, endOf, tableAfter, outputAfter, TextClaim}
-use Rattle.frame_print.specs.WriteListing.{listingCause, listingMeant}
-use Rattle.planner_layout.specs.Layout.{recordsIn, bytesOver, headOfNumbers, clockOfNumbers, numbersOver, clockOver}
+use Rattle.frame.specs.EventDone.{stateOf, eventMeant}
+use Rattle.frame.specs.TextDone.{wholeBeside, End, listed, refusedAt, endOf, tableAfter, outputAfter, TextClaim}
+use Rattle.frame.specs.WriteListing.{listingCause, listingMeant}
+use Rattle.planner.specs.Layout.{recordsIn, bytesOver, headOfNumbers, clockOfNumbers, numbersOver, clockOver}
 
 -- ---- the running frame
 

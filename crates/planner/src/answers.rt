@@ -1,15 +1,15 @@
 // Answers as numbers: 0 or the number of the refusal, and the count that goes with it.
+use frame::text::Ended;
 use frame::types::Answer;
-use frame_listing::listing::cause_number;
-use frame_text::whole::Ended;
+use station::causes::cause_number;
 use station::types::Refusal;
-use station_write::write::Writing;
+use station::write::Writing;
 ghost use mathlib.Core.Path.{_≡_};
 ghost use Rattle.station.specs.Refusal.{numberOf};
 ghost use Rattle.station.specs.Types.{refusalIn};
-ghost use Rattle.station_write.specs.WriteHead as writing;
+ghost use Rattle.station.specs.WriteHead as writing;
 ghost use Rattle.frame.specs.Types.{answerIn};
-ghost use Rattle.frame_text.specs.Whole.{endIn};
+ghost use Rattle.frame.specs.TextDone.{endIn};
 ghost use Rattle.planner.specs.Exports.{endNumber, endPlace, answerNumber, answerCount, writtenNumber, writtenCount};
 
 // The paper's number of a cause.

@@ -1,4 +1,8 @@
 // The planner for firmware in C or Rust: a static library of four functions over numbers and slices alone (`rt staticlib planner`; its header is include/planner.h).
-// The layout of a frame and of preset records is planner_layout's; what each function promises is in specs/Exports.antt.
-mod answers; // answers.rt: the numbers of an answer
+// What each function promises is in specs/Exports.antt, the layout of what is lent in specs/Layout.antt.
 pub mod exports; // exports.rt: the exported functions
+// Parts, private to the library:
+mod answers; // answers.rt: the numbers of an answer
+mod numbers; // numbers.rt: a head and a clock out of a frame's numbers, and back
+mod presets; // presets.rt: the preset records out of bytes, and back
+mod grants; // grants.rt: the grants of a plan into bytes

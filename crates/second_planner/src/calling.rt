@@ -1,14 +1,14 @@
 // What document 01 asks of a call, by trying every set of optional cells.
+use crate::heads::priority;
+use crate::packed::bit;
+use crate::packed::field;
+use crate::packed::has;
+use crate::packed::masked;
+use crate::packed::size;
 use crate::placements::feasible;
 use crate::placements::order;
 use crate::placements::place;
-use small_frames::heads::priority;
-use small_frames::packed::bit;
-use small_frames::packed::field;
-use small_frames::packed::has;
-use small_frames::packed::masked;
-use small_frames::packed::size;
-use small_frames::tables::cells_of;
+use crate::tables::cells_of;
 use std::num::wrapping_add_usize;
 use std::num::wrapping_sub_usize;
 

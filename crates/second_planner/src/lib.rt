@@ -1,11 +1,18 @@
 // A second planner for small frames, written from document 01: it uses nothing of the first, and tries every placement and every evicted set. Nothing is promised of it
-// but that it is safe and ends; crates/crosscheck compares the two.
+// but that it is safe and ends; crates/trials compares the two.
 //
 // An answer is one number: the table after it, in field 6 the cause, 0 for none, and in field 7 what is reported: of a plan the grants, two bits for each line; of a call
 // the number of evicted cells. Call 0 asks for a plan.
 pub mod placements; // placements.rt: what fits, and the placing rule
 pub mod planning; // planning.rt: the plan of a head
 pub mod calling; // calling.rt: what a call evicts, and the table that it leaves
+// Small frames to try: at most three bridges, six cells and three presets, with calls of at most three jobs. All comes from numbers, digit by digit, and is packed into
+// numbers.
+pub mod packed; // packed.rt: eight small values in one number, and sets of cells
+pub mod frames; // frames.rt: frames with their busy cells
+pub mod heads; // heads.rt: the presets of a head
+pub mod tables; // tables.rt: well-formed tables of a head
+pub mod calls; // calls.rt: calls
 
 use calling::call;
 use calling::is_least;

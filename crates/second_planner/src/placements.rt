@@ -1,12 +1,12 @@
 // What fits, and the placing rule.
 //
 // Up to three presets or jobs, numbered from 0, need slots, `needs` having a field for each. `sets` has the free cells of each slot.
-use small_frames::packed::field;
-use small_frames::packed::first_of;
-use small_frames::packed::one_less;
-use small_frames::packed::size;
-use small_frames::packed::with_field;
-use small_frames::packed::without_first;
+use crate::packed::field;
+use crate::packed::first_of;
+use crate::packed::one_less;
+use crate::packed::size;
+use crate::packed::with_field;
+use crate::packed::without_first;
 use std::num::wrapping_add_usize;
 ghost use Prim.Native.Nat.{_<_};
 

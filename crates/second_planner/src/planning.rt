@@ -1,13 +1,13 @@
 // The plan that document 01 asks for, by trying.
+use crate::heads::mandatory;
+use crate::heads::optional;
+use crate::heads::priority;
+use crate::packed::bit;
+use crate::packed::field;
+use crate::packed::within;
 use crate::placements::feasible;
 use crate::placements::order;
 use crate::placements::place;
-use small_frames::heads::mandatory;
-use small_frames::heads::optional;
-use small_frames::heads::priority;
-use small_frames::packed::bit;
-use small_frames::packed::field;
-use small_frames::packed::within;
 use std::num::wrapping_add_usize;
 ghost use Prim.Native.Nat.{_<_};
 

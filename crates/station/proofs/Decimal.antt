@@ -14,9 +14,8 @@ use mathlib.Core.List.{List, [], _∷_, _++_, append-assoc, append-nil}
 use lib.ListN.{length, take, drop, getD, length-append, take-append-drop}
 use lib.Seq.{take-at, drop-at, length-take-le}
 use lib.Dec.{eqb, ltb, leb}
-use Rattle.laws.proofs.Sums.{Is, is-true, is-false, is, clash, lt-of, ge-of, le-of, eq-of, ne-of, ltb-yes, leb-yes, ltb-no, eqb-yes, eqb-no, both}
-use Rattle.laws.proofs.Sums.{left-of, right-of}
-use Rattle.laws.proofs.Every.{none-some}
+use Rattle.laws.proofs.Tests.{Is, is-true, is-false, is, clash, both, left-of, right-of, none-some}
+use Rattle.laws.proofs.Comparisons.{lt-of, ge-of, le-of, eq-of, ne-of, ltb-yes, leb-yes, ltb-no, eqb-yes, eqb-no}
 use Rattle.station.specs.Decimal.{digits, digitsIn, isDigit, digitCount, plain, value, valueFrom}
 use Rattle.station.specs.Form.{number}
 

@@ -13,8 +13,8 @@ use mathlib.Core.List.{List, [], _∷_, _++_, map}
 use lib.ListN.{length, take, drop, length-append, length-drop}
 use lib.Seq.{drop-append-seam}
 use lib.Dec.{eqb}
-use Rattle.laws.proofs.Sums.{Is, is-true, is-false, is, clash, eq-of, eqb-self, eqb-no, left-of, right-of}
-use Rattle.laws.proofs.Every.{none-some}
+use Rattle.laws.proofs.Tests.{Is, is-true, is-false, is, clash, left-of, right-of, none-some}
+use Rattle.laws.proofs.Comparisons.{eq-of, eqb-self, eqb-no}
 use Rattle.station.specs.Text.{bytes, _then_, isLine, isRest, join, lines, Lines, no-lines, line-then}
 use Rattle.station.specs.Decimal.{digits, digitCount, isDigit, plain, value}
 use Rattle.station.specs.Form.{Pairs, last, next, Form, frameLine, busyLine, presetLine, clockLine, callLine, brackets, print, starts, word}

@@ -11,8 +11,8 @@ use mathlib.Core.Option.{Option, none, some}
 use mathlib.Core.List.{List, [], _∷_, _++_, map}
 use lib.ListN.{length}
 use lib.Dec.{ltb}
-use Rattle.laws.proofs.Sums.{Is, is-true, is-false, is, clash, lt-of, ge-of, ltb-yes, ltb-no}
-use Rattle.laws.proofs.Every.{none-some}
+use Rattle.laws.proofs.Tests.{Is, is-true, is-false, is, clash, none-some}
+use Rattle.laws.proofs.Comparisons.{lt-of, ge-of, ltb-yes, ltb-no}
 use Rattle.station.specs.Refusal.{Refusal, outOfLimits, outOfPlace, numberUsed, tooMany, try, firstOf}
 use Rattle.station.specs.Text.{lines, join}
 use Rattle.station.specs.Form.{Form, frameLine, busyLine, presetLine, clockLine, callLine, print, form}

@@ -1,14 +1,47 @@
--- The first cause that holds: laws of `try` and `firstOf`.
+-- The causes: their numbers, and the first that holds.
 --
--- In order: one cause at the front; two lists of causes one after the other; a refusal that only the last cause gives.
+-- In order: a cause's number has at most two digits and is not 0 (`number-small`, `number-some`); of `try` and `firstOf`: one cause at the front; two lists of causes
+-- one after the other; a refusal that only the last cause gives.
 -- Assumes nothing.
+use Prim.Native.Nat.{_<_}
+use native.Mathlib.Omega.{arith}
 use mathlib.Core.Path.{_≡_, refl, sym, _∙_, ap}
 use mathlib.Core.Logic.{_⊎_, inl, inr}
 use mathlib.Core.Bool.{Bool, true, false}
 use mathlib.Core.Option.{Option, none, some}
 use mathlib.Core.List.{List, [], _∷_, _++_}
-use Rattle.laws.proofs.Every.{none-some}
-use Rattle.station.specs.Refusal.{Refusal, numberOf, try, firstOf}
+use Rattle.laws.proofs.Tests.{none-some}
+use Rattle.station.specs.Refusal.{Refusal, noForm, outOfLimits, outOfPlace, numberUsed, mandatoryNotFeasible, clockBack, callNotFeasible, tooShort, tooMany, textTooLong, notWellFormed, numberOf, try, firstOf}
+
+-- ---- the numbers
+
+pub number-small : (r : Refusal) → numberOf r < 100
+number-small noForm = omega arith
+number-small outOfLimits = omega arith
+number-small outOfPlace = omega arith
+number-small numberUsed = omega arith
+number-small mandatoryNotFeasible = omega arith
+number-small clockBack = omega arith
+number-small callNotFeasible = omega arith
+number-small tooShort = omega arith
+number-small tooMany = omega arith
+number-small textTooLong = omega arith
+number-small notWellFormed = omega arith
+
+pub number-some : (r : Refusal) → numberOf r ≡ 0 → ⊥
+number-some noForm e = omega (arith, e)
+number-some outOfLimits e = omega (arith, e)
+number-some outOfPlace e = omega (arith, e)
+number-some numberUsed e = omega (arith, e)
+number-some mandatoryNotFeasible e = omega (arith, e)
+number-some clockBack e = omega (arith, e)
+number-some callNotFeasible e = omega (arith, e)
+number-some tooShort e = omega (arith, e)
+number-some tooMany e = omega (arith, e)
+number-some textTooLong e = omega (arith, e)
+number-some notWellFormed e = omega (arith, e)
+
+-- ---- the first cause that holds
 
 -- where nothing is tried nothing is refused
 pub first-of-none : firstOf [] ≡ none
@@ -47,11 +80,11 @@ append-some (none ∷ cs) ds r e = append-some cs ds r e
 append-some (some q ∷ cs) ds r e = e
 
 -- where none of all holds, none of the first list does
-pub left-none : (cs ds : List (Option Refusal)) → firstOf (cs ++ ds) ≡ none → firstOf cs ≡ none
+pub append-left-none : (cs ds : List (Option Refusal)) → firstOf (cs ++ ds) ≡ none → firstOf cs ≡ none
 unfolding firstOf
-left-none [] ds e = refl
-left-none (none ∷ cs) ds e = left-none cs ds e
-left-none (some r ∷ cs) ds e = absurd (none-some (sym e))
+append-left-none [] ds e = refl
+append-left-none (none ∷ cs) ds e = append-left-none cs ds e
+append-left-none (some r ∷ cs) ds e = absurd (none-some (sym e))
 
 -- ---- a refusal that only the last cause gives
 

@@ -9,8 +9,7 @@ use mathlib.Core.Path.{_≡_, refl, sym, _∙_, ap}
 use mathlib.Core.Bool.{true, false, not}
 use mathlib.Core.List.{List, [], _∷_, _++_}
 use lib.Dec.{eqb}
-use Rattle.laws.proofs.Sums.{Is, is-true, is-false, is, clash, left-of, right-of}
-use Rattle.laws.proofs.Every.{false-of-not}
+use Rattle.laws.proofs.Tests.{Is, is-true, is-false, is, clash, left-of, right-of, false-of-not}
 use Rattle.station.specs.Text.{lines, join, onto, isLine, isRest, Lines, no-lines, last-rest, line-then}
 
 join-onto : (b : ℕ) (ls : List (List ℕ)) → join (onto b ls) ≡ b ∷ join ls

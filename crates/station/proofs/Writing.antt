@@ -14,8 +14,8 @@ use lib.ListN.{length, take, getD, set, replicate, length-append, length-set, le
 use lib.Seq.{getD-set-other, take-at}
 use lib.Dec.{eqb, ltb}
 use lib.Pow.{pow-pos}
-use Rattle.laws.proofs.Sums.{clash, ge-of, gt-of, ne-of, ltb-yes, eqb-no, both, left-of, right-of}
-use Rattle.laws.proofs.Every.{false-of-not, true-of-not, neither-left, neither-right}
+use Rattle.laws.proofs.Tests.{clash, both, left-of, right-of, false-of-not, true-of-not, neither-left, neither-right}
+use Rattle.laws.proofs.Comparisons.{ge-of, gt-of, ne-of, ltb-yes, eqb-no}
 use Rattle.station.specs.Head.{Preset, Head, Valid, within, inLimits, hasNumber, allInLimits, allDistinct, masksIn}
 use Rattle.station.specs.Refusal.{firstOf}
 use Rattle.station.specs.Text.{lines, join}
@@ -24,8 +24,8 @@ use Rattle.station.specs.Writing.{maskOf, ordered, stretches, busyLineOf
 use Rattle.station.specs.Reading.{Reading, accepted, refused, headOf, SoFar, begin, presetOf, ends, more, misplaced, outside, used, full}
 use Rattle.station.specs.Reading.{causes, Passes, no-more, one-more, Stops, at-end, at-event, at-no-form, at-fault, Means, too-long, no-text}
 use Rattle.station.specs.Reading.{by-lines}
-use Rattle.station.proofs.Mask.{stretches-zero, stretches-mask, mask-lt}
-use Rattle.station.proofs.Head.{within-low, within-high, of-masks, Parts, valid-parts}
+use Rattle.station.proofs.Stretches.{stretches-zero, stretches-mask, mask-lt}
+use Rattle.station.proofs.ValidHead.{within-low, within-high, of-masks, Parts, valid-parts}
 use Rattle.station.proofs.Reading.{NoCause, no-cause, headOf-means}
 
 -- ---- one more preset

@@ -1,9 +1,20 @@
--- Layer 1, reading: what a head is, the refusals, the text and its forms, reading and writing a head; and what the code's records stand for.
+-- Layer 1, reading. What a reader must believe, in document 01's order: the head, the causes, the text and its forms, the one text of a head, reading a head, an event line;
+-- then what the code's records stand for, and what each entry answers and leaves.
 pub mod Head
 pub mod Refusal
 pub mod Text
+pub mod Line
 pub mod Decimal
 pub mod Form
 pub mod Writing
 pub mod Reading
+pub mod Jobs
+pub mod Event
 pub mod Types
+pub mod Records
+pub mod ReadHead
+pub mod WriteHead
+pub mod Entries
+pub mod Wrote
+-- What only the code's method needs.
+pub mod method

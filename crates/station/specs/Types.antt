@@ -8,6 +8,7 @@ use lib.Dec.{leb}
 use Rattle.station.specs.Head as head
 use Rattle.station.specs.Refusal as refusal
 use Rattle.station.specs.declared.types.Preset.{Preset}
+use Rattle.station.specs.declared.types.Job.{Job}
 use Rattle.station.specs.declared.types.Head.{Head}
 use Rattle.station.specs.declared.types.Refusal.{Refusal}
 use Rattle.station.specs.declared.types.Refusal.the-variants.{NoForm, OutOfLimits, OutOfPlace, NumberUsed, MandatoryNotFeasible, ClockBack, CallNotFeasible, TooShort, TooMany, TextTooLong, NotWellFormed}
@@ -26,6 +27,20 @@ refusalIn TooMany = refusal.tooMany
 refusalIn TextTooLong = refusal.textTooLong
 refusalIn NotWellFormed = refusal.notWellFormed
 
+-- the answer that names a cause: the other way round
+abbrev pub refusalOf : refusal.Refusal → Refusal
+refusalOf refusal.noForm = NoForm
+refusalOf refusal.outOfLimits = OutOfLimits
+refusalOf refusal.outOfPlace = OutOfPlace
+refusalOf refusal.numberUsed = NumberUsed
+refusalOf refusal.mandatoryNotFeasible = MandatoryNotFeasible
+refusalOf refusal.clockBack = ClockBack
+refusalOf refusal.callNotFeasible = CallNotFeasible
+refusalOf refusal.tooShort = TooShort
+refusalOf refusal.tooMany = TooMany
+refusalOf refusal.textTooLong = TextTooLong
+refusalOf refusal.notWellFormed = NotWellFormed
+
 -- the preset of a record
 abbrev pub presetIn : Preset → head.Preset
 presetIn p = record { number = p .number; priority = p .priority; mandatory = p .mandatory; optional = p .optional }
@@ -37,6 +52,10 @@ noRecord = record { number = 0; priority = 0; mandatory = 0; optional = 0 }
 -- the presets of the first n records, in file order
 abbrev pub presetsIn : ℕ → List Preset → List head.Preset
 presetsIn n ps = map presetIn (take n ps)
+
+-- the job of a record: "A call is a list of jobs, each with a number and a length c"
+abbrev pub jobIn : Job → head.Job
+jobIn j = record { number = j .number; slots = j .slots }
 
 -- the head of a record and its list of preset records
 abbrev pub headIn : Head → List Preset → head.Head

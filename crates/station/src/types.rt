@@ -14,6 +14,19 @@ pub struct Job {
     pub slots: u16,
 }
 
+// What stands past the last record of a list, and past the last job of a call.
+pub const NO_RECORD: Preset = Preset {
+    number: 0,
+    priority: 0,
+    mandatory: 0,
+    optional: 0,
+};
+
+pub const NO_JOB: Job = Job {
+    number: 0,
+    slots: 0,
+};
+
 // The head of a station text without its presets, which stand in a list of 32 records: `count` of them are in use. The busy cells
 // are one mask for each bridge, slot 1 being the lowest bit.
 pub struct Head {
@@ -22,6 +35,14 @@ pub struct Head {
     pub busy: [u64; 8],
     pub count: usize,
 }
+
+// A head of zeros, where none was read yet.
+pub const NO_HEAD: Head = Head {
+    slots: 0,
+    bridges: 0,
+    busy: [0; 8],
+    count: 0,
+};
 
 // The causes, in the order of their numbers, 1 to 11.
 pub enum Refusal {

@@ -1,9 +1,9 @@
 // Both planners on one plan or call; what differs is written.
 use crate::library::library_answer;
 use second_planner::answer;
+use second_planner::frames::sets_of;
 use second_planner::is_optimal;
-use small_frames::frames::sets_of;
-use small_frames::packed::with_field;
+use second_planner::packed::with_field;
 
 // Writes a blank and a packed number, whose bytes are its fields.
 fn write_packed(n: usize) {
@@ -12,7 +12,7 @@ fn write_packed(n: usize) {
 }
 
 // Writes a line for what differs. A case is told by its frame, with the busy cells, and its presets, by the table before, and by the call, 0 for a plan; last stands what
-// the second planner answers. crates/small_frames says what the fields of each are.
+// the second planner answers. crates/second_planner/src says what the fields of each are.
 fn report(frame: usize, presets: usize, table: usize, call: usize, right: usize) {
     io::write_all(1, b"(differs");
     write_packed(frame);

@@ -1,6 +1,6 @@
 // What is counted while both planners go through the small frames, and written at the end.
 use crate::family::try_code;
-use small_frames::packed::field;
+use second_planner::packed::field;
 use std::num::wrapping_add_u64;
 
 // Adds a tally, field by field, to what is counted.

@@ -3,17 +3,17 @@
 // A tally is packed: calls taken in field 0, differences in 1, lists in 2, evicted cells in 3, calls refused by 4 in 4, plans refused by 5 in 5, plans granted in 6, and
 // calls refused by 7 in 7. So a call's cause is its place.
 use crate::compare::compare;
-use small_frames::calls::call_in;
-use small_frames::calls::code_of;
-use small_frames::frames::frame_of;
-use small_frames::heads::presets_of;
-use small_frames::packed::bit;
-use small_frames::packed::field;
-use small_frames::packed::first_of;
-use small_frames::packed::with_field;
-use small_frames::tables::NO_TABLE;
-use small_frames::tables::cells_of;
-use small_frames::tables::table_of;
+use second_planner::calls::call_in;
+use second_planner::calls::code_of;
+use second_planner::frames::frame_of;
+use second_planner::heads::presets_of;
+use second_planner::packed::bit;
+use second_planner::packed::field;
+use second_planner::packed::first_of;
+use second_planner::packed::with_field;
+use second_planner::tables::NO_TABLE;
+use second_planner::tables::cells_of;
+use second_planner::tables::table_of;
 use std::num::wrapping_add_usize;
 
 // The tally of a cause.

@@ -1,19 +1,19 @@
 // The library's planner on small heads and tables.
-use placing_call::call::CallAnswer;
-use placing_call::call::call_by_value;
-use placing_plan::plan::PlanAnswer;
-use placing_plan::plan::Planned;
-use placing_plan::plan::plan_by_value;
-use small_frames::packed::field;
-use small_frames::tables::NO_TABLE;
-use small_records::cells::MARK;
-use small_records::cells::is_table;
-use small_records::cells::table_of;
-use small_records::records::grants_in;
-use small_records::records::head_of;
-use small_records::records::jobs_of;
-use small_records::records::presets_of;
-use small_records::records::refused;
+use crate::cells::MARK;
+use crate::cells::is_table;
+use crate::cells::table_of;
+use crate::records::grants_in;
+use crate::records::head_of;
+use crate::records::jobs_of;
+use crate::records::presets_of;
+use crate::records::refused;
+use placing::call::CallAnswer;
+use placing::call::call_by_value;
+use placing::plan::PlanAnswer;
+use placing::plan::Planned;
+use placing::plan::plan_by_value;
+use second_planner::packed::field;
+use second_planner::tables::NO_TABLE;
 
 // What a plan reports: the cause in field 6, or the grants in field 7.
 fn plan_report(planned: Planned) -> usize {

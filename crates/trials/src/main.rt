@@ -1,6 +1,8 @@
 // The frames to try, run. First texts, good and damaged, from standard input and two that are long: what the reader says of each, and its listing. Then the planner of
 // crates/placing beside a second one, which is written from document 01 and tries every placement of small frames: each line that begins `(differs` gives a case in which
 // the two differ, or in which their answer is not the best one, and the counts stand at the end. What this program writes is compared with the stored output.
+pub mod records; // records.rt: the records of heads and calls, and what the library answers
+pub mod cells; // cells.rt: the library's table
 mod texts; // texts.rt: texts and their listings
 mod library; // library.rt: the library's planner on small heads
 mod compare; // compare.rt: both planners, and what differs

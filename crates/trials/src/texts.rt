@@ -2,36 +2,21 @@
 //
 // A line `(accepted n b)` gives the number of the head's lines and bytes, followed by the head written again; a line `(refused n c)` the line and the cause's number.
 // The listing follows a line `(listing)`.
-use frame_print::print::write_listing;
+use frame::listing::write_listing;
+use station::causes::cause_number;
+use station::heads::ReadAnswer;
+use station::heads::read_head_by_value;
 use station::types::Head;
+use station::types::NO_HEAD;
+use station::types::NO_RECORD;
 use station::types::Preset;
-use station::types::Refusal;
-use station_heads::heads::ReadAnswer;
-use station_heads::heads::read_head_by_value;
-use station_write::write::Writing;
-use station_write::write::write_head_by_value;
+use station::write::Writing;
+use station::write::write_head_by_value;
 ghost use Prim.Native.Nat.{_≤_};
 ghost use lib.ListN.{length};
 
 // The byte between two texts, which no text among them has.
 const BETWEEN: u8 = 35;
-
-// The number that document 01 gives a cause.
-fn number_of(cause: Refusal) -> u64 {
-    match cause {
-        Refusal::NoForm => 1,
-        Refusal::OutOfLimits => 2,
-        Refusal::OutOfPlace => 3,
-        Refusal::NumberUsed => 4,
-        Refusal::MandatoryNotFeasible => 5,
-        Refusal::ClockBack => 6,
-        Refusal::CallNotFeasible => 7,
-        Refusal::TooShort => 8,
-        Refusal::TooMany => 9,
-        Refusal::TextTooLong => 10,
-        Refusal::NotWellFormed => 11,
-    }
-}
 
 // Writes `(word a b)` and the end of the line.
 fn line(word: &[u8], a: u64, b: u64) {
@@ -58,25 +43,13 @@ fn show_head(head: Head, presets: [Preset; 32]) {
     let written = write_head_by_value(head, presets, &mut out);
     match written {
         Writing::Written(n) => write_first(&out, n),
-        Writing::Refused(cause) => line(b"not written", 0, number_of(cause)),
+        Writing::Refused(cause) => line(b"not written", 0, cause_number(cause) as u64),
     }
 }
 
 // Reads the head of a text and writes what the reader says.
 fn show(text: &[u8]) {
-    let head = Head {
-        slots: 0,
-        bridges: 0,
-        busy: [0; 8],
-        count: 0,
-    };
-    let presets = [Preset {
-        number: 0,
-        priority: 0,
-        mandatory: 0,
-        optional: 0,
-    }; 32];
-    let read = read_head_by_value(text, head, presets);
+    let read = read_head_by_value(text, NO_HEAD, [NO_RECORD; 32]);
     let answer = read.answer;
     match answer {
         ReadAnswer::Accepted(lines, bytes) => {
@@ -85,7 +58,7 @@ fn show(text: &[u8]) {
             let ps = read.presets;
             show_head(h, ps);
         }
-        ReadAnswer::Refused(n, cause) => line(b"refused", n as u64, number_of(cause)),
+        ReadAnswer::Refused(n, cause) => line(b"refused", n as u64, cause_number(cause) as u64),
     }
 }
 
@@ -97,7 +70,7 @@ fn run(text: &[u8]) {
     io::write_all(1, b"(listing)\n");
     match written {
         Writing::Written(n) => write_first(&out, n),
-        Writing::Refused(cause) => line(b"refused", 0, number_of(cause)),
+        Writing::Refused(cause) => line(b"refused", 0, cause_number(cause) as u64),
     }
 }
 

@@ -4,7 +4,7 @@ use mathlib.Core.List.{[]}
 use borrow.Author.Needs.{needs}
 use Rattle.frame.specs.Text.{wholeOf}
 use Rattle.frame.specs.Listing.{listingOf}
-use Rattle.frame_lines.specs.Entries.{lineWritten, WroteLine}
+use Rattle.frame.specs.WroteLine.{lineWritten, WroteLine}
 use Rattle.plan.proofs.Printed.{printed-listing, printed-refusal, printed-bytes, printed-never}
 use Rattle.plan.proofs.listing.Statement.{statement}
 use Rattle.plan.proofs.listing.Tie as tie

@@ -1,6 +1,6 @@
 -- `limits::in_limits` meets its contract: a law for each answer. Assumes nothing.
 use mathlib.Core.Path.{sym}
-use Rattle.placing.proofs.Bounds.{slots-over, bridges-over, lines-over, all-but-cells}
+use Rattle.placing.proofs.limits.Within.{slots-over, bridges-over, lines-over, all-but-cells}
 use Rattle.placing.proofs.limits.in_limits.Statement.{statement}
 use Rattle.placing.proofs.limits.in_limits.Tie as tie
 

@@ -7,9 +7,9 @@ use borrow.Fn.PlainCycle.{Measures, is, falls, and}
 use Rattle.second_planner.proofs.placements.feasible.Reads as feasible
 use Rattle.second_planner.proofs.placements.feasible.Kinds as feasible-kinds
 use Rattle.second_planner.proofs.placements.+feasible.Lts-feasible as feasible-lts
-use Rattle.small_frames.proofs.packed.field.Reads as field-reads
-use Rattle.small_frames.proofs.packed.one_less.Reads as one-less-reads
-use Rattle.small_frames.proofs.packed.without_first.Reads as without-first-reads
+use Rattle.second_planner.proofs.packed.field.Reads as field-reads
+use Rattle.second_planner.proofs.packed.one_less.Reads as one-less-reads
+use Rattle.second_planner.proofs.packed.without_first.Reads as without-first-reads
 use Rattle.second_planner.proofs.placements.+feasible.{statement}
 use Rattle.second_planner.proofs.placements.+feasible.Tie.{close}
 

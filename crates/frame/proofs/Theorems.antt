@@ -1,0 +1,7 @@
+-- What programs and the static library cite of this layer's laws.
+-- Assumes nothing.
+pub use Rattle.frame.proofs.Demands.{planned-running, demand-3}
+pub use Rattle.frame.proofs.OneEvent.{event-is}
+pub use Rattle.frame.proofs.event.EventAnswers.{done-running}
+pub use Rattle.frame.proofs.text.WholeText.{beside-long, text-claim}
+pub use Rattle.frame.proofs.listing.WholeListing.{cause-whole}

@@ -1,0 +1,116 @@
+-- An event where the preset records stand in a list, law by law.
+--
+-- In order: fewer than 32 records (`event-few`) and enough of them (`event-enough`); an event on the first 32 records by value is one on the list (`event-list`);
+-- the frame afterwards (`event-running`); the entry `event` (`event-entry`).
+-- Assumes nothing.
+use Prim.Native.Nat.{ℕ, _≤_, _<_}
+use mathlib.Core.Path.{_≡_, refl, sym, _∙_, ap, subst}
+use mathlib.Core.Bool.{false, not, _&&_}
+use mathlib.Core.Option.{none, some}
+use mathlib.Core.List.{List, [], _∷_}
+use lib.ListN.{length}
+use lib.Dec.{ltb, leb}
+use lib.Seq.{take-take}
+use Rattle.laws.proofs.Tests.{Is, is, is-true, is-false}
+use Rattle.laws.proofs.Comparisons.{le-of, lt-of, ge-of, ltb-yes, ltb-no}
+use Rattle.station.specs.Head as meant
+use Rattle.station.specs.Refusal.{outOfLimits, tooShort, try, firstOf}
+use Rattle.station.specs.Types.{headIn}
+use Rattle.station.specs.declared.types.Preset as record-of-preset
+use Rattle.station.specs.declared.types.Head as record-of-head
+use Rattle.station.specs.declared.types.Refusal.the-variants.{TooShort}
+use Rattle.station.specs.Records.{loaded}
+use Rattle.station.proofs.Theorems.{loaded-whole}
+use Rattle.placing.specs.Claims.{Running}
+use Rattle.frame.specs.declared.types.Answer.the-variants.{Refused}
+use Rattle.frame.specs.declared.types.Outcome as result
+use Rattle.frame.specs.Event.{Event, refused, State, Outcome, eventOf}
+use Rattle.frame.specs.EventDone.{stateOf, eventMeant, Yields, EventDone}
+use Rattle.frame.proofs.Demands.{demand-3}
+use Rattle.frame.proofs.event.EventAnswers.{done-running}
+use Rattle.frame.specs.EventEntry.{eventListed, EventListed, EventEntry}
+
+-- ---- by the number of records
+
+module _ (n : ℕ) (head : record-of-head.Head) (ps : List record-of-preset.Preset) (st : State) (e : Event) where
+  listed-few : n < 32 → eventListed n head ps st e ≡ record { answer = refused tooShort; after = st }
+  unfolding eventListed firstOf
+  listed-few l = rw (ltb-yes n 32 l, eventListed) refl
+
+  listed-enough : 32 ≤ n → eventListed n head ps st e ≡ eventMeant head ps st e
+  unfolding eventListed firstOf
+  listed-enough l = rw (ltb-no n 32 l, eventListed) refl
+
+module _ (n : ℕ) (head : record-of-head.Head) (ps : List record-of-preset.Preset) (t : List ℕ) (c : ℕ) (e : Event) where
+  pub event-few : n < 32 → EventListed n head ps t c e t (record { answer = Refused TooShort; clock = c })
+  event-few l =
+      subst (λ (o : Outcome). Yields o t (record { answer = Refused TooShort; clock = c })) (sym (listed-few n head ps (stateOf t c) e l))
+      (record { answer = refl; table = refl; clock = refl })
+
+  pub event-enough : {u : List ℕ} {r : result.Outcome} → 32 ≤ n → EventDone head ps t c e u r → EventListed n head ps t c e u r
+  event-enough {u} {r} l d = subst (λ (o : Outcome). Yields o u r) (sym (listed-enough n head ps (stateOf t c) e l)) d
+
+-- ---- the first 32 records by value
+
+-- the head of a record with at most 32 presets is that of the list
+head-list : (head : record-of-head.Head) (ps : List record-of-preset.Preset) → head .count ≤ 32 → 32 ≤ length ps → headIn head (loaded ps) ≡ headIn head ps
+head-list head ps few long = rw (loaded-whole ps long, take-take (head .count) 32 ps few) refl
+
+module _ (head : record-of-head.Head) (st : State) (e : Event) where
+  -- an event as the head says which the records stand for
+  meant-head : (ps qs : List record-of-preset.Preset) → headIn head ps ≡ headIn head qs → eventMeant head ps st e ≡ eventMeant head qs st e
+  unfolding eventMeant
+  meant-head ps qs same =
+      ap (λ (h : meant.Head). elim (firstOf (try tooShort (ltb (length (st .table)) 512) ∷ try outOfLimits (not (leb (head .count) 32 && meant.valid h)) ∷ [])) [
+        | none ↦ eventOf h st e
+        | some r ↦ record { answer = refused r; after = st }
+      ]) same
+
+  -- a record that counts more than 32 presets is refused whatever they are
+  meant-many : (ps qs : List record-of-preset.Preset) → leb (head .count) 32 ≡ false → eventMeant head ps st e ≡ eventMeant head qs st e
+  unfolding eventMeant firstOf
+  meant-many ps qs many = go (is (ltb (length (st .table)) 512))
+    where
+      go : Is (ltb (length (st .table)) 512) → eventMeant head ps st e ≡ eventMeant head qs st e
+      go (is-true s) = rw (s, eventMeant) refl
+      go (is-false s) = rw (s, many, eventMeant) refl
+
+  meant-list : (ps : List record-of-preset.Preset) → 32 ≤ length ps → eventMeant head (loaded ps) st e ≡ eventMeant head ps st e
+  meant-list ps long = go (is (leb (head .count) 32))
+    where
+      go : Is (leb (head .count) 32) → eventMeant head (loaded ps) st e ≡ eventMeant head ps st e
+      go (is-true few) = meant-head (loaded ps) ps (head-list head ps (le-of (head .count) 32 few) long)
+      go (is-false many) = meant-many (loaded ps) ps many
+
+module _ (head : record-of-head.Head) (ps : List record-of-preset.Preset) (t : List ℕ) (c : ℕ) (e : Event) where
+  listed-list : eventListed (length ps) head (loaded ps) (stateOf t c) e ≡ eventListed (length ps) head ps (stateOf t c) e
+  listed-list = go (is (ltb (length ps) 32))
+    where
+      go : Is (ltb (length ps) 32) → eventListed (length ps) head (loaded ps) (stateOf t c) e ≡ eventListed (length ps) head ps (stateOf t c) e
+      go (is-true l) =
+          let few = lt-of (length ps) 32 l in
+          listed-few (length ps) head (loaded ps) (stateOf t c) e few ∙ sym (listed-few (length ps) head ps (stateOf t c) e few)
+      go (is-false l) =
+          let long = ge-of (length ps) 32 l in
+          listed-enough (length ps) head (loaded ps) (stateOf t c) e long
+          ∙ meant-list head (stateOf t c) e ps long
+          ∙ sym (listed-enough (length ps) head ps (stateOf t c) e long)
+
+  module _ {u : List ℕ} {r : result.Outcome} where
+    pub event-list : EventListed (length ps) head (loaded ps) t c e u r → EventListed (length ps) head ps t c e u r
+    event-list d = subst (λ (o : Outcome). Yields o u r) listed-list d
+
+    -- a frame that 11 lets pass is one afterwards
+    event-running : EventListed (length ps) head ps t c e u r → Running (headIn head ps) c t → Running (headIn head ps) (r .clock) u
+    event-running d run = go (is (ltb (length ps) 32))
+      where
+        go : Is (ltb (length ps) 32) → Running (headIn head ps) (r .clock) u
+        go (is-true l) =
+            let y : Yields (record { answer = refused tooShort; after = stateOf t c }) u r =
+            subst (λ (o : Outcome). Yields o u r) (listed-few (length ps) head ps (stateOf t c) e (lt-of (length ps) 32 l)) d in
+            rw (y .clock, y .table) run
+        go (is-false l) =
+            done-running head ps c t e (subst (λ (o : Outcome). Yields o u r) (listed-enough (length ps) head ps (stateOf t c) e (ge-of (length ps) 32 l)) d) run
+
+    pub event-entry : EventListed (length ps) head (loaded ps) t c e u r → EventEntry head ps t c e u r
+    event-entry d = let done = event-list d in record { done = done; kept = event-running done; claim = demand-3 (headIn head ps) (stateOf t c) (e ∷ []) }

@@ -1,0 +1,2 @@
+-- The lines of slots as bytes.
+pub mod SlotLines

@@ -1,0 +1,2 @@
+-- The loop over the lines after a head.
+pub mod LineLoop

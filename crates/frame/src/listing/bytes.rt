@@ -1,0 +1,201 @@
+// The lines of the listing, as bytes. Document 01, "One listing, whole".
+//
+// Each writer takes the output and a place, and answers the next place. It is total, as those of station's output.rt are: bytes past the end of the
+// output are left out.
+use crate::types::Answer;
+use placing::cells::BUSY;
+use placing::cells::MANDATORY;
+use placing::cells::OPTIONAL;
+use placing::cells::kind_of;
+use placing::cells::number_in;
+use station::causes::cause_number;
+use station::output::lettered;
+use station::output::number;
+use station::output::numbers_end;
+use station::output::word;
+use station::types::Preset;
+use station::types::Refusal;
+ghost use mathlib.Core.Path.{_≡_};
+ghost use Prim.Native.Nat.{_≤_, _<_};
+ghost use lib.ListN.{getD};
+ghost use Rattle.station.specs.Types.{refusalIn, presetsIn};
+ghost use Rattle.station.specs.Text.{bytes, _then_};
+ghost use Rattle.station.specs.Decimal.{digits};
+ghost use Rattle.station.specs.Wrote.{Wrote, Left};
+ghost use Rattle.placing.specs.Table.{kindOf, numberIn};
+ghost use Rattle.frame.specs.Types.{answerIn};
+ghost use Rattle.frame.specs.Listing.{refusedLine, grantedLine, answerLine, grantedLines, cellText, cellTexts, slotLines};
+ghost use Rattle.frame.specs.method.SlotLines.{ofBridges, letterOf, lineOfSlot, linesOfSlots};
+
+// Writes a line that begins as `start` says and has one number. Answers the next place.
+fn number_line(out: &mut [u8], at: usize, start: &[u8], n: usize) -> usize
+    ensures { λ r. ⌜ Wrote (now (out .entry)) at (now (start .entry) then digits n then bytes ")\n") (now (out .exit)) r ⌝ }
+{
+    let first = word(out, at, start);
+    let end = number(out, first, n);
+    word(out, end, b")\n")
+}
+
+// Writes `(refused N C)`, the line and the cause's number. Answers the next place.
+pub fn refused_line(out: &mut [u8], at: usize, line: usize, cause: Refusal) -> usize
+    ensures { λ r. ⌜ Wrote (now (out .entry)) at (refusedLine line (refusalIn cause)) (now (out .exit)) r ⌝ }
+{
+    let n = cause_number(cause);
+    let numbers = word(out, at, b"(refused ");
+    numbers_end(out, numbers, line, n as usize)
+}
+
+// Writes the line of an answer: `(now T)`, `(taken K)`, or the refused line. Answers the next place.
+pub fn answer_line(out: &mut [u8], at: usize, line: usize, answer: Answer) -> usize
+    ensures { λ r. ⌜ Wrote (now (out .entry)) at (answerLine line (answerIn answer)) (now (out .exit)) r ⌝ }
+{
+    match answer {
+        Answer::Now(t) => number_line(out, at, b"(now ", t),
+        Answer::Taken(n) => number_line(out, at, b"(taken ", n),
+        Answer::Refused(r) => refused_line(out, at, line, r),
+    }
+}
+
+// Writes `(granted N G)`, a preset's number and how many optional slots it has. Answers the next place.
+pub fn granted_line(out: &mut [u8], at: usize, preset: usize, slots: usize) -> usize
+    ensures { λ r. ⌜ Wrote (now (out .entry)) at (grantedLine preset slots) (now (out .exit)) r ⌝ }
+{
+    let numbers = word(out, at, b"(granted ");
+    numbers_end(out, numbers, preset, slots)
+}
+
+// Writes the granted lines of the first `count` presets, in file order. Answers the next place.
+fn first_granted(
+    out: &mut [u8],
+    at: usize,
+    presets: [Preset; 32],
+    grants: [u8; 32],
+    count: usize,
+) -> usize
+    requires { ⌜ count ≤ 32 ⌝ }
+    ensures { λ r. ⌜ Wrote (now (out .entry)) at (grantedLines grants 0 (presetsIn count presets)) (now (out .exit)) r ⌝ }
+{
+    let mut place = at;
+    let mut i = 0;
+    while i < count {
+        let preset = presets[i];
+        let slots = grants[i];
+        place = granted_line(out, place, preset.number as usize, slots as usize);
+        i += 1;
+    }
+    place
+}
+
+// Writes the granted lines of the first `count` presets, in file order; a count above 32 is as 32. Answers the next place.
+pub fn granted_lines(
+    out: &mut [u8],
+    at: usize,
+    presets: [Preset; 32],
+    grants: [u8; 32],
+    count: usize,
+) -> usize
+    ensures { λ r. ⌜ Wrote (now (out .entry)) at (grantedLines grants 0 (presetsIn count presets)) (now (out .exit)) r ⌝ }
+{
+    if 32 < count {
+        return first_granted(out, at, presets, grants, 32);
+    }
+    first_granted(out, at, presets, grants, count)
+}
+
+// The letter of a kind of cell that has a number.
+fn letter(kind: u16) -> u8
+    ensures { λ r. ⌜ r ≡ letterOf kind ⌝ }
+{
+    if kind == MANDATORY / 256 {
+        return b'm';
+    }
+    if kind == OPTIONAL / 256 {
+        return b'o';
+    }
+    b'c'
+}
+
+// The cell of the table at a place; 0, an empty one, past its end.
+fn cell_at(table: &[u16], place: usize) -> u16
+    ensures { λ r. ⌜ r ≡ getD (now (table .entry)) place 0 ⌝ }
+{
+    if place < table.len() {
+        return table[place];
+    }
+    0
+}
+
+// Writes a blank and a cell: `0` empty, `-` busy, else the kind's letter and the number. Answers the next place.
+fn next_cell(out: &mut [u8], at: usize, value: u16) -> usize
+    ensures { λ r. ⌜ Wrote (now (out .entry)) at (bytes " " then cellText (kindOf value) (numberIn value)) (now (out .exit)) r ⌝ }
+{
+    let kind = kind_of(value);
+    if kind == 0 {
+        return word(out, at, b" 0");
+    }
+    if kind == BUSY / 256 {
+        return word(out, at, b" -");
+    }
+    let first = letter(kind);
+    lettered(out, at, first, number_in(value) as u8)
+}
+
+// Writes the cells of a slot, counted from 0, each after a blank. Answers the next place: the end of the line is left to write.
+fn slot_cells(out: &mut [u8], at: usize, bridges: usize, table: &[u16], slot: usize) -> usize
+    requires { ⌜ (slot < 64) × (bridges ≤ 8) ⌝ }
+    ensures { λ r. ⌜ Left (now (out .entry)) at (cellTexts (ofBridges bridges) (now (table .entry)) slot 0 bridges) (now (out .exit)) r (bytes ")\n") ⌝ }
+{
+    let start = slot * bridges;
+    let mut place = at;
+    let mut b = 0;
+    while b < bridges {
+        let value = cell_at(table, start + b);
+        place = next_cell(out, place, value);
+        b += 1;
+    }
+    place
+}
+
+// Writes the line of a slot, counted from 0: `(slot N` and its cells. Writes nothing for a slot from 64 on or above 8 bridges, which no frame has.
+// Answers the next place.
+pub fn slot_line(out: &mut [u8], at: usize, bridges: usize, table: &[u16], slot: usize) -> usize
+    ensures { λ r. ⌜ Wrote (now (out .entry)) at (lineOfSlot bridges (now (table .entry)) slot) (now (out .exit)) r ⌝ }
+{
+    if 64 <= slot {
+        return at;
+    }
+    if 8 < bridges {
+        return at;
+    }
+    let first = word(out, at, b"(slot ");
+    let cells = number(out, first, slot + 1);
+    let end = slot_cells(out, cells, bridges, table, slot);
+    word(out, end, b")\n")
+}
+
+// Writes the lines of the first `slots` slots. Answers the next place.
+fn first_slots(out: &mut [u8], at: usize, slots: usize, bridges: usize, table: &[u16]) -> usize
+    requires { ⌜ (slots ≤ 64) × (bridges ≤ 8) ⌝ }
+    ensures { λ r. ⌜ Wrote (now (out .entry)) at (slotLines (ofBridges bridges) (now (table .entry)) 0 slots) (now (out .exit)) r ⌝ }
+{
+    let mut place = at;
+    let mut s = 0;
+    while s < slots {
+        place = slot_line(out, place, bridges, table, s);
+        s += 1;
+    }
+    place
+}
+
+// Writes the lines of all slots. Writes nothing for more than 64 slots or 8 bridges, which no frame has. Answers the next place.
+pub fn slot_lines(out: &mut [u8], at: usize, slots: usize, bridges: usize, table: &[u16]) -> usize
+    ensures { λ r. ⌜ Wrote (now (out .entry)) at (linesOfSlots slots bridges (now (table .entry))) (now (out .exit)) r ⌝ }
+{
+    if 64 < slots {
+        return at;
+    }
+    if 8 < bridges {
+        return at;
+    }
+    first_slots(out, at, slots, bridges, table)
+}

@@ -1,0 +1,152 @@
+// A whole text: head, plan, then every line as an event, and the listing as it comes. The entry `run_text` has its presets in a borrowed slice of records, `run_text_by_value` by
+// value.
+mod counted; // counted.rt: what the entry does with the records by value, where the list has as many records as are counted
+mod lines; // lines.rt: the lines of a text after its head
+
+use crate::listing::bytes::granted_lines;
+use crate::listing::bytes::slot_lines;
+use crate::text::counted::answer_of;
+use crate::text::counted::bank_of;
+use crate::text::counted::text_counted;
+use crate::text::lines::run_lines;
+use placing::plan::PlanAnswer;
+use placing::plan::plan_by_value;
+use station::heads::ReadAnswer;
+use station::heads::read_head_by_value;
+use station::records::load;
+use station::records::record_count;
+use station::records::save;
+use station::types::Head;
+use station::types::Preset;
+use station::types::Refusal;
+ghost use Rattle.frame.specs.TextEntry.{TextEntry};
+ghost use mathlib.Core.Path.{_≡_};
+ghost use Rattle.frame.specs.Text.{wholeOf};
+ghost use Rattle.frame.specs.TextDone.{Leaves, TextDone, TextClaim};
+ghost use Rattle.frame.specs.method.TextParts.{refusedRun, HeadStart};
+
+// What a text leaves beside the table, the output and the list of preset records: its end, the head, and the clock.
+pub struct TextAnswer {
+    pub ended: Ended,
+    pub head: Head,
+    pub clock: usize,
+}
+
+// Runs a whole text: 10 for more than 32,768 bytes, 8 for fewer than 32 preset records, an output below 8,192 bytes or a table below 512 cells, then the head's
+// causes, then 5; else every line after the head is answered, and the listing stands at the start of the output, as far as it has room for it. A refusal leaves
+// table, clock and output as they were; the head and its records are those handed in, and with 5 those read. The records past the last preset stay.
+pub fn run_text(
+    text: &[u8],
+    head: Head,
+    presets: &mut [Preset],
+    table: &mut [u16],
+    clock: usize,
+    out: &mut [u8],
+) -> TextAnswer
+    ensures { λ r. ⌜ TextEntry (now (text .entry)) head (now (presets .entry)) (now (table .entry)) clock (now (out .entry)) (now (presets .exit)) (now (table .exit)) (now (out .exit)) r ⌝ }
+{
+    let records = record_count(presets);
+    let bank = load(presets);
+    let run = text_counted(records, text, head, bank, table, clock, out);
+    save(presets, bank_of(run), 32);
+    answer_of(run)
+}
+
+// How a text ends: the number of bytes of its listing in the output, or the line and the cause of the one refusal.
+pub enum Ended {
+    Ran(usize),
+    Refused(usize, Refusal),
+}
+
+// What a text leaves beside the table and the output: its end, the head with its presets, and the clock.
+pub struct TextRun {
+    pub ended: Ended,
+    pub head: Head,
+    pub presets: [Preset; 32],
+    pub clock: usize,
+}
+
+// A refusal, with the head, the presets and the clock that it leaves.
+fn refused(line: usize, cause: Refusal, head: Head, presets: [Preset; 32], clock: usize) -> TextRun
+    ensures { λ r. ⌜ r ≡ refusedRun line cause head presets clock ⌝ }
+{
+    TextRun {
+        ended: Ended::Refused(line, cause),
+        head,
+        presets,
+        clock,
+    }
+}
+
+// A head that was read, `bytes` long and of `lines` lines: its plan, then the lines after it, and the listing. 5 leaves all but the head as it was.
+fn run_head(
+    text: &[u8],
+    bytes: usize,
+    lines: usize,
+    head: Head,
+    presets: [Preset; 32],
+    table: &mut [u16],
+    clock: usize,
+    out: &mut [u8],
+) -> TextRun
+    requires { ⌜ HeadStart head presets (now text) bytes lines (now table) ⌝ }
+    ensures { λ r. ⌜ Leaves (wholeOf (now (text .entry)) (now (table .entry))) head presets (now (table .entry)) clock (now (out .entry)) (now (table .exit)) (now (out .exit)) r ⌝ }
+{
+    let planned = plan_by_value(head, presets, table);
+    let answer = planned.answer;
+    let grants = planned.grants;
+    if let PlanAnswer::Refused(cause) = answer {
+        return refused(lines, cause, head, presets, clock);
+    }
+    let granted = granted_lines(out, 0, presets, grants, head.count);
+    let ran = run_lines(text, bytes, lines, head, presets, table, out, granted);
+    let end = slot_lines(out, ran.place, head.slots, head.bridges, table);
+    TextRun {
+        ended: Ended::Ran(end),
+        head,
+        presets,
+        clock: ran.clock,
+    }
+}
+
+// Runs a whole text: 10 for more than 32,768 bytes, 8 for an output below 8,192 bytes or a table below 512 cells, then the head's causes, then 5; else every
+// line after the head is answered, and the listing stands at the start of the output, as far as it has room for it. A refusal leaves table, clock and output
+// as they were; the head is the one handed in, and with 5 the one read.
+pub fn run_text_by_value(
+    text: &[u8],
+    head: Head,
+    presets: [Preset; 32],
+    table: &mut [u16],
+    clock: usize,
+    out: &mut [u8],
+) -> TextRun
+    ensures done { λ r. ⌜ TextDone (now (text .entry)) head presets (now (table .entry)) clock (now (out .entry)) (now (table .exit)) (now (out .exit)) r ⌝ }
+    ensures claim { λ _. ⌜ TextClaim (now (text .entry)) (now (table .entry)) (now (out .entry)) ⌝ }
+{
+    if 32768 < text.len() {
+        return refused(0, Refusal::TextTooLong, head, presets, clock);
+    }
+    if out.len() < 8192 {
+        return refused(0, Refusal::TooShort, head, presets, clock);
+    }
+    if table.len() < 512 {
+        return refused(0, Refusal::TooShort, head, presets, clock);
+    }
+    let read = read_head_by_value(text, head, presets);
+    let answer = read.answer;
+    let found = read.head;
+    let records = read.presets;
+    match answer {
+        ReadAnswer::Refused(line, cause) => refused(line, cause, found, records, clock),
+        ReadAnswer::Accepted(lines, bytes) => run_head(
+            text,
+            bytes,
+            lines,
+            found,
+            records,
+            table,
+            clock,
+            out,
+        ),
+    }
+}

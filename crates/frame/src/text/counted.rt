@@ -1,0 +1,61 @@
+// What the entry calls: a text with its first 32 preset records by value, where the list has as many records as are counted, and the parts of what it leaves.
+use crate::text::Ended;
+use crate::text::TextAnswer;
+use crate::text::TextRun;
+use crate::text::run_text_by_value;
+use station::types::Head;
+use station::types::Preset;
+use station::types::Refusal;
+ghost use mathlib.Core.Path.{_≡_};
+ghost use Rattle.frame.specs.method.TextParts.{refusedRun};
+ghost use Rattle.frame.specs.TextEntry.{TextListed, answerOf};
+
+// A refusal at line 0, which leaves the head, the records and the clock as they were handed in.
+fn refused_at_start(cause: Refusal, head: Head, bank: [Preset; 32], clock: usize) -> TextRun
+    ensures { λ r. ⌜ r ≡ refusedRun 0 cause head bank clock ⌝ }
+{
+    TextRun {
+        ended: Ended::Refused(0, cause),
+        head,
+        presets: bank,
+        clock,
+    }
+}
+
+// Runs a whole text; refused with 10 for more than 32,768 bytes, and then with 8 for fewer than 32 records.
+pub fn text_counted(
+    records: usize,
+    text: &[u8],
+    head: Head,
+    bank: [Preset; 32],
+    table: &mut [u16],
+    clock: usize,
+    out: &mut [u8],
+) -> TextRun
+    ensures { λ r. ⌜ TextListed records (now (text .entry)) head bank (now (table .entry)) clock (now (out .entry)) (now (table .exit)) (now (out .exit)) r ⌝ }
+{
+    if 32768 < text.len() {
+        return refused_at_start(Refusal::TextTooLong, head, bank, clock);
+    }
+    if records < 32 {
+        return refused_at_start(Refusal::TooShort, head, bank, clock);
+    }
+    run_text_by_value(text, head, bank, table, clock, out)
+}
+
+// The records that a text leaves.
+pub fn bank_of(run: TextRun) -> [Preset; 32]
+    ensures { λ r. ⌜ r ≡ run .presets ⌝ }
+{
+    run.presets
+}
+
+// What a text leaves beside the records.
+pub fn answer_of(run: TextRun) -> TextAnswer
+    ensures { λ r. ⌜ r ≡ answerOf run ⌝ }
+{
+    let ended = run.ended;
+    let head = run.head;
+    let clock = run.clock;
+    TextAnswer { ended, head, clock }
+}

@@ -1,2 +1,0 @@
--- The laws that they cite.
-pub mod Entries

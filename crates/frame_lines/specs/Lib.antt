@@ -1,2 +1,0 @@
--- What the entries that write one line are held to.
-pub mod Entries

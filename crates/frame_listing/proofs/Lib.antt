@@ -1,2 +1,0 @@
--- The laws that the listing's code cites.
-pub mod SlotLines

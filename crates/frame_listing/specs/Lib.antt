@@ -1,2 +1,0 @@
--- What the listing's code is held to: the lines of slots.
-pub mod SlotLines

@@ -1,2 +1,0 @@
--- What the entry write_listing is held to.
-pub mod WriteListing

@@ -1,2 +1,0 @@
--- What the entry run_text is held to.
-pub mod TextEntry

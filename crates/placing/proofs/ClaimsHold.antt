@@ -1,0 +1,367 @@
+-- The claims about plan and call hold for all inputs: `plan-claim` and `call-claim`, of the functions that the entries are held to.
+--
+-- In order: the plan (`plan-granted`, `plan-claim`, `plan-only-five`); the call (`nine-counts-all`, `call-accepted`, `call-claim`).
+-- Assumes nothing.
+use Prim.Native.Nat.{ℕ, _≤_, _<_}
+use native.Mathlib.Omega.{arith}
+use native.Mathlib.Nat.{le-trans}
+use mathlib.Core.Path.{_≡_, refl, sym, _∙_, ap}
+use mathlib.Core.Logic.{_⊎_, inl, inr, _↔_}
+use mathlib.Core.Bool.{and-comm, Bool, true, false, not, _&&_}
+use mathlib.Core.Option.{Option, none, some}
+use mathlib.Core.List.{List, [], _∷_, _++_}
+use lib.ListN.{length}
+use lib.Dec.{ltb, leb}
+use Rattle.laws.specs.Sums.{only}
+use Rattle.laws.specs.Lists.{at}
+use Rattle.laws.specs.Eviction.{ones}
+use Rattle.laws.proofs.Tests.{Is, is-true, is-false, is, clash, true-of-not, not-is-false, none-some, or-right, and-implied}
+use Rattle.laws.proofs.Comparisons.{leb-yes}
+use Rattle.laws.proofs.Sums.{sum-ext}
+use Rattle.station.specs.Head.{Head, Job, Valid, valid}
+use Rattle.station.specs.Refusal.{Refusal, tooShort, outOfLimits, notWellFormed, numberUsed, tooMany, mandatoryNotFeasible, callNotFeasible, try}
+use Rattle.station.specs.Refusal.{firstOf}
+use Rattle.station.proofs.Theorems.{first-of-none, first-none, first-some, append-none, append-left-none, Never, end, skip, last-cause, cause-last}
+use Rattle.station.proofs.Theorems.{within-low}
+use Rattle.placing.specs.Table.{Cells, cell, cells, Each, presetCount, numberIn, isOptional, isMandatory, WellFormed}
+use Rattle.placing.specs.Valid.{ValidPlan, ValidCall, jobAt, lost, lostUpTo, optionalOf, priorityOf}
+use Rattle.placing.specs.Plan.{planFits, mandatories, grants, planned, rank}
+use Rattle.placing.specs.Call.{evictionOrder, InEvictionOrder, evictedSet, callFits, called}
+use Rattle.placing.specs.Outcomes.{written, PlanAnswer, PlanOutcome, planCauses, planOf, frameCauses, frameAtFault, jobCauses, jobsOutside}
+use Rattle.placing.specs.Outcomes.{jobsUsed, jobsTooMany, callCauses, CallAnswer, CallOutcome, callOf}
+use Rattle.placing.specs.Claims.{Running, SamePast, PlanClaim, CallClaim, beforeSeven, optionalOfFirst}
+use Rattle.placing.proofs.CountedCells.{cells-ext, holding-ext, lost-was, preset-with, priorityOf-is}
+use Rattle.placing.proofs.WellFormed.{validPlan-ext, validCall-ext}
+use Rattle.placing.proofs.WrittenTable.{frame-cells, cell-written, written-past}
+use Rattle.placing.proofs.NewJobs.{Good}
+use Rattle.placing.proofs.Causes.{recordCauses, long-and-valid, no-record-cause, running-of, jobs-inside, good-of}
+use Rattle.placing.proofs.PlanTheorem.{plan-fits-of-valid, planned-valid, planned-optional, planned-best}
+use Rattle.placing.proofs.EvictionOrder.{order-is}
+use Rattle.placing.proofs.LeastEviction.{valid-fits, fewest-upto, evicted-first-smallest}
+use Rattle.placing.proofs.CalledTable.{called-count, called-upto, called-valid}
+
+-- ---- the plan
+
+-- no cause holds
+record PlanPasses (h : Head) (t : List ℕ) : Type 0 where
+  long : 512 ≤ length t
+  ok : Valid h
+  fits : planFits h (mandatories h) ≡ true
+
+-- 5 is tried last
+abbrev tryFive : Head → List (Option Refusal)
+tryFive h = try mandatoryNotFeasible (not (planFits h (mandatories h))) ∷ []
+
+plan-passes : (h : Head) (t : List ℕ) → firstOf (planCauses h t) ≡ none → PlanPasses h t
+plan-passes h t e =
+    let before = append-left-none (recordCauses h t) (tryFive h) e in
+    let reached = long-and-valid h t before in
+    let five = first-none mandatoryNotFeasible (not (planFits h (mandatories h))) [] (sym (append-none (recordCauses h t) (tryFive h) before) ∙ e) in
+    record { long = reached .0; ok = reached .1; fits = true-of-not _ (five .0) }
+
+-- the answer tells which of the two it was
+data PlanIs (h : Head) (t : List ℕ) : PlanOutcome → Type 0 where
+  done : firstOf (planCauses h t) ≡ none → PlanIs h t (record { answer = PlanAnswer.granted (grants h); table = written h (planned h) t })
+  stopped : (r : Refusal) → firstOf (planCauses h t) ≡ some r → PlanIs h t (record { answer = PlanAnswer.refused r; table = t })
+
+plan-is : (h : Head) (t : List ℕ) → PlanIs h t (planOf h t)
+unfolding planOf
+plan-is h t = go (firstOf (planCauses h t)) refl
+  where
+    go : (o : Option Refusal) → firstOf (planCauses h t) ≡ o → PlanIs h t (planOf h t)
+    go none e = rw (e, planOf) (done e)
+    go (some r) e = rw (e, planOf) (stopped r e)
+
+refused-granted : {r : Refusal} {g : List ℕ} → PlanAnswer.refused r ≡ PlanAnswer.granted g → ⊥
+refused-granted e = let z : _≡_ {A = ℕ} 0 1 = cc in omega arith
+
+module _ (h : Head) (t : List ℕ) where
+  -- the table that the plan leaves, and that its cells are the plan's
+  abbrev planTable : List ℕ
+  planTable = written h (planned h) t
+
+  cell-planned : Each h (λ s b. planned h s b ≡ cell h planTable s b)
+  cell-planned s b l m = sym (cell-written h (planned h) t s b l m)
+
+  optional-planned : (i : ℕ) → optionalOf h (planned h) i ≡ optionalOf h (cell h planTable) i
+  optional-planned i = holding-ext h (planned h) (cell h planTable) cell-planned _
+
+  five-never : Never mandatoryNotFeasible (recordCauses h t)
+  five-never = skip tooShort (ltb (length t) 512) (λ e. omega arith) (skip outOfLimits (not (valid h)) (λ e. omega arith) end)
+
+  plan-valid : planFits h (mandatories h) ≡ true → Valid h → ValidPlan h (cell h planTable)
+  plan-valid p ok = validPlan-ext h (planned h) (cell h planTable) cell-planned (planned-valid ok p)
+
+  five-only : (o : PlanOutcome) → PlanIs h t o → o .answer ≡ PlanAnswer.refused mandatoryNotFeasible
+      → (512 ≤ length t) × Valid h × ((u : List ℕ) → ValidPlan h (cell h u) → ⊥)
+  five-only _ (done e) q = absurd (refused-granted (sym q))
+  five-only _ (stopped r e) q =
+      let same : firstOf (planCauses h t) ≡ some mandatoryNotFeasible = cc in
+      let five = last-cause mandatoryNotFeasible (not (planFits h (mandatories h))) five-never same in
+      let reached = long-and-valid h t (five .0) in
+      (reached .0, reached .1, λ u w. clash (sym (five .1) ∙ not-is-false _ (plan-fits-of-valid (reached .1) w)))
+
+  five-always : (o : PlanOutcome) → PlanIs h t o → 512 ≤ length t → Valid h → ((u : List ℕ) → ValidPlan h (cell h u) → ⊥)
+      → o .answer ≡ PlanAnswer.refused mandatoryNotFeasible
+  five-always _ (done e) long ok n = absurd (n planTable (plan-valid (plan-passes h t e .fits) ok))
+  five-always _ (stopped r e) long ok n = go (is (planFits h (mandatories h)))
+    where
+      go : Is (planFits h (mandatories h)) → PlanAnswer.refused r ≡ PlanAnswer.refused mandatoryNotFeasible
+      go (is-true p) = absurd (n planTable (plan-valid p ok))
+      go (is-false p) =
+          let five : firstOf (planCauses h t) ≡ some mandatoryNotFeasible =
+          cause-last (recordCauses h t) mandatoryNotFeasible (not (planFits h (mandatories h))) (no-record-cause h t long ok) (ap not p) in
+          cc
+
+  same-past : (o : PlanOutcome) → PlanIs h t o → SamePast h t (o .table)
+  same-past _ (done e) = let p = plan-passes h t e in written-past h (planned h) t (le-trans (frame-cells h (p .ok)) (p .long))
+  same-past _ (stopped r e) = record { long = refl; past = refl }
+
+-- what is known of a plan that is granted: its grants, its cells, its head
+pub plan-granted : (h : Head) (t g : List ℕ) → planOf h t .answer ≡ PlanAnswer.granted g
+    → (g ≡ grants h) × (planFits h (mandatories h) ≡ true) × Valid h × (512 ≤ length t) × (planOf h t .table ≡ written h (planned h) t)
+plan-granted h t g = go (planOf h t) (plan-is h t)
+  where
+    go : (o : PlanOutcome) → PlanIs h t o → o .answer ≡ PlanAnswer.granted g
+        → (g ≡ grants h) × (planFits h (mandatories h) ≡ true) × Valid h × (512 ≤ length t) × (o .table ≡ written h (planned h) t)
+    go _ (done e) q = let p = plan-passes h t e in ((cc), p .fits, p .ok, p .long, refl)
+    go _ (stopped r e) q = absurd (refused-granted q)
+
+module _ (h : Head) (t g : List ℕ) (q : planOf h t .answer ≡ PlanAnswer.granted g) where
+  plan-granted-valid : ValidPlan h (cell h (planOf h t .table))
+  plan-granted-valid = let p = plan-granted h t g q in rw (p .4) (plan-valid h t (p .1) (p .2))
+
+  plan-granted-reported : (i : ℕ) → i < presetCount h → at g i ≡ optionalOf h (cell h (planOf h t .table)) i
+  plan-granted-reported i l =
+      let p = plan-granted h t g q in
+      rw (p .0, p .4) (sym (planned-optional (p .2) (p .1) i l) ∙ optional-planned h t i)
+
+  plan-granted-best : (u : List ℕ) → ValidPlan h (cell h u) → (k : ℕ)
+      → optionalOfFirst h (cell h u) k ≤ optionalOfFirst h (cell h (planOf h t .table)) k
+  plan-granted-best u w k =
+      let p = plan-granted h t g q in
+      rw (p .4) (omega (
+        arith,
+        sum-ext (presetCount h) (λ i. only (ltb (rank h i) k) (optionalOf h (planned h) i))
+            (λ i. only (ltb (rank h i) k) (optionalOf h (cell h (planTable h t)) i)) (λ i l. ap (only (ltb (rank h i) k)) (optional-planned h t i)),
+        planned-best (p .2) (p .1) w k,
+      ))
+
+-- The plan theorem: the claims about plan hold for every head record and every table.
+pub plan-claim : (h : Head) (t : List ℕ) → PlanClaim h t
+plan-claim h t = record {
+  five = (five-only h t (planOf h t) (plan-is h t), λ p. five-always h t (planOf h t) (plan-is h t) (p .0) (p .1) (p .2));
+  valid = plan-granted-valid h t;
+  reported = plan-granted-reported h t;
+  best = plan-granted-best h t;
+  past = same-past h t (planOf h t) (plan-is h t);
+}
+
+-- a head that some text yields, with a table long enough, is refused for 5 alone
+pub plan-only-five : (h : Head) (t : List ℕ) (r : Refusal) → 512 ≤ length t → Valid h → planOf h t .answer ≡ PlanAnswer.refused r
+    → r ≡ mandatoryNotFeasible
+plan-only-five h t r long ok = go (planOf h t) (plan-is h t)
+  where
+    last : ((not (planFits h (mandatories h)) ≡ true) × (r ≡ mandatoryNotFeasible))
+        ⊎ ((not (planFits h (mandatories h)) ≡ false) × (firstOf [] ≡ some r)) → r ≡ mandatoryNotFeasible
+    last (inl p) = p .1
+    last (inr p) = absurd (none-some (sym first-of-none ∙ p .1))
+
+    go : (o : PlanOutcome) → PlanIs h t o → o .answer ≡ PlanAnswer.refused r → r ≡ mandatoryNotFeasible
+    go _ (done e) q = absurd (refused-granted (sym q))
+    go _ (stopped c e) q =
+        let same : firstOf (planCauses h t) ≡ some r = cc in
+        last (first-some mandatoryNotFeasible (not (planFits h (mandatories h))) []
+        (sym (append-none (recordCauses h t) (tryFive h) (no-record-cause h t long ok)) ∙ same))
+
+-- ---- the call
+
+refused-taken : {r : Refusal} {n : ℕ} → CallAnswer.refused r ≡ CallAnswer.taken n → ⊥
+refused-taken e = let z : _≡_ {A = ℕ} 0 1 = cc in omega arith
+
+-- "p = 9 counts all": no preset has a worse priority
+pub nine-counts-all : (h : Head) (t u : Cells) → Valid h → WellFormed h t → lostUpTo h t u 9 ≡ cells h (λ s b. lost t u s b)
+nine-counts-all h t u ok w =
+    cells-ext h (λ s b. lost t u s b && leb (priorityOf h (numberIn (t s b))) 9) (λ s b. lost t u s b)
+    (λ s b l m. and-comm (lost t u s b) (leb (priorityOf h (numberIn (t s b))) 9)
+    ∙ and-implied (leb (priorityOf h (numberIn (t s b))) 9) (lost t u s b) (λ e. leb-yes (priorityOf h (numberIn (t s b))) 9 (low s b l m e)))
+  where
+    low : (s b : ℕ) → s < h .slots → b < h .bridges → lost t u s b ≡ true → priorityOf h (numberIn (t s b)) ≤ 9
+    low s b l m e =
+        let p = preset-with h (numberIn (t s b)) (w .presets s b l m (or-right (isMandatory (t s b)) (isOptional (t s b)) (lost-was t u s b e))) in
+        omega (arith, ap (priorityOf h) (p .2), priorityOf-is h ok (p .0) (p .1), ok .limits (p .0) (p .1) .priority)
+
+module _ (h : Head) (clock : ℕ) (jobs : List Job) (t : List ℕ) where
+  -- the causes of a call, in the listed order
+  abbrev tried : List (Option Refusal)
+  tried = frameCauses h clock t ++ callCauses h clock jobs (cell h t)
+
+  -- the table that the call leaves, its cells, and the whole outcome
+  abbrev tableLeft : List ℕ
+  tableLeft = written h (called h clock jobs (cell h t)) t
+
+  abbrev cellsLeft : Cells
+  cellsLeft = cell h tableLeft
+
+  abbrev outcome : CallOutcome
+  outcome = record { answer = CallAnswer.taken (ones (evictedSet h clock jobs (cell h t))); table = tableLeft }
+
+  -- the answer tells whether a cause holds
+  data CallIs : CallOutcome → Type 0 where
+    placed : firstOf tried ≡ none → CallIs outcome
+    stopped : (r : Refusal) → firstOf tried ≡ some r → CallIs (record { answer = CallAnswer.refused r; table = t })
+
+  call-is : CallIs (callOf h clock jobs t)
+  unfolding callOf
+  call-is = go (firstOf tried) refl
+    where
+      go : (o : Option Refusal) → firstOf tried ≡ o → CallIs (callOf h clock jobs t)
+      go none e = rw (e, callOf) (placed e)
+      go (some r) e = rw (e, callOf) (stopped r e)
+
+  -- no cause before 7 holds, so none of the jobs' own
+  jobs-pass : firstOf (beforeSeven h clock jobs t) ≡ none → firstOf (jobCauses h jobs (cell h t)) ≡ none
+  jobs-pass e =
+      let frame = append-left-none (frameCauses h clock t) (jobCauses h jobs (cell h t)) e in
+      sym (append-none (frameCauses h clock t) (jobCauses h jobs (cell h t)) frame) ∙ e
+
+  passes : firstOf (beforeSeven h clock jobs t) ≡ none → Running h clock t × Good h (cell h t) jobs
+  passes e = (running-of h clock t (append-left-none (frameCauses h clock t) (jobCauses h jobs (cell h t)) e), good-of h jobs (cell h t) (jobs-pass e))
+
+  -- 7 is tried last
+  abbrev trySeven : List (Option Refusal)
+  trySeven = try callNotFeasible (not (callFits h clock jobs (cell h t))) ∷ []
+
+  seven-never : Never callNotFeasible (beforeSeven h clock jobs t)
+  seven-never =
+      skip tooShort (ltb (length t) 512) (λ e. omega arith) (skip outOfLimits (not (valid h)) (λ e. omega arith)
+      (skip notWellFormed (frameAtFault h clock t) (λ e. omega arith) (skip outOfLimits (jobsOutside jobs) (λ e. omega arith)
+      (skip numberUsed (jobsUsed h (cell h t) jobs) (λ e. omega arith) (skip tooMany (jobsTooMany h (cell h t) jobs) (λ e. omega arith) end)))))
+
+  placed-passes : firstOf tried ≡ none → (firstOf (beforeSeven h clock jobs t) ≡ none) × (callFits h clock jobs (cell h t) ≡ true)
+  placed-passes e =
+      let before = append-left-none (beforeSeven h clock jobs t) trySeven e in
+      let last = sym (append-none (beforeSeven h clock jobs t) trySeven before) ∙ e in
+      (before, true-of-not _ (first-none callNotFeasible (not (callFits h clock jobs (cell h t))) [] last .0))
+
+  cell-called : Each h (λ s b. called h clock jobs (cell h t) s b ≡ cellsLeft s b)
+  cell-called s b l m = sym (cell-written h (called h clock jobs (cell h t)) t s b l m)
+
+  cellsLeft-valid : Running h clock t → Good h (cell h t) jobs → callFits h clock jobs (cell h t) ≡ true → ValidCall h clock jobs (cell h t) cellsLeft
+  cellsLeft-valid r g f =
+      validCall-ext h clock jobs (cell h t) (cell h t) (called h clock jobs (cell h t)) cellsLeft (λ s b l m. refl) cell-called
+      (called-valid h clock jobs (cell h t) (r .valid) (r .wellFormed) g f)
+
+  cellsLeft-lost : (s b : ℕ) → s < h .slots → b < h .bridges → lost (cell h t) (called h clock jobs (cell h t)) s b ≡ lost (cell h t) cellsLeft s b
+  cellsLeft-lost s b l m = ap (λ (v : ℕ). isOptional (cell h t s b) && not (isOptional v)) (cell-called s b l m)
+
+  call-seven : (o : CallOutcome) → CallIs o → (o .answer ≡ CallAnswer.refused callNotFeasible)
+      ↔ ((firstOf (beforeSeven h clock jobs t) ≡ none) × ((u : List ℕ) → ValidCall h clock jobs (cell h t) (cell h u) → ⊥))
+  call-seven _ (placed e) = (
+    λ q. absurd (refused-taken (sym q)),
+    λ n. let f = placed-passes e in let p = passes (f .0) in absurd (n .1 tableLeft (cellsLeft-valid (p .0) (p .1) (f .1))),
+  )
+  call-seven _ (stopped r e) = (only, always)
+    where
+      only : CallAnswer.refused r ≡ CallAnswer.refused callNotFeasible
+          → (firstOf (beforeSeven h clock jobs t) ≡ none) × ((u : List ℕ) → ValidCall h clock jobs (cell h t) (cell h u) → ⊥)
+      only q =
+          let same : firstOf tried ≡ some callNotFeasible = cc in
+          let w = last-cause callNotFeasible (not (callFits h clock jobs (cell h t))) seven-never same in
+          let p = passes (w .0) in (
+            w .0,
+            λ u v.
+                clash (sym (w .1) ∙ not-is-false _ (valid-fits h clock jobs (cell h t) (cell h u) (p .0 .valid) (p .0 .wellFormed) (p .1) v)),
+          )
+
+      always : (firstOf (beforeSeven h clock jobs t) ≡ none) × ((u : List ℕ) → ValidCall h clock jobs (cell h t) (cell h u) → ⊥)
+          → CallAnswer.refused r ≡ CallAnswer.refused callNotFeasible
+      always n = go (is (callFits h clock jobs (cell h t)))
+        where
+          go : Is (callFits h clock jobs (cell h t)) → CallAnswer.refused r ≡ CallAnswer.refused callNotFeasible
+          go (is-true f) = let p = passes (n .0) in absurd (n .1 tableLeft (cellsLeft-valid (p .0) (p .1) f))
+          go (is-false f) =
+              let seven : firstOf tried ≡ some callNotFeasible =
+              cause-last (beforeSeven h clock jobs t) callNotFeasible (not (callFits h clock jobs (cell h t))) (n .0) (ap not f) in
+              cc
+
+  call-past : (o : CallOutcome) → CallIs o → SamePast h t (o .table)
+  call-past _ (placed e) =
+      let p = passes (placed-passes e .0) in
+      written-past h (called h clock jobs (cell h t)) t (le-trans (frame-cells h (p .0 .valid)) (p .0 .long))
+  call-past _ (stopped r e) = record { long = refl; past = refl }
+
+  -- an accepted call: no cause holds, and the outcome is that of the rule
+  taken-is : (n : ℕ) → callOf h clock jobs t .answer ≡ CallAnswer.taken n → (firstOf tried ≡ none) × (callOf h clock jobs t ≡ outcome)
+  taken-is n = go (callOf h clock jobs t) call-is
+    where
+      go : (o : CallOutcome) → CallIs o → o .answer ≡ CallAnswer.taken n → (firstOf tried ≡ none) × (o ≡ outcome)
+      go _ (placed e) q = (e, refl)
+      go _ (stopped r e) q = absurd (refused-taken q)
+
+  module _ (n : ℕ) (q : callOf h clock jobs t .answer ≡ CallAnswer.taken n) where
+    -- what it was tried for
+    taken-passes : Running h clock t × Good h (cell h t) jobs
+    taken-passes = passes (placed-passes (taken-is n q .0) .0)
+
+    taken-lengths : (i : ℕ) → i < length jobs → 1 ≤ jobAt jobs i .slots
+    taken-lengths i l =
+        let inside = first-none outOfLimits (jobsOutside jobs) _ (jobs-pass (placed-passes (taken-is n q .0) .0)) .0 in
+        within-low 1 64 (jobAt jobs i .slots) (jobs-inside jobs inside .2 i l .1)
+
+    taken-fits : callFits h clock jobs (cell h t) ≡ true
+    taken-fits = placed-passes (taken-is n q .0) .1
+
+    taken-table : callOf h clock jobs t .table ≡ tableLeft
+    taken-table = ap (λ (o : CallOutcome). o .table) (taken-is n q .1)
+
+    taken-valid : ValidCall h clock jobs (cell h t) (cell h (callOf h clock jobs t .table))
+    taken-valid = rw taken-table (cellsLeft-valid (taken-passes .0) (taken-passes .1) taken-fits)
+
+    taken-rule : Each h (λ s b. cell h (callOf h clock jobs t .table) s b ≡ called h clock jobs (cell h t) s b)
+    taken-rule = rw taken-table (cell-written h (called h clock jobs (cell h t)) t)
+
+    taken-order : InEvictionOrder h clock (cell h t) (evictionOrder h clock (cell h t))
+    taken-order = order-is h clock (cell h t) (taken-passes .0 .valid) (taken-passes .0 .wellFormed)
+
+    taken-reported : n ≡ cells h (λ s b. lost (cell h t) (cell h (callOf h clock jobs t .table)) s b)
+    taken-reported =
+        let o = taken-is n q .1 in
+        let same : n ≡ ones (evictedSet h clock jobs (cell h t)) = cc in
+        rw taken-table
+        (same
+        ∙ sym (called-count h clock jobs (cell h t) (taken-passes .0 .valid) (taken-passes .0 .wellFormed) (taken-passes .1))
+        ∙ cells-ext h (λ s b. lost (cell h t) (called h clock jobs (cell h t)) s b) (λ s b. lost (cell h t) cellsLeft s b) cellsLeft-lost)
+
+    taken-least : (u : List ℕ) → ValidCall h clock jobs (cell h t) (cell h u) → (p : ℕ)
+        → lostUpTo h (cell h t) (cell h (callOf h clock jobs t .table)) p ≤ lostUpTo h (cell h t) (cell h u) p
+    taken-least u v p =
+        let r = taken-passes .0 in
+        let better : ℕ → ℕ → Bool = λ s b. leb (priorityOf h (numberIn (cell h t s b))) p in
+        rw taken-table (omega (
+          arith,
+          cells-ext h (λ s b. lost (cell h t) (called h clock jobs (cell h t)) s b && better s b) (λ s b. lost (cell h t) cellsLeft s b && better s b)
+              (λ s b l m. ap (λ (c : Bool). c && better s b) (cellsLeft-lost s b l m)),
+          called-upto h clock jobs (cell h t) (r .valid) (r .wellFormed) (taken-passes .1) p,
+          fewest-upto h clock jobs (cell h t) (cell h u) (r .valid) (r .wellFormed) (taken-passes .1) v p,
+        ))
+
+-- what is known of an accepted call: its frame is a running one, its jobs have passed their causes, and each needs a slot
+pub call-accepted : (h : Head) (clock : ℕ) (jobs : List Job) (t : List ℕ) (n : ℕ) → callOf h clock jobs t .answer ≡ CallAnswer.taken n
+    → Running h clock t × Good h (cell h t) jobs × ((i : ℕ) → i < length jobs → 1 ≤ jobAt jobs i .slots)
+call-accepted h clock jobs t n q =
+    (taken-passes h clock jobs t n q .0, taken-passes h clock jobs t n q .1, taken-lengths h clock jobs t n q)
+
+-- The call theorem: the claims about call hold for every head record, clock, list of jobs and table.
+pub call-claim : (h : Head) (clock : ℕ) (jobs : List Job) (t : List ℕ) → CallClaim h clock jobs t
+call-claim h clock jobs t = record {
+  seven = call-seven h clock jobs t (callOf h clock jobs t) (call-is h clock jobs t);
+  valid = taken-valid h clock jobs t;
+  rule = taken-rule h clock jobs t;
+  order = taken-order h clock jobs t;
+  evicted = λ n q. evicted-first-smallest h clock jobs (cell h t) (taken-fits h clock jobs t n q);
+  reported = taken-reported h clock jobs t;
+  least = taken-least h clock jobs t;
+  nine = λ n q u. let r = taken-passes h clock jobs t n q .0 in nine-counts-all h (cell h t) (cell h u) (r .valid) (r .wellFormed);
+  past = call-past h clock jobs t (callOf h clock jobs t) (call-is h clock jobs t);
+}

@@ -1,0 +1,2 @@
+-- The causes of a frame.
+pub mod FrameCauses

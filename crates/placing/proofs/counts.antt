@@ -1,0 +1,3 @@
+-- Numbers that are marked, and the counts that an event leaves.
+pub mod MarkedNumbers
+pub mod LeftByEvent

@@ -1,0 +1,75 @@
+-- The counts of the table and the clock that an event leaves.
+--
+-- In order: the clock moved (`counts-passed`); a call was taken (`counts-taken`).
+-- Assumes nothing.
+use Prim.Native.Nat.{ℕ, _+_, _%_, _≤_, _<_}
+use native.Mathlib.Omega.{arith}
+use mathlib.Core.Path.{_≡_, sym, _∙_, ap, ap₂}
+use mathlib.Core.Bool.{Bool, false, _||_}
+use mathlib.Core.List.{List}
+use lib.ListN.{length}
+use lib.Dec.{ltb, eqb}
+use Rattle.laws.specs.Sums.{count}
+use Rattle.laws.proofs.Counts.{count-ext}
+use Rattle.station.specs.Head.{Head, Job}
+use Rattle.station.specs.declared.types.Job as record-job
+use Rattle.placing.specs.Table.{cell, isUsed}
+use Rattle.placing.specs.Types.{jobsIn}
+use Rattle.placing.specs.Outcomes.{jobsOutside, CallAnswer, callOf}
+use Rattle.placing.proofs.UsedNumbers.{numberOf, isOneOf, left-isUsed, left-jobCount}
+use Rattle.placing.proofs.ClaimsHold.{call-accepted, call-claim}
+use Rattle.placing.specs.method.Jobs.{jobNumber, marked}
+use Rattle.placing.specs.method.Counts.{CountsOf, CapacitiesAt, MarkedBeside}
+use Rattle.placing.proofs.counts.MarkedNumbers.{or-comm}
+use Rattle.placing.proofs.counts.usable.UsableCells.{capacity-is}
+use Rattle.placing.proofs.counts.causes.CallCauses.{jobs-length, number-of, inside-number}
+
+-- the clock moved
+pub counts-passed : (h : Head) (c d : ℕ) (t : List ℕ) {u xs ys : List ℕ} {held : ℕ} → CountsOf h c (cell h t) u held xs
+    → (CapacitiesAt t (h .slots) (h .bridges) c xs → CapacitiesAt t (h .slots) (h .bridges) d ys) → CountsOf h d (cell h t) u held ys
+counts-passed h c d t was passed =
+    let x = passed (record { long = was .long; right = λ k l. was .capacities k l ∙ sym (capacity-is h c t k) }) in
+    record {
+      marks-long = was .marks-long;
+      used = was .used;
+      jobs = was .jobs;
+      long = x .long;
+      capacities = λ k l. x .right k l ∙ capacity-is h d t k;
+    }
+
+-- a call of the first n jobs was taken
+module _ (h : Head) (clock : ℕ) (t : List ℕ) (js : List record-job.Job) (long : length js ≡ 8) (n : ℕ) (few : n ≤ 8) (e : jobsOutside (jobsIn n js) ≡ false) where
+  abbrev jobs : List Job
+  jobs = jobsIn n js
+
+  -- the jobs' numbers are those that the code marks
+  numbers-are : (m : ℕ) → isOneOf (length jobs) (numberOf jobs) m ≡ ltb 0 (count n (λ i. eqb (jobNumber js i % 256) m))
+  numbers-are m =
+      ap (λ (k : ℕ). ltb 0 (count k (λ i. eqb (numberOf jobs i) m))) (jobs-length js long n few)
+      ∙ ap (λ (k : ℕ). ltb 0 k)
+      (count-ext n (λ i. eqb (numberOf jobs i) m) (λ i. eqb (jobNumber js i % 256) m)
+      (λ i l.
+      let small = inside-number js long n few e i l in
+      let same : numberOf jobs i ≡ jobNumber js i % 256 = omega (arith, number-of js long n few i l) in
+      ap (λ (k : ℕ). eqb k m) same))
+
+  pub counts-taken : {q : ℕ} {marks after xs ys : List ℕ} {held : ℕ} → callOf h clock jobs t .answer ≡ CallAnswer.taken q
+      → CountsOf h clock (cell h t) marks held xs
+      → MarkedBeside (λ i. jobNumber js i % 256) marks n after
+      → CapacitiesAt (callOf h clock jobs t .table) (h .slots) (h .bridges) clock ys
+      → CountsOf h clock (cell h (callOf h clock jobs t .table)) after (held + n) ys
+  counts-taken {q} {marks} {held = held} taken was beside x =
+      let known = call-accepted h clock jobs t q taken in
+      let u = cell h (callOf h clock jobs t .table) in
+      let valid = call-claim h clock jobs t .valid q taken in
+      record {
+        marks-long = beside .long;
+        used = λ m l.
+            beside .which m l
+            ∙ ap₂ (λ (a b : Bool). a || b) (sym (numbers-are m)) (was .used m l)
+            ∙ or-comm (isOneOf (length jobs) (numberOf jobs) m) (isUsed h (cell h t) m)
+            ∙ sym (left-isUsed h clock jobs (cell h t) u (known .1) valid (known .2) m);
+        jobs = omega (arith, was .jobs, left-jobCount h clock jobs (cell h t) u (known .1) valid (known .2), jobs-length js long n few);
+        long = x .long;
+        capacities = λ k l. x .right k l ∙ capacity-is h clock (callOf h clock jobs t .table) k;
+      }

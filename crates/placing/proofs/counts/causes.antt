@@ -1,0 +1,2 @@
+-- The causes of a call by the counts.
+pub mod CallCauses

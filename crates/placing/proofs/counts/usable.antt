@@ -1,0 +1,2 @@
+-- The cells that a call may use, and their capacities.
+pub mod UsableCells

@@ -1,0 +1,113 @@
+-- `counts::usable::pass_slots` meets its contract. The loop's invariant: where the capacities were those of the first clock, they are those of the clock at slot s. Assumes nothing.
+use native.Mathlib.Omega.{arith}
+use Prim.Native.Nat.{ℕ, _+_, _-_, _≤_, _<_, min}
+use mathlib.Core.Path.{_≡_, sym, _∙_, ap, subst}
+use lib.ListN.{length, getD}
+use Rattle.laws.proofs.Tests.{clash, false-of-not, true-of-not}
+use Rattle.placing.proofs.limits.Within.{limits-of}
+use Rattle.placing.specs.method.Counts.{CapacitiesAt}
+use Rattle.placing.proofs.counts.usable.UsableCells.{eight-le, pass-slot}
+use borrow.Author.Needs.{needs}
+use Rattle.placing.proofs.counts.usable.pass_slots.Statement.{statement}
+use Rattle.placing.proofs.counts.usable.pass_slots.Tie as tie
+
+abbrev Inv-loop : tie.InvT-loop
+Inv-loop slots bridges table from to capacities₀ end s₀ capacities s =
+    (from ≤ to → s ≤ end)
+    × (1 ≤ from → from ≤ to → to ≤ slots + 1 → CapacitiesAt table slots bridges from capacities₀ → CapacitiesAt table slots bridges (s + 1) capacities)
+
+abbrev μ-loop : tie.MeasureT-loop
+μ-loop slots bridges table from to capacities₀ end s₀ capacities s = end - s
+
+in-limits-requires : tie.Need-in-limits-requires Inv-loop μ-loop
+in-limits-requires c κs = search needs
+
+returns : tie.Need-returns Inv-loop μ-loop
+returns c = λ e. absurd (clash (sym e ∙ sym (c .before .in-limits .ensures) ∙ false-of-not _ (c .if1 .taken)))
+
+first-slot-requires : tie.Need-first-slot-requires Inv-loop μ-loop
+first-slot-requires c κs = search needs
+
+first-slot-requires-2 : tie.Need-first-slot-requires-2 Inv-loop μ-loop
+first-slot-requires-2 c κs = search needs
+
+loop-holds : tie.Need-loop-holds Inv-loop μ-loop
+loop-holds c =
+    let a = c .before .before .before .before .before .args in
+    let b = c .first-slot2 .ensures in (
+      λ h. omega (arith, h, b, c .before .first-slot .ensures),
+      λ low up high right.
+          let e : a .from ≡ c .first-slot2 .result + 1 = omega (arith, b, low, up, high) in
+          subst (λ (k : ℕ). CapacitiesAt (a .table .now) (a .slots) (a .bridges) k (a .capacities .now)) e right,
+    )
+
+-- the frame is within the limits, and the slot within the frame
+within : (c : tie.In-loop Inv-loop μ-loop)
+    → let a = c .before .before .before .before .before .before .before .args in
+    (a .slots ≤ 64) × (a .bridges ≤ 8) × (0 ≤ 32) × (512 ≤ length (a .table .now))
+within c =
+    let e = c .before .before .before .before in
+    let a = e .before .before .before .args in
+    limits-of (a .slots) (a .bridges) 0 (length (a .table .now)) (sym (e .before .in-limits .ensures) ∙ true-of-not _ (e .if1 .left))
+
+below : (c : tie.In-loop Inv-loop μ-loop) → c .before .loop .s < 64
+below c = omega (arith, c .loop-test .taken, c .before .before .before .first-slot .ensures, within c .0)
+
+mul-free-in : tie.Need-mul-free-in Inv-loop μ-loop
+mul-free-in c =
+    let a = c .before .before .before .before .before .before .before .args in
+    omega (arith, eight-le (c .before .loop .s) (a .bridges) (below c) (within c .1))
+
+free-in-requires : tie.Need-free-in-requires Inv-loop μ-loop
+free-in-requires c κs =
+    let a = c .before .before .before .before .before .before .before .args in
+    (within c .1, omega (arith, eight-le (c .before .loop .s) (a .bridges) (below c) (within c .1), within c .3))
+
+take-slot-requires : tie.Need-take-slot-requires Inv-loop μ-loop
+take-slot-requires c κs = search needs
+
+add-s : tie.Need-add-s Inv-loop μ-loop
+add-s c = omega (arith, below (c .before .before .before))
+
+loop-less : tie.Need-loop-less Inv-loop μ-loop
+loop-less c = omega arith
+
+loop-again : tie.Need-loop-again Inv-loop μ-loop
+loop-again c =
+    let f = c .before .before in
+    let l = f .before .before .loop in
+    let a = f .before .before .before .before .before .before .before .before .args in (
+      λ h. omega (arith, f .before .loop-test .taken),
+      λ low up high right.
+          let r = l .inv .1 low up high right in
+          pass-slot (a .table .now) (a .slots) (a .bridges) (l .s) (omega (arith, f .before .loop-test .taken, f .before .before .before .before .first-slot .ensures)) r
+          (c .take-slot .ensures .0) (λ k m. c .take-slot .ensures .1 (r .long) k m ∙ ap (λ (z : ℕ). getD (l .capacities) k 0 - min k z) (f .free-in .ensures)),
+    )
+
+returns-2 : tie.Need-returns-2 Inv-loop μ-loop
+returns-2 c =
+    λ e low up high right.
+    let l = c .before .loop in
+    let n = c .before .before .before in
+    let a = n .before .before .before .before .args in
+    let same : l .s + 1 ≡ a .to = omega (arith, l .inv .0 up, c .loop-test .left, n .first-slot .ensures, low, up, high) in
+    subst (λ (k : ℕ). CapacitiesAt (a .table .now) (a .slots) (a .bridges) k (l .capacities)) same (l .inv .1 low up high right)
+
+pub pass-slots-spec : {M : Type 1} → statement M
+pass-slots-spec =
+    tie.close
+    (tie.spec
+    Inv-loop
+    μ-loop
+    in-limits-requires
+    returns
+    first-slot-requires
+    first-slot-requires-2
+    loop-holds
+    mul-free-in
+    free-in-requires
+    take-slot-requires
+    add-s
+    loop-less
+    loop-again
+    returns-2)

@@ -1,0 +1,2 @@
+-- The answers of a plan.
+pub mod PlanAnswers

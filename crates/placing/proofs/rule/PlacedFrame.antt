@@ -1,0 +1,152 @@
+-- What `placedIn` says of a head's frame: with the masks of the free bridges it is the table that `written` and `placing` define.
+--
+-- In order: the needs that are left, the table that `placing` gives and a tabulated list go only by the slots and bridges of the frame (`..-ext`); a table of
+-- masks (`placed-written`), of a plan and of a call (`placed-planned`, `placed-called`).
+-- Assumes nothing.
+use Prim.Native.Nat.{ℕ, zero, suc, _-_, _*_, _/_, _%_, _≤_, _<_, zero-le}
+use native.Mathlib.Nat.{le-refl}
+use native.Mathlib.Omega.{arith}
+use mathlib.Core.Path.{_≡_, refl, _∙_, ap, ap₂}
+use mathlib.Core.Bool.{Bool, false, _&&_, cond}
+use mathlib.Core.List.{List, _∷_, _++_}
+use lib.ListN.{length, drop, length-map}
+use lib.Dec.{eqb}
+use Rattle.laws.specs.Sums.{only, sum, count}
+use Rattle.laws.specs.Lists.{at, tabulate}
+use Rattle.laws.specs.Placement.{chosen, served, left, lrtf}
+use Rattle.laws.specs.Cells.{takes}
+use Rattle.laws.proofs.Tests.{Is, is-true, is-false, is}
+use Rattle.laws.proofs.Comparisons.{ltb-no}
+use Rattle.laws.proofs.Sums.{sum-ext}
+use Rattle.laws.proofs.Counts.{count-ext}
+use Rattle.station.specs.Head.{Head, Job, presetAt, taken}
+use Rattle.placing.specs.Table.{Cells, Each, cell, presetCount, numberAt, mandatoryCell, optionalCell, busyCell, callCell}
+use Rattle.placing.specs.Valid.{jobAt}
+use Rattle.placing.specs.Plan.{placing, freeCount, planFree, planFreeCount, planCell, needs, planned}
+use Rattle.placing.specs.Call.{callFree, lengths, called}
+use Rattle.placing.specs.Outcomes.{written}
+use Rattle.placing.specs.method.Mask.{bridgeMask}
+use Rattle.placing.specs.method.Rule.{jobCell, freeIn, cellIn, placedIn}
+use Rattle.placing.proofs.MaskBits.{taken-mask}
+use Rattle.placing.proofs.rule.SlotsPlaced.{place-of}
+
+pub left-ext : (c : List ℕ) (x y : ℕ → ℕ) (n : ℕ) → ((s : ℕ) → s < n → x s ≡ y s) → (s : ℕ) → s ≤ n → left c x s ≡ left c y s
+unfolding left
+left-ext c x y n h zero l = refl
+left-ext c x y n h (suc s) l = ap₂ served (left-ext c x y n h s (omega arith)) (h s l)
+
+pub tabulate-ext : (n : ℕ) (f g : ℕ → ℕ) → ((i : ℕ) → i < n → f i ≡ g i) → tabulate n f ≡ tabulate n g
+unfolding tabulate
+tabulate-ext zero f g h = refl
+tabulate-ext (suc n) f g h = ap₂ _∷_ (h 0 (omega arith)) (tabulate-ext n (λ i. f (suc i)) (λ i. g (suc i)) (λ i l. h (suc i) (omega arith)))
+
+-- Of n slots and B bridges: free bridges, what the jobs write, and what the bridges that are not free hold.
+module _ (n B : ℕ) (c : List ℕ) (f g : ℕ → ℕ → Bool) (v w : ℕ → ℕ → ℕ) (t u : Cells)
+    (free : (s b : ℕ) → s < n → b < B → f s b ≡ g s b)
+    (writes : (i s : ℕ) → i < length c → s < n → v i s ≡ w i s)
+    (holds : (s b : ℕ) → s < n → b < B → g s b ≡ false → t s b ≡ u s b) where
+  counts : (s b : ℕ) → s < n → b ≤ B → count b (λ a. f s a) ≡ count b (λ a. g s a)
+  counts s b l m = count-ext b (λ a. f s a) (λ a. g s a) (λ a h. free s a l (omega arith))
+
+  lrtf-same : (i s : ℕ) → s < n → lrtf c (freeCount B f) i s ≡ lrtf c (freeCount B g) i s
+  lrtf-same i s l =
+      ap₂ (λ (r : List ℕ) (d : ℕ). chosen (length c) (at r) d i)
+      (left-ext c (freeCount B f) (freeCount B g) n (λ r m. counts r B m (le-refl B)) s (omega arith))
+      (counts s B l (le-refl B))
+
+  pub placing-ext : (s b : ℕ) → s < n → b < B → placing B f c v t s b ≡ placing B g c w u s b
+  unfolding placing
+  placing-ext s b l m = ap (λ (x : Bool). cond x (sum (length c) taken-by-f) (t s b)) (free s b l m) ∙ go (is (g s b))
+    where
+      a : ℕ → Bool
+      a i = lrtf c (freeCount B f) i s
+
+      a′ : ℕ → Bool
+      a′ i = lrtf c (freeCount B g) i s
+
+      taken-by-f : ℕ → ℕ
+      taken-by-f i = only (takes a (λ d. f s d) i b) (v i s)
+
+      taken-by-g : ℕ → ℕ
+      taken-by-g i = only (takes a′ (λ d. g s d) i b) (w i s)
+
+      one : (i : ℕ) → i < length c → taken-by-f i ≡ taken-by-g i
+      one i h =
+          ap₂ only
+          (ap₂ (λ (x : Bool) (y : Bool). x && y)
+          (ap₂ (λ (x : Bool) (y : Bool). x && y) (free s b l m) (lrtf-same i s l))
+          (ap₂ eqb (count-ext i a a′ (λ j q. lrtf-same j s l)) (counts s b l (omega arith))))
+          (writes i s h l)
+
+      go : Is (g s b) → cond (g s b) (sum (length c) taken-by-f) (t s b) ≡ cond (g s b) (sum (length c) taken-by-g) (u s b)
+      go (is-true e) = rw e (sum-ext (length c) taken-by-f taken-by-g one)
+      go (is-false e) = rw e (holds s b l m e)
+
+-- The table that `place` leaves, of a head's frame, where the masks are those of the free bridges f: job i writes v i s in slot s, and where a bridge is not
+-- free the lent table holds what u does.
+pub placed-written : (h : Head) (masks c first early late t : List ℕ) (f : ℕ → ℕ → Bool) (v : ℕ → ℕ → ℕ) (u : Cells)
+    → ((s : ℕ) → s < h .slots → at masks s ≡ bridgeMask (h .bridges) (λ b. f s b))
+    → ((i s : ℕ) → i < length c → s < h .slots → cellIn c (freeCount (h .bridges) f) first early late i s ≡ v i s)
+    → Each h (λ s b. f s b ≡ false → cell h t s b ≡ u s b)
+    → placedIn (h .slots) (h .bridges) masks c first early late t ≡ written h (placing (h .bridges) f c v u) t
+unfolding placedIn written
+placed-written h masks c first early late t f v u masked writes holds =
+    ap (λ (l : List ℕ). l ++ drop (h .slots * B) t) (tabulate-ext (h .slots * B) _ _ one)
+  where
+    B : ℕ
+    B = h .bridges
+
+    free : (s b : ℕ) → s < h .slots → b < B → freeIn masks s b ≡ f s b
+    free s b l m = ap (λ (n : ℕ). taken n b) (masked s l) ∙ taken-mask B (λ a. f s a) b m
+
+    wrote : (i s : ℕ) → i < length c → s < h .slots → cellIn c (freeCount B (freeIn masks)) first early late i s ≡ v i s
+    wrote i s j l =
+        ap (λ (r : List ℕ). jobCell (at c i) (at r i) (at first i) (at early i) (at late i))
+        (left-ext c (freeCount B (freeIn masks)) (freeCount B f) (h .slots)
+        (λ r m. count-ext B (λ b. freeIn masks r b) (λ b. f r b) (λ b k. free r b m k)) s (omega arith))
+        ∙ writes i s j l
+
+    one : (i : ℕ) → i < h .slots * B
+        → placing B (freeIn masks) c (cellIn c (freeCount B (freeIn masks)) first early late) (cell h t) (i / B) (i % B)
+        ≡ placing B f c v u (i / B) (i % B)
+    one i l =
+        let p = place-of (h .slots) B i l in
+        placing-ext (h .slots) B c (freeIn masks) f (cellIn c (freeCount B (freeIn masks)) first early late) v (cell h t) u free wrote holds
+        (i / B) (i % B) (p .0) (p .1)
+
+-- the table of a plan, where busy cells stand in the lent table already
+pub placed-planned : (h : Head) (masks first early late t : List ℕ) → length (needs h) ≡ presetCount h
+    → ((s : ℕ) → s < h .slots → at masks s ≡ bridgeMask (h .bridges) (λ b. planFree h s b))
+    → ((i : ℕ) → i < presetCount h → at first i ≡ presetAt h i .mandatory)
+    → ((i : ℕ) → i < presetCount h → at early i ≡ mandatoryCell (numberAt h i))
+    → ((i : ℕ) → i < presetCount h → at late i ≡ optionalCell (numberAt h i))
+    → Each h (λ s b. planFree h s b ≡ false → cell h t s b ≡ busyCell)
+    → placedIn (h .slots) (h .bridges) masks (needs h) first early late t ≡ written h (planned h) t
+unfolding planned
+placed-planned h masks first early late t long masked mandatory early-cell late-cell busy =
+    placed-written h masks (needs h) first early late t (planFree h) (planCell h (needs h)) (λ s b. busyCell) masked writes busy
+  where
+    writes : (i s : ℕ) → i < length (needs h) → s < h .slots → cellIn (needs h) (planFreeCount h) first early late i s ≡ planCell h (needs h) i s
+    writes i s l m =
+        let j : i < presetCount h = omega (arith, long) in
+        rw (mandatory i j, early-cell i j, late-cell i j) refl
+
+-- the table of a call
+pub placed-called : (h : Head) (clock : ℕ) (jobs : List Job) (masks first early late t : List ℕ)
+    → ((s : ℕ) → s < h .slots → at masks s ≡ bridgeMask (h .bridges) (λ b. callFree h clock jobs (cell h t) s b))
+    → ((i : ℕ) → i < length jobs → at first i ≡ 0)
+    → ((i : ℕ) → i < length jobs → at late i ≡ callCell (jobAt jobs i .number))
+    → placedIn (h .slots) (h .bridges) masks (lengths jobs) first early late t ≡ written h (called h clock jobs (cell h t)) t
+unfolding called
+placed-called h clock jobs masks first early late t masked never late-cell =
+    placed-written h masks (lengths jobs) first early late t (callFree h clock jobs (cell h t)) (λ i s. callCell (jobAt jobs i .number)) (cell h t)
+    masked writes (λ s b l m e. refl)
+  where
+    x : ℕ → ℕ
+    x = freeCount (h .bridges) (callFree h clock jobs (cell h t))
+
+    writes : (i s : ℕ) → i < length (lengths jobs) → s < h .slots
+        → cellIn (lengths jobs) x first early late i s ≡ callCell (jobAt jobs i .number)
+    writes i s l m =
+        let j : i < length jobs = omega (arith, length-map jobs (λ (k : Job). k .slots)) in
+        rw (never i j, ltb-no (at (lengths jobs) i - at (left (lengths jobs) x s) i) 0 zero-le) (late-cell i j)

@@ -1,0 +1,276 @@
+-- Laws of the table slot by slot, as the code places the jobs.
+--
+-- In order: the first slots of the table placed (`SlotsPlaced`): none, one more, all; one turn of the loop (`progress-more`, `progress-over`) and the slots after all
+-- jobs have their cells (`progress-idle`); within the limits and beyond them (`placed-within`, `placed-beyond`).
+-- Assumes nothing.
+use Prim.Native.Nat.{ℕ, zero, suc, _+_, _-_, _*_, _/_, _%_, _≤_, _<_, zero-le}
+use native.Mathlib.Nat.{suc-mul, mul-zero, mul-le-mul, mul-le-mul-right, mod-lt, div-add-mod', div-lt-iff-lt-mul}
+use native.Mathlib.Numerals.{add-one}
+use native.Mathlib.Omega.{arith}
+use mathlib.Core.Path.{_≡_, refl, sym, _∙_, ap}
+use mathlib.Core.Bool.{Bool, true, false, cond, and-false}
+use mathlib.Core.List.{List, _++_}
+use lib.ListN.{length, take, drop, length-take, length-append, length-drop, List·getD-append}
+use lib.Seq.{length-take-le, ext-getD, getD-append-add, getD-drop, getD-take}
+use lib.Dec.{ltb, eqb}
+use Rattle.laws.specs.Sums.{bit, only, sum, position}
+use Rattle.laws.specs.Lists.{at, tabulate}
+use Rattle.laws.specs.Placement.{before, chosen, left, lrtf}
+use Rattle.laws.specs.Cells.{takes, slotCell}
+use Rattle.laws.proofs.Tests.{Is, is-true, is-false, is}
+use Rattle.laws.proofs.Comparisons.{lt-of, ge-of, eq-of, ne-of, ltb-no}
+use Rattle.laws.proofs.Sums.{sum-zero}
+use Rattle.laws.proofs.Counts.{count-none}
+use Rattle.laws.proofs.Lists.{length-tabulate, at-tabulate, at-past}
+use Rattle.laws.proofs.Placement.{left-length, left-step, left-got}
+use Rattle.station.specs.Head.{taken}
+use Rattle.placing.specs.Plan.{placing, freeCount}
+use Rattle.placing.specs.method.Limits.{inLimits}
+use Rattle.placing.specs.method.Rule.{dueCells, RowWritten, EmptyRow, Levelled, freeIn, cellIn, cellsIn, placedIn, placedWithin}
+use Rattle.placing.proofs.WrittenTable.{place-below}
+use Rattle.placing.proofs.MaskBits.{taken-zero}
+use Rattle.placing.proofs.rule.levels.Choice.{sum-past, chosen-past}
+use Rattle.placing.proofs.rule.row.RowWritten.{due-cell, row-as-it-was, slotCell-ext, takes-not-chosen}
+
+-- ---- the table, slot by slot
+
+-- what cell b of slot s is to hold
+abbrev pub cellOf : ℕ → List ℕ → List ℕ → List ℕ → List ℕ → List ℕ → List ℕ → ℕ → ℕ → ℕ
+cellOf B masks c first early late t s b =
+    placing B (freeIn masks) c (cellIn c (freeCount B (freeIn masks)) first early late) (cellsIn B t) s b
+
+-- the slot and the bridge of a cell of n slots and B bridges
+pub place-of : (n B i : ℕ) → i < n * B → (i / B < n) × (i % B < B)
+place-of n zero i h = absurd (omega (arith, mul-zero n))
+place-of n (suc B) i h = let pos : 0 < suc B = omega arith in (div-lt-iff-lt-mul pos .1 h, mod-lt i pos)
+
+-- u is t with the first n slots of B bridges written
+pub record SlotsPlaced (B : ℕ) (w : ℕ → ℕ → ℕ) (t u : List ℕ) (n : ℕ) : Type 0 where
+  pub long : length u ≡ length t
+  pub inside : (s b : ℕ) → s < n → b < B → at u (s * B + b) ≡ w s b
+  pub after : (i : ℕ) → n * B ≤ i → at u i ≡ at t i
+
+module _ (B : ℕ) (w : ℕ → ℕ → ℕ) (t : List ℕ) where
+  pub slots-none : SlotsPlaced B w t t 0
+  slots-none = record { long = refl; inside = λ s b h. absurd (omega arith); after = λ i h. refl }
+
+  pub slots-more : (u v : List ℕ) (n : ℕ) (row : ℕ → ℕ) → SlotsPlaced B w t u n → RowWritten u v (n * B) B row
+      → ((b : ℕ) → b < B → row b ≡ w n b) → SlotsPlaced B w t v (n + 1)
+  slots-more u v n row done r e =
+      record {
+        long = r .long ∙ done .long;
+        inside = λ s b h k. go s b h k (is (eqb s n));
+        after = λ i h. let past : n * B + B ≤ i = omega (arith, next) in r .after i past ∙ done .after i (omega arith);
+      }
+    where
+      next : (n + 1) * B ≡ n * B + B
+      next = ap (λ (m : ℕ). m * B) (add-one n) ∙ suc-mul n B
+
+      go : (s b : ℕ) → s < n + 1 → b < B → Is (eqb s n) → at v (s * B + b) ≡ w s b
+      go s b h k (is-true q) = rw (eq-of s n q) (r .inside b k ∙ e b k)
+      go s b h k (is-false q) =
+          let other : s ≡ n → ⊥ = ne-of s n q in
+          let l : s < n = omega arith in
+          r .before (s * B + b) (place-below n B s b l k) ∙ done .inside s b l k
+
+  -- all slots: the whole list
+  pub slots-all : (u : List ℕ) (n : ℕ) → n * B ≤ length t → SlotsPlaced B w t u n
+      → u ≡ tabulate (n * B) (λ i. w (i / B) (i % B)) ++ drop (n * B) t
+  slots-all u n enough done = ext-getD 0 u (front ++ rest) same-length (λ i h. go i (is (ltb i (n * B))))
+    where
+      front : List ℕ
+      front = tabulate (n * B) (λ i. w (i / B) (i % B))
+
+      rest : List ℕ
+      rest = drop (n * B) t
+
+      same-length : length u ≡ length (front ++ rest)
+      same-length =
+          omega (arith, done .long, length-append front rest, length-tabulate (n * B) (λ i. w (i / B) (i % B)), length-drop (n * B) t)
+
+      go : (i : ℕ) → Is (ltb i (n * B)) → at u i ≡ at (front ++ rest) i
+      go i (is-true q) =
+          let l : i < n * B = lt-of i (n * B) q in
+          let p = place-of n B i l in
+          ap (at u) (sym (div-add-mod' i B))
+          ∙ done .inside (i / B) (i % B) (p .0) (p .1)
+          ∙ sym (List·getD-append front rest 0 i (omega (arith, length-tabulate (n * B) (λ i. w (i / B) (i % B))))
+          ∙ at-tabulate (n * B) (λ i. w (i / B) (i % B)) i l)
+      go i (is-false q) =
+          let l : n * B ≤ i = ge-of i (n * B) q in
+          let over : i ≡ length front + (i - n * B) = omega (arith, length-tabulate (n * B) (λ i. w (i / B) (i % B))) in
+          let back : n * B + (i - n * B) ≡ i = omega arith in
+          done .after i l
+          ∙ sym (ap (at (front ++ rest)) over ∙ getD-append-add front rest (i - n * B) 0 ∙ getD-drop (n * B) t (i - n * B) 0 ∙ ap (at t) back)
+
+-- The row that the code writes in slot s is the rule's. Of the 32 jobs of a mask only those of the list are chosen.
+pub row-rule : (B : ℕ) (masks c first early late t u : List ℕ) (s : ℕ) (a : ℕ → Bool) (v : ℕ → ℕ) → length c ≤ 32
+    → ((i : ℕ) → i < 32 → a i ≡ lrtf c (freeCount B (freeIn masks)) i s)
+    → ((i : ℕ) → i < length c → v i ≡ cellIn c (freeCount B (freeIn masks)) first early late i s)
+    → SlotsPlaced B (cellOf B masks c first early late t) t u s
+    → (b : ℕ) → b < B
+    → slotCell 32 a (λ d. freeIn masks s d) v (λ d. at u (s * B + d)) b ≡ cellOf B masks c first early late t s b
+unfolding placing
+row-rule B masks c first early late t u s a v few p q done b l =
+    ap (λ (n : ℕ). cond (freeIn masks s b) n (at u (s * B + b)))
+    (sum-past (length c) 32 (λ i. only (takes a (λ d. freeIn masks s d) i b) (v i)) few (λ i h m.
+    ap (λ (x : Bool). only x (v i)) (takes-not-chosen a (λ d. freeIn masks s d) i b (p i m ∙ past i h))))
+    ∙ slotCell-ext (length c) a (λ d. freeIn masks s d) v (λ d. at u (s * B + d)) b
+    (λ i. lrtf c x i s)
+    (λ i. cellIn c x first early late i s)
+    (λ d. cellsIn B t s d)
+    (λ i h. p i (omega arith)) q (done .after (s * B + b) (omega arith))
+  where
+    x : ℕ → ℕ
+    x = freeCount B (freeIn masks)
+
+    past : (i : ℕ) → length c ≤ i → lrtf c x i s ≡ false
+    past i h = rw (at-past (left c x s) i (omega (arith, left-length c x s, h))) refl
+
+-- a row of a frame within the limits, and the frame, lie in 512 cells
+module _ (n B : ℕ) (few : n ≤ 64) (narrow : B ≤ 8) where
+  pub frame-within : n * B ≤ 512
+  frame-within = mul-le-mul few narrow
+
+  pub row-within : (s : ℕ) → s < n → s * B + B ≤ 512
+  row-within s h = omega (arith, suc-mul s B, mul-le-mul-right {m = suc s} {n = n} B h, frame-within)
+
+-- ---- one turn of the code's loop
+
+-- Before slot s: the table so far, the array of the first slots that are still due, and the needs that are left by levels, none of them above `top`.
+pub record Progress (B : ℕ) (masks c first early late t : List ℕ) (k s : ℕ) (u l levels : List ℕ) (top : ℕ) : Type 0 where
+  pub table : SlotsPlaced B (cellOf B masks c first early late t) t u s
+  pub due : (i : ℕ) → i < k → at l i ≡ at first i - (at c i - at (left c (freeCount B (freeIn masks)) s) i)
+  pub levelled : Levelled levels (at (left c (freeCount B (freeIn masks)) s))
+  pub most : (i : ℕ) → i < 32 → at (left c (freeCount B (freeIn masks)) s) i ≤ top
+
+-- the jobs of an array of which the first k count
+module _ (B : ℕ) (masks array first early late t : List ℕ) (k : ℕ) where
+  abbrev c : List ℕ
+  c = take k array
+
+  abbrev free : ℕ → ℕ
+  free = freeCount B (freeIn masks)
+
+  -- before the first slot
+  pub progress-none : (levels : List ℕ) (top : ℕ) → Levelled levels (at c) → ((i : ℕ) → i < k → at array i ≤ top)
+      → Progress B masks c first early late t k 0 t first levels top
+  unfolding left
+  progress-none levels top h most =
+      record {
+        table = slots-none B (cellOf B masks c first early late t) t;
+        due = λ i l. omega arith;
+        levelled = h;
+        most = λ i l. go i (is (ltb i k));
+      }
+    where
+      go : (i : ℕ) → Is (ltb i k) → at c i ≤ top
+      go i (is-true e) = omega (arith, getD-take k array i 0 (lt-of i k e), most i (lt-of i k e))
+      go i (is-false e) = omega (arith, at-past c i (omega (arith, length-take k array, ge-of i k e)))
+
+  -- One slot: the choice, the row, what is due after it and the levels, as the code's functions state them.
+  module _ (enough : k ≤ length array) (few : k ≤ 32) (s : ℕ) (u l levels : List ℕ) (top : ℕ)
+      (so-far : Progress B masks c first early late t k s u l levels top) (a : ℕ → Bool)
+      (choice : (i : ℕ) → i < 32 → a i ≡ chosen 32 (at (left c free s)) (free s) i) where
+    long : length c ≡ k
+    long = length-take-le k array enough
+
+    chooses : (i : ℕ) → i < 32 → a i ≡ lrtf c free i s
+    chooses i h =
+        choice i h
+        ∙ chosen-past (length c) 32 (at (left c free s)) (omega (arith, long, few))
+        (λ j m. at-past (left c free s) j (omega (arith, left-length c free s, m))) (free s) i
+
+    after : (i : ℕ) → i < 32 → at (left c free s) i - bit (a i) ≡ at (left c free (s + 1)) i
+    after i h = rw (add-one s) (omega (arith, left-step c free i s, ap bit (chooses i h)))
+
+    wrote : (i : ℕ) → i < length c → dueCells l early late i ≡ cellIn c free first early late i s
+    wrote i h = due-cell l early late i (at c i) (at (left c free s) i) (at first i) (so-far .due i (omega (arith, long, h)))
+
+    pub progress-more : (v m levels′ : List ℕ) (top′ : ℕ) → ((i : ℕ) → i < 32 → at (left c free s) i ≤ top′)
+        → RowWritten u v (s * B) B (slotCell 32 a (taken (at masks s)) (dueCells l early late) (λ b. at u (s * B + b)))
+        → ((i : ℕ) → at m i ≡ at l i - bit (a i))
+        → Levelled levels′ (λ i. at (left c free s) i - bit (a i))
+        → Progress B masks c first early late t k (s + 1) v m levels′ top′
+    progress-more v m levels′ top′ most row rest moved =
+        record {
+          table =
+              slots-more B (cellOf B masks c first early late t) t u v s
+              (slotCell 32 a (taken (at masks s)) (dueCells l early late) (λ b. at u (s * B + b)))
+              (so-far .table) row
+              (row-rule B masks c first early late t u s a (dueCells l early late) (omega (arith, long, few)) chooses wrote (so-far .table));
+          due = λ i h.
+              let step = left-step c free i s in
+              rw (add-one s) (omega (arith, rest i, so-far .due i h, step, left-got c free i s, ap bit (chooses i (omega (arith, h, few)))));
+          levelled = λ q i p r j. moved q i p r j ∙ ap (λ (n : ℕ). eqb n q) (after i j);
+          most = λ i h. omega (arith, after i h, most i h);
+        }
+
+  -- a slot with no free bridge
+  pub progress-over : k ≤ length array → k ≤ 32 → (s : ℕ) (u l levels : List ℕ) (top top′ : ℕ) → Progress B masks c first early late t k s u l levels top
+      → at masks s ≡ 0 → ((i : ℕ) → i < 32 → at (left c free s) i ≤ top′) → Progress B masks c first early late t k (s + 1) u l levels top′
+  progress-over enough few s u l levels top top′ so-far empty most =
+      progress-more enough few s u l levels top so-far (λ i. false) nobody u l levels top′ most
+      (row-as-it-was u (s * B) _ B (λ b h. sym (rw (off b) refl))) (λ i. omega arith)
+      (λ q i p r j. so-far .levelled q i p r j ∙ ap (λ (n : ℕ). eqb n q) (omega arith))
+    where
+      off : (b : ℕ) → freeIn masks s b ≡ false
+      off b = ap (λ (m : ℕ). taken m b) empty ∙ taken-zero b
+
+      nobody : (i : ℕ) → i < 32 → false ≡ chosen 32 (at (left c free s)) (free s) i
+      nobody i h =
+          sym (ap (λ (d : ℕ). chosen 32 (at (left c free s)) d i) (count-none B (λ b. freeIn masks s b) (λ b m. off b))
+          ∙ (rw (ltb-no (position 32 (before (at (left c free s))) i) 0 zero-le) (and-false (ltb 0 (at (left c free s) i)))))
+
+  -- Nobody needs a cell any more, and the free ones of the slots from s on are empty: these are as they are to be.
+  module _ (s : ℕ) (u l levels : List ℕ) (top : ℕ) (so-far : Progress B masks c first early late t k s u l levels top) (few : k ≤ 32)
+      (none : (i : ℕ) → i < 32 → at (left c free s) i ≤ 0) where
+    now : (i : ℕ) → i < length c → at (left c free s) i ≡ 0
+    now i h = omega (arith, none i (omega (arith, h, few, length-take k array)))
+
+    idle : (i : ℕ) → i < length c → (q : ℕ) → s ≤ q → at (left c free q) i ≡ 0
+    idle i h zero m = let first : s ≡ 0 = omega arith in omega (arith, rw first at (now i h))
+    idle i h (suc q) m = go (idle i h q) (is (eqb s (suc q)))
+      where
+        go : (s ≤ q → at (left c free q) i ≡ 0) → Is (eqb s (suc q)) → at (left c free (suc q)) i ≡ 0
+        go ih (is-true e) = rw (eq-of s (suc q) e) at (now i h)
+        go ih (is-false e) = let ne : s ≡ suc q → ⊥ = ne-of s (suc q) e in omega (arith, left-step c free i q, ih (omega (arith, ne, m)))
+
+    as-it-was : (q b : ℕ) → s ≤ q → (freeIn masks q b ≡ true → at t (q * B + b) ≡ 0) → at t (q * B + b) ≡ cellOf B masks c first early late t q b
+    unfolding placing
+    as-it-was q b m clean = go (is (freeIn masks q b))
+      where
+        go : Is (freeIn masks q b) → at t (q * B + b) ≡ cellOf B masks c first early late t q b
+        go (is-true e) =
+            clean e
+            ∙ sym (ap (λ (x : Bool). cond x (sum (length c) (λ i. only (takes (λ j. lrtf c free j q) (λ d. freeIn masks q d) i b) (cellIn c free first early late i q))) (at t (q * B + b))) e
+            ∙ sum-zero (length c) _ (λ i h. ap (λ (x : Bool). only x (cellIn c free first early late i q))
+            (takes-not-chosen (λ j. lrtf c free j q) (λ d. freeIn masks q d) i b (rw (idle i h q m) refl))))
+        go (is-false e) = sym (rw e refl)
+
+    pub progress-idle : (n : ℕ) → s ≤ n → ((q : ℕ) → s ≤ q → q < n → EmptyRow t (q * B) B (freeIn masks q))
+        → SlotsPlaced B (cellOf B masks c first early late t) t u n
+    progress-idle n more clean =
+        record {
+          long = so-far .table .long;
+          inside = λ q b h m. go q b h m (is (ltb q s));
+          after = λ i h. so-far .table .after i (omega (arith, h, mul-le-mul-right {m = s} {n = n} B more));
+        }
+      where
+        go : (q b : ℕ) → q < n → b < B → Is (ltb q s) → at u (q * B + b) ≡ cellOf B masks c first early late t q b
+        go q b h m (is-true e) = so-far .table .inside q b (lt-of q s e) m
+        go q b h m (is-false e) =
+            let past : s ≤ q = ge-of q s e in
+            so-far .table .after (q * B + b) (omega (arith, mul-le-mul-right {m = s} {n = q} B past)) ∙ as-it-was q b past (clean q past h b m)
+
+-- ---- within the limits, and beyond them
+
+module _ (slots bridges : ℕ) (masks needs : List ℕ) (k : ℕ) (first early late t : List ℕ) where
+  pub placed-within : inLimits slots bridges k (length t) ≡ true
+      → placedWithin slots bridges masks needs k first early late t ≡ placedIn slots bridges masks (take k needs) first early late t
+  unfolding placedWithin
+  placed-within e = rw e refl
+
+  pub placed-beyond : inLimits slots bridges k (length t) ≡ false → placedWithin slots bridges masks needs k first early late t ≡ t
+  unfolding placedWithin
+  placed-beyond e = rw e refl

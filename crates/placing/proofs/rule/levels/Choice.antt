@@ -1,0 +1,47 @@
+-- Laws of the choice in one slot: one more job counted, the case of a job that needs something, and jobs past the last one, which need nothing.
+-- Assumes nothing.
+use Prim.Native.Nat.{ℕ, zero, suc, _+_, _≤_, _<_}
+use native.Mathlib.Numerals.{add-one}
+use native.Mathlib.Omega.{arith}
+use mathlib.Core.Path.{_≡_, refl, ap}
+use mathlib.Core.Bool.{Bool, _&&_}
+use lib.Dec.{ltb, eqb}
+use Rattle.laws.specs.Sums.{bit, sum, count, position}
+use Rattle.laws.specs.Placement.{before, chosen}
+use Rattle.laws.proofs.Tests.{Is, is-true, is-false, is}
+use Rattle.laws.proofs.Comparisons.{eq-of, ne-of, lt-of, ltb-yes, ltb-no}
+use Rattle.laws.proofs.Counts.{bit-le}
+
+-- one more is counted, at the code's n + 1
+pub count-more : (n : ℕ) (p : ℕ → Bool) → count (n + 1) p ≡ count n p + bit (p n)
+unfolding sum
+count-more n p = rw (add-one n) refl
+
+-- a sum whose terms past the first k are 0
+pub sum-past : (k n : ℕ) (f : ℕ → ℕ) → k ≤ n → ((j : ℕ) → k ≤ j → j < n → f j ≡ 0) → sum n f ≡ sum k f
+unfolding sum
+sum-past k zero f h none = let same : k ≡ 0 = omega arith in rw same refl
+sum-past k (suc n) f h none = go (λ m. sum-past k n f m (λ j l r. none j l (omega arith))) (is (eqb k (suc n)))
+  where
+    go : (k ≤ n → sum n f ≡ sum k f) → Is (eqb k (suc n)) → sum n f + f n ≡ sum k f
+    go ih (is-true e) = rw (eq-of k (suc n) e) refl
+    go ih (is-false e) =
+        let ne : k ≡ suc n → ⊥ = ne-of k (suc n) e in
+        let l : k ≤ n = omega arith in
+        omega (arith, ih l, none n l (omega arith))
+
+module _ (k : ℕ) (c : ℕ → ℕ) (d i : ℕ) where
+  -- a job that needs something is chosen by its position alone
+  pub chosen-by-position : (c i ≡ 0 → ⊥) → ltb (position k (before c) i) d ≡ chosen k c d i
+  chosen-by-position h = rw (ltb-yes 0 (c i) (omega arith)) refl
+
+-- the choice goes by the jobs that need something
+pub chosen-past : (k n : ℕ) (c : ℕ → ℕ) → k ≤ n → ((j : ℕ) → k ≤ j → c j ≡ 0) → (d i : ℕ) → chosen n c d i ≡ chosen k c d i
+chosen-past k n c h none d i = go (is (ltb 0 (c i)))
+  where
+    go : Is (ltb 0 (c i)) → chosen n c d i ≡ chosen k c d i
+    go (is-true e) =
+        ap (λ (m : ℕ). ltb 0 (c i) && ltb m d)
+        (sum-past k n (λ j. bit (before c j i)) h (λ j l m.
+        ap bit (ltb-no (c i) (c j + bit (ltb j i)) (omega (arith, none j l, bit-le (ltb j i), lt-of 0 (c i) e)))))
+    go (is-false e) = rw e refl

@@ -1,0 +1,2 @@
+-- Masks as sets.
+pub mod Sets

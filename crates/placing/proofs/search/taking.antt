@@ -1,0 +1,2 @@
+-- The walk over the optional cells.
+pub mod CellByCell

@@ -1,0 +1,89 @@
+-- The check of a table as the code does it: in one pass over the cells, each by the cells before it and the presets' numbers, then by the presets and by
+-- the number of jobs. That it is the test `wellFormed` of specs/Table.antt is proved in proofs/check/table/SameTest.antt. Document 01, "The table".
+-- Assumes nothing.
+use Prim.Native.Nat.{ℕ, zero, suc, _+_, _*_, _-_, _≤_}
+use mathlib.Core.Path.{_≡_}
+use mathlib.Core.Bool.{Bool, not, cond, _&&_, _||_}
+use mathlib.Core.List.{List}
+use lib.ListN.{length, getD, set, replicate}
+use lib.Dec.{ltb, leb, eqb}
+use Rattle.laws.specs.Sums.{count, every}
+use Rattle.station.specs.Head.{Head, Preset, taken, noPreset}
+use Rattle.placing.specs.Table.{numberIn, presetCount}
+
+-- ---- counts
+
+-- one more at v; a value past the last has no count
+abbrev pub bump : List ℕ → ℕ → List ℕ
+bump c v = set c v (getD c v 0 + 1)
+
+-- how often each value below m is among f 0, .., f (n - 1)
+unfoldable pub counted : ℕ → (ℕ → ℕ) → ℕ → List ℕ
+counted m f zero = replicate m 0
+counted m f (suc n) = bump (counted m f n) (f n)
+
+-- Where a cell is counted: from the first mandatory cell on, 256 counts for each of the three kinds that have numbers. A cell without a number has none.
+unfoldable pub placeOf : ℕ → ℕ
+placeOf v = cond (ltb v 512) 768 (v - 512)
+
+-- the counts after the first n cells of a table
+unfoldable pub tally : List ℕ → ℕ → List ℕ
+tally t n = counted 768 (λ i. placeOf (getD t i 0)) n
+
+-- the counts of the presets' numbers after the first n presets
+unfoldable pub numbered : List Preset → ℕ → List ℕ
+numbered ps n = counted 256 (λ i. getD ps i noPreset .number) n
+
+-- ---- a slot
+
+-- What one cell may hold, by the counts `ns` of the presets' numbers and the counts c of the cells before it: busy just where the head says so; else empty, a
+-- call cell with a number that no preset has, an optional cell of a preset, or a mandatory one that has no optional cell before it.
+unfoldable pub cellFits : List ℕ → List ℕ → Bool → ℕ → Bool
+cellFits ns c busy v =
+    cond busy (eqb v 256)
+    (cond (ltb v 512) (eqb v 0)
+    (cond (leb 1024 v) (not (eqb v 1024) && (ltb v 1280 && eqb (getD ns (numberIn v) 0) 0))
+    (not (eqb (getD ns (numberIn v) 0) 0) && (leb 768 v || eqb (getD c (v - 512 + 256) 0) 0))))
+
+-- "no number twice in a slot": of the cells from `start` on, the one at a has not the number n, or none
+abbrev pub differs : List ℕ → ℕ → ℕ → ℕ → Bool
+differs t start n a = ltb (getD t (start + a) 0) 512 || not (eqb (numberIn (getD t (start + a) 0)) n)
+
+-- the cell at b of the slot has no number that the slot had before
+abbrev pub isNew : List ℕ → ℕ → ℕ → Bool
+isNew t start b = ltb (getD t (start + b) 0) 512 || every b (differs t start (numberIn (getD t (start + b) 0)))
+
+-- cell (s, b) of a frame with these bridges and busy masks, by the cells before it; then the whole slot
+abbrev pub fitsAt : ℕ → List ℕ → List ℕ → List ℕ → ℕ → ℕ → Bool
+fitsAt bridges busy ns t s b =
+    cellFits ns (tally t (s * bridges + b)) (taken (getD busy b 0) s) (getD t (s * bridges + b) 0) && isNew t (s * bridges) b
+
+unfoldable pub slotFits : ℕ → List ℕ → List ℕ → List ℕ → ℕ → Bool
+slotFits bridges busy ns t s = every bridges (fitsAt bridges busy ns t s)
+
+-- For each number one more than the last slot that has it, or 0. Before slot s none is above s.
+pub record Marks (s : ℕ) (last : List ℕ) : Type 0 where
+  pub size : length last ≡ 256
+  pub most : (n : ℕ) → getD last n 0 ≤ s
+
+-- ---- the presets and the jobs, by the counts of the whole table
+
+-- "exactly m required cells of each preset .. at most o refinement cells of each preset"
+abbrev pub isMet : List ℕ → Preset → Bool
+isMet c p = eqb (getD c (p .number) 0) (p .mandatory) && leb (getD c (256 + p .number) 0) (p .optional)
+
+abbrev pub presetMet : List Preset → List ℕ → ℕ → Bool
+presetMet ps c i = isMet c (getD ps i noPreset)
+
+-- whether a call cell has the number
+abbrev pub hasCall : List ℕ → ℕ → Bool
+hasCall c n = ltb 0 (getD c (512 + n) 0)
+
+-- ---- the whole check
+
+-- "A sound table has ..": what the code computes of a head and a table
+unfoldable pub checked : Head → List ℕ → Bool
+checked h t =
+    every (h .slots) (slotFits (h .bridges) (h .busy) (numbered (h .presets) (presetCount h)) t)
+    && every (presetCount h) (presetMet (h .presets) (tally t (h .slots * h .bridges)))
+    && leb (count 256 (hasCall (tally t (h .slots * h .bridges)))) 64

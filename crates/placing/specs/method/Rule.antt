@@ -1,0 +1,87 @@
+-- What the code's contracts cite: the placing rule over the arrays that the code keeps.
+-- Assumes nothing.
+use Prim.Native.Nat.{ℕ, _+_, _-_, _*_, _/_, _%_, _≤_, _<_}
+use mathlib.Core.Path.{_≡_}
+use mathlib.Core.Bool.{Bool, true, _&&_, cond}
+use mathlib.Core.List.{List, _++_}
+use lib.ListN.{length, take, drop}
+use lib.Bits.{bitAnd, bitXor}
+use lib.Dec.{ltb, eqb}
+use Rattle.laws.specs.Sums.{bit, count}
+use Rattle.laws.specs.Lists.{at, tabulate}
+use Rattle.laws.specs.Placement.{chosen, left}
+use Rattle.station.specs.Head.{taken}
+use Rattle.placing.specs.method.Limits.{inLimits}
+use Rattle.placing.specs.Table.{Cells}
+use Rattle.placing.specs.Plan.{placing, freeCount}
+
+-- the mask a without those of b
+abbrev pub without : ℕ → ℕ → ℕ
+without a b = bitXor a (bitAnd a b)
+
+-- the first d of those that pass a test: of jobs that need the same, "the earlier line first"
+abbrev pub firstOf : (ℕ → Bool) → ℕ → ℕ → Bool
+firstOf f d i = f i && ltb (count i f) d
+
+-- The jobs by levels, a mask a level: job i stands in level l if it still needs l slots. Jobs that need none stand nowhere.
+-- "those with the most slots still to get, never one with none left": whoever goes down the levels meets the jobs in that order.
+abbrev pub Levelled : List ℕ → (ℕ → ℕ) → Type 0
+Levelled t c = (l i : ℕ) → 0 < l → l < 256 → i < 32 → taken (at t l) i ≡ eqb (c i) l
+
+-- One slot with d free cells: the mask r has the jobs that get one, of those with the needs c, and each of them stands one level lower in t.
+-- "as many presets as there are free bridges, those with the most slots still to get, never one with none left".
+pub record Served (t : List ℕ) (c : ℕ → ℕ) (d r : ℕ) : Type 0 where
+  pub picks : (i : ℕ) → i < 32 → taken r i ≡ chosen 32 c d i
+  pub levels : Levelled t (λ i. c i - bit (taken r i))
+
+-- What a job writes that needs `need` slots in all and `rest` of them still: `early` in its first `first` slots, `late` in the others.
+-- "A preset's first m cells in time are required, the rest refinement."
+abbrev pub jobCell : ℕ → ℕ → ℕ → ℕ → ℕ → ℕ
+jobCell need rest first early late = cond (ltb (need - rest) first) early late
+
+-- what job i writes, where arrays say how many of its first slots are still due and what it writes there and after them
+abbrev pub dueCells : List ℕ → List ℕ → List ℕ → ℕ → ℕ
+dueCells due early late i = cond (ltb 0 (at due i)) (at early i) (at late i)
+
+-- u is t with the n cells from `start` on written: cell b of them is w b.
+pub record RowWritten (t u : List ℕ) (start n : ℕ) (w : ℕ → ℕ) : Type 0 where
+  pub long : length u ≡ length t
+  pub inside : (b : ℕ) → b < n → at u (start + b) ≡ w b
+  pub before : (i : ℕ) → i < start → at u i ≡ at t i
+  pub after : (i : ℕ) → start + n ≤ i → at u i ≡ at t i
+
+-- what cell b of a slot holds after its free cells were made empty: any other cell what it held
+abbrev pub emptied : (ℕ → Bool) → (ℕ → ℕ) → ℕ → ℕ
+emptied f t b = cond (f b) 0 (t b)
+
+-- the free ones of the n cells from `start` on are empty
+abbrev pub EmptyRow : List ℕ → ℕ → ℕ → (ℕ → Bool) → Type 0
+EmptyRow t start n f = (b : ℕ) → b < n → f b ≡ true → at t (start + b) ≡ 0
+
+-- the free bridges that a list of masks gives, one mask a slot
+abbrev pub freeIn : List ℕ → ℕ → ℕ → Bool
+freeIn masks s b = taken (at masks s) b
+
+-- what job i writes in slot s, where the jobs with the needs c go by LRTF into the free cells x
+abbrev pub cellIn : List ℕ → (ℕ → ℕ) → List ℕ → List ℕ → List ℕ → ℕ → ℕ → ℕ
+cellIn c x first early late i s = jobCell (at c i) (at (left c x s) i) (at first i) (at early i) (at late i)
+
+-- the cells of a lent table of so many bridges
+abbrev pub cellsIn : ℕ → List ℕ → Cells
+cellsIn bridges t s b = at t (s * bridges + b)
+
+-- from slot `clean` on the free cells of the frame are empty
+abbrev pub CleanFrom : ℕ → ℕ → ℕ → List ℕ → List ℕ → Type 0
+CleanFrom clean slots bridges masks t = (s : ℕ) → clean ≤ s → s < slots → EmptyRow t (s * bridges) bridges (freeIn masks s)
+
+-- The lent table after jobs were placed: by the rule in the cells of the frame, and "Cells past S × B are never changed".
+unfoldable pub placedIn : ℕ → ℕ → List ℕ → List ℕ → List ℕ → List ℕ → List ℕ → List ℕ → List ℕ
+placedIn slots bridges masks c first early late t =
+    tabulate (slots * bridges) (λ i.
+    placing bridges (freeIn masks) c (cellIn c (freeCount bridges (freeIn masks)) first early late) (cellsIn bridges t) (i / bridges) (i % bridges))
+    ++ drop (slots * bridges) t
+
+-- The lent table after `place`, for the first k needs of an array: beyond the limits it is as it was.
+unfoldable pub placedWithin : ℕ → ℕ → List ℕ → List ℕ → ℕ → List ℕ → List ℕ → List ℕ → List ℕ → List ℕ
+placedWithin slots bridges masks needs k first early late t =
+    cond (inLimits slots bridges k (length t)) (placedIn slots bridges masks (take k needs) first early late t) t

@@ -1,0 +1,222 @@
+-- The eviction search as the code goes through it: what it keeps, and what the walk over the refinement cells makes of that. That this is document 01's
+-- rule, "of the smallest sets with which the call fits .. the one whose list comes first", is proved of `evictedSet` of specs/Call.antt, with which it agrees.
+-- Assumes nothing.
+use Prim.Native.Nat.{ℕ, _+_, _*_, _-_, _^_, _/_, _%_, _≤_, _<_}
+use mathlib.Core.Path.{_≡_}
+use mathlib.Core.Bool.{Bool, true, false, cond, _&&_}
+use mathlib.Core.List.{List, [], _∷_, _++_}
+use lib.ListN.{length, getD, set, take, replicate}
+use lib.Bits.{bitOr}
+use lib.Dec.{ltb, leb, eqb}
+use lib.Count as digits
+use Rattle.laws.specs.Sums.{sum, only, count, greatest, position}
+use Rattle.laws.specs.Lists.{at}
+use Rattle.laws.specs.Placement.{before, capacity, excess}
+use Rattle.laws.specs.Eviction.{put, ones}
+use Rattle.station.specs.Head.{Head, Job}
+use Rattle.station.specs.declared.types.Preset as record-of-preset
+use Rattle.station.specs.declared.types.Head as record-of-head
+use Rattle.station.specs.Types.{headIn}
+use Rattle.placing.specs.declared.search.Search.{Search}
+use Rattle.placing.specs.declared.search.taking.Tally.{Tally}
+use Rattle.placing.specs.declared.search.Evicted.{Evicted}
+use Rattle.placing.specs.declared.search.Demand.{Demand}
+use Rattle.placing.specs.method.Limits.{inLimits}
+use Rattle.placing.specs.Table.{Cells, cell, isOptional, isEmpty, numberIn}
+use Rattle.placing.specs.Valid.{usable}
+use Rattle.placing.specs.method.Mask.{bridgeMask}
+use Rattle.placing.specs.Call.{Place, downward, lengths, evictedSet, callFits, callFree}
+
+-- How many of the first n of the needs cs come before that of job i: the longer first, of equal ones the earlier.
+unfoldable pub longerBelow : List ℕ → ℕ → ℕ → ℕ
+longerBelow cs i n = position n (before (at cs)) i
+
+-- what the first n of k needs add to the sum of the r longest of the k
+unfoldable pub longestBelow : List ℕ → ℕ → ℕ → ℕ → ℕ
+longestBelow cs k n r = sum n (λ i. only (ltb (longerBelow cs i k) r) (at cs i))
+
+-- the sum of the r longest of the first k needs
+abbrev pub longest : List ℕ → ℕ → ℕ → ℕ
+longest cs k r = longestBelow cs k k r
+
+-- what the first n of some lines have in all at the value m: w i for each line i whose value v i is m
+unfoldable pub totalAt : (ℕ → ℕ) → (ℕ → ℕ) → ℕ → ℕ → ℕ
+totalAt v w n m = sum n (λ i. only (eqb (v i) m) (w i))
+
+-- the greatest excess of the sums cs over the capacities xs, for r from 0 to k
+unfoldable pub excessUpTo : List ℕ → List ℕ → ℕ → ℕ
+excessUpTo cs xs k = greatest k (λ r. at cs r - at xs r)
+
+-- v is by how much the first k of the needs cs exceed cells whose capacities for 0 to 8 are xs, of whatever slots they are
+abbrev pub ExcessOver : List ℕ → ℕ → List ℕ → ℕ → Type 0
+ExcessOver cs k xs v =
+    (n : ℕ) (x : ℕ → ℕ) → ((r : ℕ) → r < 9 → getD xs r 0 ≡ capacity n x r) → v ≡ excess (length (take k cs)) (at (take k cs)) n x
+
+-- the empty cells among the bridges from a place of the table on
+abbrev pub emptyIn : List ℕ → ℕ → ℕ → Bool
+emptyIn t from b = isEmpty (getD t (from + b) 0)
+
+-- their mask
+unfoldable pub emptyMask : List ℕ → ℕ → ℕ → ℕ
+emptyMask t from n = bridgeMask n (emptyIn t from)
+
+-- The mask of the empty cells of a slot, where nothing before the clock is free: "A call uses slots from the clock on."
+unfoldable pub slotMask : List ℕ → ℕ → ℕ → ℕ → ℕ
+slotMask t bridges clock s = only (usable clock s) (emptyMask t (s * bridges) bridges)
+
+-- By how much sums of the longest jobs exceed the capacities for 0 to k of the free cells x of n slots, at the worst. Where `sums` has the sums of the
+-- r longest of k jobs this is `excess`.
+unfoldable pub shortage : List ℕ → ℕ → ℕ → (ℕ → ℕ) → ℕ
+shortage sums k n x = greatest k (λ r. at sums r - capacity n x r)
+
+-- the same for what the jobs demand
+abbrev pub shortFor : Demand → (ℕ → ℕ) → ℕ
+shortFor d = shortage (d .sums) (d .jobs) (d .slots)
+
+-- What the search has at a point of its walk: for each slot the mask of the bridges that the jobs may use and the number of them, and how many
+-- cells are evicted so far.
+pub record Kept : Type 0 where
+  pub free : List ℕ
+  pub counts : List ℕ
+  pub evicted : ℕ
+
+-- with one more cell
+abbrev pub withCell : Place → Kept → Kept
+withCell z k =
+    record {
+      free = set (k .free) (z .slot) (bitOr (getD (k .free) (z .slot) 0) (2 ^ z .bridge));
+      counts = set (k .counts) (z .slot) (getD (k .counts) (z .slot) 0 + 1);
+      evicted = k .evicted + 1;
+    }
+
+-- one cell of the walk: it is evicted if that lowers the shortage
+unfoldable pub stepped : ((ℕ → ℕ) → ℕ) → Place → Kept → Kept
+stepped short z k = cond (ltb (short (put (at (k .counts)) (z .slot))) (short (at (k .counts)))) (withCell z k) k
+
+-- the walk over a list of cells, one after the other
+unfoldable pub walked : ((ℕ → ℕ) → ℕ) → List Place → Kept → Kept
+walked short [] k = k
+walked short (z ∷ zs) k = walked short zs (stepped short z k)
+
+-- what a search of the code keeps
+abbrev pub keptIn : Search → Kept
+keptIn s = record { free = s .free; counts = s .counts; evicted = s .evicted }
+
+-- a search by its arrays and its numbers, as the parts of the walk pass them
+abbrev pub searchOf : List ℕ → List ℕ → List ℕ → Tally → Search
+searchOf free counts capacities t =
+    record { free = free; counts = counts; capacities = capacities; short = t .short; tight = t .tight; evicted = t .evicted }
+
+-- r is the least number up to k at which the sums cs exceed the capacities xs by `short`, or k where there is none below it
+pub record Tightest (cs xs : List ℕ) (k short r : ℕ) : Type 0 where
+  pub within : r ≤ k
+  pub before : (q : ℕ) → q < r → at cs q - at xs q < short
+  pub here : r < k → short ≤ at cs r - at xs r
+
+-- by how much what the r longest jobs demand exceeds the capacity for r of the free cells x
+abbrev pub overAt : Demand → (ℕ → ℕ) → ℕ → ℕ
+overAt d x r = at (d .sums) r - capacity (d .slots) x r
+
+-- The numbers that the search keeps beside that are right: the capacities for 0 to 8, the shortage, and the least r at which there is as much of it. The bounds
+-- keep sums from overflowing: a cell is taken only where the shortage falls.
+pub record Stands (d : Demand) (s : Search) : Type 0 where
+  pub few-jobs : d .jobs ≤ 8
+  pub few-slots : d .slots ≤ 64
+  pub free-long : length (s .free) ≡ 64
+  pub counts-long : length (s .counts) ≡ 64
+  pub capacities-long : length (s .capacities) ≡ 9
+  pub capacities : (r : ℕ) → r < 9 → getD (s .capacities) r 0 ≡ capacity (d .slots) (at (s .counts)) r
+  pub short : s .short ≡ shortFor d (at (s .counts))
+  pub tight-in : s .tight ≤ d .jobs
+  pub tight-at : overAt d (at (s .counts)) (s .tight) ≡ s .short
+  pub tight-first : (r : ℕ) → r < s .tight → overAt d (at (s .counts)) r < s .short
+  pub few : s .evicted + s .short ≤ 4096
+  pub low : (z : ℕ) → getD (s .counts) z 0 + s .short ≤ 4096
+
+-- what a part of the walk answers: the numbers stand, and what is kept is what the walk over zs makes of what was kept
+pub record Walked (d : Demand) (zs : List Place) (s r : Search) : Type 0 where
+  pub stands : Stands d r
+  pub kept : keptIn r ≡ walked (shortFor d) zs (keptIn s)
+
+-- what the search has before its walk: the empty cells from the clock on
+pub record Starts (t : List ℕ) (bridges clock : ℕ) (d : Demand) (s : Search) : Type 0 where
+  pub stands : Stands d s
+  pub free : (z : ℕ) → getD (s .free) z 0 ≡ only (ltb z (d .slots)) (slotMask t bridges clock z)
+  pub counts : (z : ℕ) → getD (s .counts) z 0 ≡ only (ltb z (d .slots)) (digits.ones (getD (s .free) z 0))
+  pub none : s .evicted ≡ 0
+
+-- ---- The eviction order over a list of cells, with the ranks by number in a list: `evictionOrder`, part by part. "The order of loss: worst rank
+-- first; for one preset the latest slot first."
+
+-- a refinement cell of the preset that has the rank
+abbrev pub ofRank : List ℕ → ℕ → ℕ → Bool
+ofRank ranks rank v = isOptional v && eqb (getD ranks (numberIn v) 0) rank
+
+-- the cells of one rank in a slot, among its first n bridges
+unfoldable pub placesIn : List ℕ → ℕ → List ℕ → ℕ → ℕ → ℕ → List Place
+placesIn t bridges ranks rank slot n =
+    downward n (λ b. cond (ofRank ranks rank (getD t (slot * bridges + b) 0)) (record { slot = slot; bridge = b } ∷ []) [])
+
+-- the cells of one rank in the first n slots, from the clock on
+unfoldable pub placesFrom : List ℕ → ℕ → ℕ → List ℕ → ℕ → ℕ → List Place
+placesFrom t bridges clock ranks rank n =
+    downward n (λ s. cond (usable clock s) (placesIn t bridges ranks rank s bridges) [])
+
+-- the cells of the first n ranks
+unfoldable pub placesOf : List ℕ → ℕ → ℕ → ℕ → List ℕ → ℕ → List Place
+placesOf t bridges slots clock ranks n = downward n (λ r. placesFrom t bridges clock ranks r slots)
+
+-- ---- The refinement cells as chains, one for each rank.
+
+-- the cell at a place of the chains, of which a slot has eight
+abbrev pub placeAt : ℕ → Place
+placeAt c = record { slot = c / 8; bridge = c % 8 }
+
+-- The cells zs are a chain from c on: c is one more than the first one's place, at a cell's place `next` has one more than the place of the cell after it, and 0 ends the chain.
+unfoldable pub Chain : List ℕ → ℕ → List Place → Type 0
+Chain next c [] = c ≡ 0
+Chain next c (z ∷ zs) = (0 < c) × (z ≡ placeAt (c - 1)) × Chain next (getD next (c - 1) 0) zs
+
+-- for each rank the cells `of` it are a chain
+abbrev pub Chains : List ℕ → List ℕ → (ℕ → List Place) → Type 0
+Chains first next of = (r : ℕ) → r < 32 → Chain next (getD first r 0) (of r)
+
+-- the cells of each rank with one cell of a rank before them
+abbrev pub preceded : ℕ → ℕ → (ℕ → List Place) → ℕ → List Place
+preceded rank place of r = cond (eqb rank r) (placeAt place ∷ []) [] ++ of r
+
+-- the chains go down, from below a place
+pub record Linked (first next : List ℕ) (bound : ℕ) : Type 0 where
+  pub first-long : length first ≡ 32
+  pub next-long : length next ≡ 512
+  pub below : (r : ℕ) → getD first r 0 ≤ bound
+  pub down : (c : ℕ) → getD next c 0 ≤ c
+
+-- ---- the answer
+
+-- what is answered where the search keeps k in the end
+abbrev pub answered : Demand → Kept → Evicted
+answered d k = record { fits = eqb (shortFor d (at (k .counts))) 0; count = k .evicted; free = k .free }
+
+-- What the search answers for the head h, the clock, the jobs and the cells t: whether the call fits; "the number of lost cells"; and for each slot
+-- the mask of the bridges that it may use, as "jobs are then placed .. over the empty and lost cells", 0 past the frame.
+pub record Evicts (h : Head) (clock : ℕ) (jobs : List Job) (t : Cells) (r : Evicted) : Type 0 where
+  pub fits : r .fits ≡ callFits h clock jobs t
+  pub count : r .count ≡ ones (evictedSet h clock jobs t)
+  pub free : (s : ℕ) → s < h .slots → getD (r .free) s 0 ≡ bridgeMask (h .bridges) (λ b. callFree h clock jobs t s b)
+  pub past : (s : ℕ) → h .slots ≤ s → getD (r .free) s 0 ≡ 0
+
+-- What the search can look at: a frame, presets and a lent table within the limits, and at most eight jobs.
+abbrev pub searchable : record-of-head.Head → ℕ → ℕ → Bool
+searchable head k cells = leb k 8 && inLimits (head .slots) (head .bridges) (head .count) cells
+
+-- the answer where it cannot: the call does not fit
+abbrev pub unfit : Evicted
+unfit = record { fits = false; count = 0; free = replicate 64 0 }
+
+-- What `evict` answers for a head record, its preset records, the first k needs and a lent table: for all jobs of these lengths what the search finds,
+-- or that the call does not fit where the search cannot look at the frame. A head record that some text yields is within the limits.
+pub record Searched (head : record-of-head.Head) (ps : List record-of-preset.Preset) (clock : ℕ) (needs : List ℕ) (k : ℕ) (t : List ℕ) (r : Evicted) : Type 0 where
+  pub found : searchable head k (length t) ≡ true → (jobs : List Job) → lengths jobs ≡ take k needs
+      → Evicts (headIn head ps) clock jobs (cell (headIn head ps) t) r
+  pub stopped : searchable head k (length t) ≡ false → r ≡ unfit

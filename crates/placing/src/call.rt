@@ -1,0 +1,199 @@
+// A call on a running frame: the causes, by the counts of the table and the clock, then the eviction search, then the jobs into the table. The entry `call` has its presets in
+// a borrowed slice of records, `call_by_value` by value; `call_by_counts` is for who keeps the counts between calls.
+use crate::cells::CALL;
+use crate::check::Cause;
+use crate::check::frame_cause;
+use crate::counts::causes::cause_by_counts;
+use crate::counts::counts_of;
+use crate::counts::mark_jobs;
+use crate::counts::needs::job_needs;
+use crate::counts::usable::capacities_at;
+use crate::rule::place;
+use crate::search::evict;
+use station::records::load;
+use station::records::record_count;
+use station::types::Head;
+use station::types::Job;
+use station::types::Preset;
+use station::types::Refusal;
+ghost use mathlib.Core.Path.{_≡_};
+ghost use mathlib.Core.Bool.{true, false};
+ghost use Prim.Native.Nat.{ℕ, _<_, _≤_};
+ghost use lib.ListN.{length, getD};
+ghost use Rattle.station.specs.Types.{headIn, validRecord};
+ghost use Rattle.placing.specs.Table.{cell, callCell};
+ghost use Rattle.placing.specs.Valid.{jobAt};
+ghost use Rattle.placing.specs.Types.{jobsIn};
+ghost use Rattle.placing.specs.Outcomes.{jobsOutside};
+ghost use Rattle.placing.specs.Claims.{Running, CallClaim};
+ghost use Rattle.placing.specs.Causes.{callJobs};
+ghost use Rattle.placing.specs.method.Counts.{CountsOf};
+ghost use Rattle.placing.specs.CallDone.{CarriedOut, CallDone};
+ghost use Rattle.placing.specs.Entries.{CallEntered};
+
+// The answer: the number of optional cells that the call evicts, or the cause.
+pub enum CallAnswer {
+    Taken(usize),
+    Refused(Refusal),
+}
+
+// The call cell with the number of each of the eight job records; 0 past them. Of jobs within their limits the numbers are the jobs' own.
+fn job_cells(jobs: [Job; 8]) -> [u16; 32]
+    ensures { λ r. ⌜ ((n : ℕ) → n ≤ 8 → jobsOutside (jobsIn n jobs) ≡ false → (i : ℕ) → i < n → getD r i 0 ≡ callCell (jobAt (jobsIn n jobs) i .number)) ⌝ }
+{
+    let mut all = [0u16; 32];
+    let mut i = 0;
+    while i < 8 {
+        let job = jobs[i];
+        all[i] = CALL + job.number % 256;
+        i += 1;
+    }
+    all
+}
+
+// From which slot on no cell is evicted: from the first where none is at all, else only past the frame, since what goes first are the latest cells of a preset.
+fn past_evicted(count: usize, slots: usize) -> usize
+    ensures { λ r. ⌜ (r < slots → count ≡ 0) ⌝ }
+{
+    if count == 0 {
+        return 0;
+    }
+    slots
+}
+
+// Carries out a call that meets no cause but perhaps the last: 7 where it does not fit, and else the table is written.
+fn carry_out(
+    head: Head,
+    presets: [Preset; 32],
+    table: &mut [u16],
+    clock: usize,
+    jobs: [Job; 8],
+    n: usize,
+) -> CallAnswer
+    ensures { λ r. ⌜ (validRecord head presets ≡ true → 512 ≤ length (now (table .entry)) → n ≤ 8 → jobsOutside (jobsIn n jobs) ≡ false
+        → CarriedOut (headIn head presets) clock (jobsIn n jobs) (now (table .entry)) (now (table .exit)) r) ⌝ }
+{
+    let slots = head.slots;
+    let bridges = head.bridges;
+    let needs = job_needs(jobs);
+    let found = evict(table, head, presets, clock, needs, n);
+    if !found.fits {
+        return CallAnswer::Refused(Refusal::CallNotFeasible);
+    }
+    let count = found.count;
+    let free = found.free;
+    let never = [0u8; 32];
+    let cells = job_cells(jobs);
+    let clean = past_evicted(count, slots);
+    place(
+        table,
+        slots,
+        bridges,
+        free,
+        needs,
+        n,
+        never,
+        cells,
+        cells,
+        clean,
+    );
+    CallAnswer::Taken(count)
+}
+
+// Takes a call of the first n jobs on a running frame whose clock is at `clock`, by the counts of its table and clock: the causes 2, 4, 9 of its jobs, then 7 where it
+// does not fit. A refusal changes nothing; a call that is taken brings the counts up to the table that it leaves. Who keeps them between calls need not have the table
+// counted for each. They are lent in their parts: the numbers that are used, how many of them the call cells have, and the capacities.
+pub fn call_by_counts(
+    head: Head,
+    presets: [Preset; 32],
+    table: &mut [u16],
+    clock: usize,
+    jobs: [Job; 8],
+    n: usize,
+    used: &mut [u8; 256],
+    held: &mut usize,
+    capacities: &mut [usize; 9],
+) -> CallAnswer
+    ensures { λ r. ⌜ (validRecord head presets ≡ true → Running (headIn head presets) clock (now (table .entry))
+        → CountsOf (headIn head presets) clock (cell (headIn head presets) (now (table .entry))) (now (used .entry)) (now (held .entry)) (now (capacities .entry))
+        → CallDone head presets clock (callJobs n jobs) (now (table .entry)) (now (table .exit)) r
+        × CountsOf (headIn head presets) clock (cell (headIn head presets) (now (table .exit))) (now (used .exit)) (now (held .exit)) (now (capacities .exit))) ⌝ }
+{
+    if let Cause::Met(r) = cause_by_counts(used, *held, capacities, jobs, n) {
+        return CallAnswer::Refused(r);
+    }
+    let answer = carry_out(head, presets, table, clock, jobs, n);
+    mark_jobs(used, jobs, n);
+    *held = *held + n;
+    *capacities = capacities_at(head.slots, head.bridges, table, clock);
+    answer
+}
+
+// Takes a call of the first n jobs on the frame whose clock is at `clock`: the causes 8, 2, 11, then 2, 4, 9 of its jobs, then 7 where it does not fit. A refusal
+// changes nothing.
+pub fn call_by_value(
+    head: Head,
+    presets: [Preset; 32],
+    table: &mut [u16],
+    clock: usize,
+    jobs: [Job; 8],
+    n: usize,
+) -> CallAnswer
+    ensures done { λ r. ⌜ CallDone head presets clock (callJobs n jobs) (now (table .entry)) (now (table .exit)) r ⌝ }
+    ensures claim { λ _. ⌜ CallClaim (headIn head presets) clock (callJobs n jobs) (now (table .entry)) ⌝ }
+{
+    if let Cause::Met(r) = frame_cause(head, presets, table, clock) {
+        return CallAnswer::Refused(r);
+    }
+    let counts = counts_of(head, presets, table, clock);
+    let mut used = counts.used;
+    let mut held = counts.jobs;
+    let mut capacities = counts.capacities;
+    call_by_counts(
+        head,
+        presets,
+        table,
+        clock,
+        jobs,
+        n,
+        &mut used,
+        &mut held,
+        &mut capacities,
+    )
+}
+
+// Takes a call over the first 32 of so many records, which are in the bank: 8 where there are fewer.
+fn call_counted(
+    records: usize,
+    head: Head,
+    bank: [Preset; 32],
+    table: &mut [u16],
+    clock: usize,
+    jobs: [Job; 8],
+    n: usize,
+) -> CallAnswer
+    ensures { λ r. ⌜ CallEntered records head bank clock (callJobs n jobs) (now (table .entry)) (now (table .exit)) r ⌝ }
+{
+    if records < 32 {
+        return CallAnswer::Refused(Refusal::TooShort);
+    }
+    call_by_value(head, bank, table, clock, jobs, n)
+}
+
+// Takes a call of the first n jobs on the frame whose clock is at `clock`, the presets being the list's first records: the causes 8 (a table below 512 cells or
+// a list below 32 records), 2, 11, then 2, 4, 9 of its jobs, then 7 where it does not fit. A refusal changes nothing.
+pub fn call(
+    head: Head,
+    presets: &[Preset],
+    table: &mut [u16],
+    clock: usize,
+    jobs: [Job; 8],
+    n: usize,
+) -> CallAnswer
+    ensures done { λ r. ⌜ CallEntered (length (now (presets .entry))) head (now (presets .entry)) clock (callJobs n jobs) (now (table .entry)) (now (table .exit)) r ⌝ }
+    ensures claim { λ _. ⌜ CallClaim (headIn head (now (presets .entry))) clock (callJobs n jobs) (now (table .entry)) ⌝ }
+{
+    let records = record_count(presets);
+    let bank = load(presets);
+    call_counted(records, head, bank, table, clock, jobs, n)
+}

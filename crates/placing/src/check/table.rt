@@ -1,0 +1,178 @@
+// The check of a table.
+use crate::cells::BUSY;
+use crate::cells::CALL;
+use crate::cells::MANDATORY;
+use crate::cells::OPTIONAL;
+use crate::cells::VALUES;
+use crate::cells::number_in;
+use station::types::Head;
+use station::types::Preset;
+ghost use mathlib.Core.Path.{_≡_};
+ghost use mathlib.Core.Bool.{true};
+ghost use Prim.Native.Nat.{_+_, _*_, _<_, _≤_};
+ghost use lib.ListN.{length};
+ghost use Rattle.laws.specs.Sums.{every, count};
+ghost use Rattle.station.specs.Types.{headIn, presetIn, validRecord};
+ghost use Rattle.placing.specs.method.Check.{tally, numbered, cellFits, slotFits, Marks, isMet, presetMet, hasCall};
+ghost use Rattle.placing.specs.Table.{cell, wellFormed};
+
+// The cells that have numbers are counted by value, from the first mandatory cell on: how many counts there are, and where those of the optional and of the
+// call cells begin.
+const COUNTS: usize = 768;
+
+const OPTIONALS: usize = 256;
+
+const CALLS: usize = 512;
+
+// Whether a cell may hold v, by the counts of the presets' numbers and of the cells before it: busy just where the head says so.
+fn cell_fits(v: u16, busy: bool, numbers: &[u8; 256], counts: &[u16; COUNTS]) -> bool
+    ensures { λ r. ⌜ r ≡ cellFits (now (numbers .entry)) (now (counts .entry)) busy v ⌝ }
+{
+    if busy {
+        return v == BUSY;
+    }
+    if v < MANDATORY {
+        return v == 0;
+    }
+    let n = number_in(v);
+    if CALL <= v {
+        if v == CALL {
+            return false;
+        }
+        if VALUES <= v {
+            return false;
+        }
+        return numbers[n] == 0;
+    }
+    if numbers[n] == 0 {
+        return false;
+    }
+    if OPTIONAL <= v {
+        return true;
+    }
+    let optional = (v - MANDATORY) as usize + OPTIONALS;
+    counts[optional] == 0
+}
+
+// Whether every cell of the slot may stand there, by the cells before it. Those that have numbers are counted, and their numbers get the slot's mark in `last`,
+// so that a number which has it already stands in the slot twice.
+fn slot_fits(
+    table: &[u16],
+    slot: usize,
+    bridges: usize,
+    busy: &[u64; 8],
+    numbers: &[u8; 256],
+    counts: &mut [u16; COUNTS],
+    last: &mut [u8; 256],
+) -> bool
+    requires { ⌜ (slot < 64) × (bridges ≤ 8) × (512 ≤ length (now table)) × (now counts ≡ tally (now table) (slot * bridges)) × Marks slot (now last) ⌝ }
+    ensures { λ r. ⌜ (r ≡ slotFits bridges (now (busy .entry)) (now (numbers .entry)) (now (table .entry)) slot) × (r ≡ true → now (counts .exit) ≡ tally (now (table .entry)) (slot * bridges + bridges)) × Marks (slot + 1) (now (last .exit)) ⌝ }
+{
+    let start = slot * bridges;
+    let mark = slot as u8 + 1;
+    let mut b = 0;
+    while b < bridges {
+        let at = start + b;
+        let v = table[at];
+        let taken = (busy[b] >> slot) % 2 == 1;
+        if !cell_fits(v, taken, numbers, counts) {
+            return false;
+        }
+        if MANDATORY <= v {
+            let n = number_in(v);
+            if last[n] == mark {
+                return false;
+            }
+            last[n] = mark;
+            let place = (v - MANDATORY) as usize;
+            counts[place] += 1;
+        }
+        b += 1;
+    }
+    true
+}
+
+// How many presets have each number.
+fn preset_numbers(head: Head, presets: [Preset; 32]) -> [u8; 256]
+    requires { ⌜ head .count ≤ 32 ⌝ }
+    ensures { λ r. ⌜ r ≡ numbered (headIn head presets .presets) (head .count) ⌝ }
+{
+    let count = head.count;
+    let mut numbers = [0u8; 256];
+    let mut i = 0;
+    while i < count {
+        let preset = presets[i];
+        let n = preset.number as usize;
+        numbers[n] += 1;
+        i += 1;
+    }
+    numbers
+}
+
+// Whether the preset has just its mandatory cells and at most its optional ones, by the counts of the table.
+fn preset_met(preset: Preset, counts: &[u16; COUNTS]) -> bool
+    ensures { λ r. ⌜ r ≡ isMet (now (counts .entry)) (presetIn preset) ⌝ }
+{
+    let mandatory = preset.number as usize;
+    if counts[mandatory] != preset.mandatory as u16 {
+        return false;
+    }
+    let optional = OPTIONALS + preset.number as usize;
+    counts[optional] <= preset.optional as u16
+}
+
+// The same of every preset.
+fn presets_met(head: Head, presets: [Preset; 32], counts: &[u16; COUNTS]) -> bool
+    requires { ⌜ head .count ≤ 32 ⌝ }
+    ensures { λ r. ⌜ r ≡ every (head .count) (presetMet (headIn head presets .presets) (now (counts .entry))) ⌝ }
+{
+    let count = head.count;
+    let mut i = 0;
+    while i < count {
+        if !preset_met(presets[i], counts) {
+            return false;
+        }
+        i += 1;
+    }
+    true
+}
+
+// How many job numbers the table has.
+fn job_count(counts: &[u16; COUNTS]) -> u16
+    ensures { λ r. ⌜ r ≡ count 256 (hasCall (now (counts .entry))) ⌝ }
+{
+    let mut jobs = 0;
+    let mut n = 0;
+    while n < 256 {
+        let call = CALLS + n;
+        if 0 < counts[call] {
+            jobs += 1;
+        }
+        n += 1;
+    }
+    jobs
+}
+
+// Whether the table is well-formed: slot by slot, each cell by the cells before it, then by the presets and by the number of jobs.
+pub fn well_formed(head: Head, presets: [Preset; 32], table: &[u16]) -> bool
+    requires { ⌜ (validRecord head presets ≡ true) × (512 ≤ length (now table)) ⌝ }
+    ensures { λ r. ⌜ r ≡ wellFormed (headIn head presets) (cell (headIn head presets) (now (table .entry))) ⌝ }
+{
+    let slots = head.slots;
+    let bridges = head.bridges;
+    let busy = head.busy;
+    let numbers = preset_numbers(head, presets);
+    let mut counts = [0u16; COUNTS];
+    let mut last = [0u8; 256];
+    let mut s = 0;
+    while s < slots {
+        if !slot_fits(table, s, bridges, &busy, &numbers, &mut counts, &mut last) {
+            return false;
+        }
+        s += 1;
+    }
+    if !presets_met(head, presets, &counts) {
+        return false;
+    }
+    job_count(&counts) <= 64
+}

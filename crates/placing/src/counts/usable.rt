@@ -1,0 +1,108 @@
+// The capacities of the cells that a call may use: those of a table and a clock, and what is left of them where the clock moves.
+use crate::capacities::capacities_of;
+use crate::cells::is_optional;
+use crate::limits::in_limits;
+use crate::numbers::less;
+use crate::numbers::smaller;
+use crate::search::empty::first_slot;
+ghost use Prim.Native.Nat.{ℕ, _+_, _-_, _<_, _≤_, min};
+ghost use mathlib.Core.Path.{_≡_};
+ghost use mathlib.Core.Bool.{true};
+ghost use lib.ListN.{length, getD};
+ghost use Rattle.laws.specs.Sums.{bit};
+ghost use Rattle.laws.specs.method.Capacities.{ByFree};
+ghost use Rattle.placing.specs.method.Limits.{inLimits};
+ghost use Rattle.placing.specs.method.Counts.{freeCell, freeIn, slotFree, CapacitiesAt};
+
+// 1 for a cell that a call may use, an empty or an optional one; else 0.
+fn free_cell(v: u16) -> u16
+    ensures { λ r. ⌜ (r ≡ bit (freeCell v)) × (r ≤ 1) ⌝ }
+{
+    if v == 0 {
+        return 1;
+    }
+    if is_optional(v) {
+        return 1;
+    }
+    0
+}
+
+// How many cells of the slot whose first cell is at `from` a call may use. Always eight cells are looked at, so that one vector instruction looks at all; those past the
+// slot count for nothing.
+fn free_in(table: &[u16], from: usize, bridges: usize) -> usize
+    requires { ⌜ (bridges ≤ 8) × (from + 8 ≤ length (now table)) ⌝ }
+    ensures { λ r. ⌜ r ≡ freeIn (now (table .entry)) from bridges ⌝ }
+{
+    let mut free: u16 = 0;
+    let mut b = 0;
+    while b < 8 {
+        let one = free_cell(table[from + b]);
+        if b < bridges {
+            free += one;
+        }
+        b += 1;
+    }
+    free as usize
+}
+
+// For 0 to 8 the number of slots that have as many cells that a call may use. A slot before the clock has none.
+fn count_slots(table: &[u16], slots: usize, bridges: usize, clock: usize) -> [usize; 9]
+    requires { ⌜ (slots ≤ 64) × (bridges ≤ 8) × (512 ≤ length (now table)) ⌝ }
+    ensures { λ r. ⌜ ByFree r slots (slotFree (now (table .entry)) bridges clock) ⌝ }
+{
+    let mut with = [0usize; 9];
+    let mut s = first_slot(clock, slots);
+    with[0] = s;
+    while s < slots {
+        let free = free_in(table, s * bridges, bridges);
+        with[free] += 1;
+        s += 1;
+    }
+    with
+}
+
+// The capacities for 0 to 8 of the cells that a call may use, of a table and a clock. Beyond the limits all are 0.
+pub fn capacities_at(slots: usize, bridges: usize, table: &[u16], clock: usize) -> [usize; 9]
+    ensures { λ r. ⌜ (inLimits slots bridges 0 (length (now (table .entry))) ≡ true → CapacitiesAt (now (table .entry)) slots bridges clock r) ⌝ }
+{
+    if !in_limits(slots, bridges, 0, table.len()) {
+        return [0usize; 9];
+    }
+    let with = count_slots(table, slots, bridges, clock);
+    capacities_of(&with, slots)
+}
+
+// Takes a slot that has x free cells off the capacities.
+fn take_slot(capacities: &mut [usize; 9], x: usize)
+    ensures { λ _. ⌜ (length (now (capacities .exit)) ≡ length (now (capacities .entry))) × (length (now (capacities .entry)) ≡ 9 → (r : ℕ) → r < 9 → getD (now (capacities .exit)) r 0 ≡ getD (now (capacities .entry)) r 0 - min r x) ⌝ }
+{
+    let mut r = 0;
+    while r < 9 {
+        capacities[r] = less(capacities[r], smaller(r, x));
+        r += 1;
+    }
+}
+
+// Takes the slots from one clock up to another off the capacities: a call cannot use them any more. Beyond the limits nothing changes.
+pub fn pass_slots(
+    slots: usize,
+    bridges: usize,
+    table: &[u16],
+    from: usize,
+    to: usize,
+    capacities: &mut [usize; 9],
+)
+    ensures { λ _. ⌜ (inLimits slots bridges 0 (length (now (table .entry))) ≡ true → 1 ≤ from → from ≤ to → to ≤ slots + 1
+        → CapacitiesAt (now (table .entry)) slots bridges from (now (capacities .entry)) → CapacitiesAt (now (table .entry)) slots bridges to (now (capacities .exit))) ⌝ }
+{
+    if !in_limits(slots, bridges, 0, table.len()) {
+        return;
+    }
+    let end = first_slot(to, slots);
+    let mut s = first_slot(from, slots);
+    while s < end {
+        let free = free_in(table, s * bridges, bridges);
+        take_slot(capacities, free);
+        s += 1;
+    }
+}

@@ -1,0 +1,101 @@
+// Who gets a cell in one slot: largest remaining time first. The jobs are kept by levels, a mask a level: level l has, as one bit each, those that still
+// need l slots, so that whoever goes down the levels meets those with the most slots still to get first.
+use crate::numbers::wide;
+use crate::rule::masks::without_lowest;
+ghost use mathlib.Core.Path.{_≡_};
+ghost use mathlib.Core.Bool.{_&&_};
+ghost use Prim.Native.Nat.{ℕ, _-_, _<_, _≤_, _^_};
+ghost use lib.ListN.{length, replicate};
+ghost use lib.Count.{ones};
+ghost use lib.Dec.{ltb, eqb};
+ghost use Rattle.laws.specs.Lists.{at};
+ghost use Rattle.station.specs.Head.{taken};
+ghost use Rattle.placing.specs.method.Rule.{without, firstOf, Levelled, Served};
+
+// Puts the first k jobs into levels in which nobody stands, and answers the highest level of a job, or 0.
+pub fn enter(levels: &mut [u32; 256], needs: &[u8; 32], k: usize) -> usize
+    requires { ⌜ (k ≤ 32) × (now levels ≡ replicate 256 0) ⌝ }
+    ensures { λ r. ⌜ (length (now (levels .exit)) ≡ 256)
+        × ((l i : ℕ) → taken (at (now (levels .exit)) l) i ≡ (ltb i k && eqb (at (now (needs .entry)) i) l))
+        × (r < 256) × ((i : ℕ) → i < k → at (now (needs .entry)) i ≤ r) ⌝ }
+{
+    let mut top = 0;
+    for i in 0..k {
+        let l = wide(needs[i]);
+        levels[l] = levels[l] | (1u32 << i);
+        if top < l {
+            top = l;
+        }
+    }
+    top
+}
+
+// The highest level from `from` down in which somebody stands that is not in the mask `served`, or 0.
+pub fn highest(levels: &[u32; 256], from: usize, served: u32) -> usize
+    requires { ⌜ from < 256 ⌝ }
+    ensures { λ r. ⌜ (r ≤ from) × ((l : ℕ) → r < l → l ≤ from → without (at (now (levels .entry)) l) served ≡ 0) ⌝ }
+{
+    let mut l = from;
+    while 0 < l {
+        let level = levels[l];
+        if level ^ (level & served) != 0 {
+            return l;
+        }
+        l -= 1;
+    }
+    0
+}
+
+// The first jobs of a mask, and how many more were asked for.
+pub struct First {
+    pub jobs: u32,
+    pub more: u32,
+}
+
+// The first d jobs of a mask, or all of it: "Equal ones: the earlier line first". The lowest bits go one by one, which costs less than to count them.
+fn first_of(mask: u32, d: u32) -> First
+    ensures { λ r. ⌜ (r .jobs < 2 ^ 32) × ((i : ℕ) → i < 32 → taken (r .jobs) i ≡ firstOf (taken mask) d i) × (r .more ≡ d - ones (r .jobs)) ⌝ }
+{
+    let mut rest = mask;
+    let mut more = d;
+    while 0 < more {
+        if rest == 0 {
+            return First {
+                jobs: mask,
+                more: more,
+            };
+        }
+        rest = without_lowest(rest);
+        more -= 1;
+    }
+    First {
+        jobs: mask ^ rest,
+        more: 0,
+    }
+}
+
+// The jobs that get one of d cells, where nobody stands above level `top`. Each of them moves to the level below; there it is passed over, since it has got a cell.
+pub fn choose(levels: &mut [u32; 256], top: usize, d: u32) -> u32
+    requires { ⌜ (top < 256) × (length (now levels) ≡ 256) ⌝ }
+    ensures { λ r. ⌜ (length (now (levels .exit)) ≡ 256)
+        × ((c : ℕ → ℕ) → Levelled (now (levels .entry)) c → ((i : ℕ) → i < 32 → c i ≤ top) → Served (now (levels .exit)) c d r) ⌝ }
+{
+    let mut served: u32 = 0;
+    let mut rest = d;
+    let mut l = top;
+    while 0 < l {
+        let level = levels[l];
+        let first = first_of(level ^ (level & served), rest);
+        let next = first.jobs;
+        let below = l - 1;
+        levels[l] = level ^ next;
+        levels[below] = levels[below] | next;
+        served = served | next;
+        rest = first.more;
+        if rest == 0 {
+            return served;
+        }
+        l = highest(&*levels, below, served);
+    }
+    served
+}

@@ -1,0 +1,84 @@
+// One slot's row of the table: what each job writes there, who takes which free bridge, and the row itself.
+use crate::rule::masks::next_free;
+use crate::rule::masks::next_job;
+use crate::rule::masks::without_lowest;
+use crate::rule::masks::without_next;
+ghost use mathlib.Core.Path.{_≡_};
+ghost use mathlib.Core.Bool.{false};
+ghost use Prim.Native.Nat.{ℕ, _+_, _-_, _<_, _≤_};
+ghost use lib.ListN.{length, set};
+ghost use Rattle.laws.specs.Sums.{bit};
+ghost use Rattle.laws.specs.Lists.{at};
+ghost use Rattle.laws.specs.Cells.{slotCell};
+ghost use Rattle.station.specs.Head.{taken};
+ghost use Rattle.placing.specs.method.Rule.{dueCells, RowWritten, emptied, EmptyRow};
+
+// What job i writes next, `early[i]` as long as it has cells of that kind due, then `late[i]`; it then has one less due.
+fn next_cell(due: &mut [u8; 32], early: &[u16; 32], late: &[u16; 32], i: usize) -> u16
+    requires { ⌜ (i < 32) × (length (now due) ≡ 32) ⌝ }
+    ensures { λ r. ⌜ (r ≡ dueCells (now (due .entry)) (now (early .entry)) (now (late .entry)) i)
+        × (now (due .exit) ≡ set (now (due .entry)) i (at (now (due .entry)) i - 1)) ⌝ }
+{
+    let rest = due[i];
+    if rest == 0 {
+        return late[i];
+    }
+    due[i] = rest - 1;
+    early[i]
+}
+
+// Empties those bridges of the row that starts at `start` which are left in the mask; the others keep their cells. In most slots the jobs have taken every free bridge,
+// so that it goes from one bridge of the mask to the next.
+fn empty_row(table: &mut [u16], start: usize, bridges: usize, mask: u8)
+    requires { ⌜ (bridges ≤ 8) × (start + bridges ≤ length (now table)) ⌝ }
+    ensures { λ _. ⌜ RowWritten (now (table .entry)) (now (table .exit)) start bridges
+        (emptied (taken mask) (λ b. at (now (table .entry)) (start + b))) ⌝ }
+{
+    let mut rest = mask;
+    while 0 < rest {
+        let b = next_free(rest);
+        if b < bridges {
+            table[start + b] = 0;
+        }
+        rest = without_next(rest);
+    }
+}
+
+// Writes the row that starts at `start`: the free bridges in ascending order take what the chosen jobs write, in their order, or 0; the others keep their cells.
+// A chosen job that finds no free bridge writes nothing. Where the free bridges are empty already, none is emptied: `empties` is then false.
+pub fn write_row(
+    table: &mut [u16],
+    start: usize,
+    bridges: usize,
+    mask: u8,
+    chosen: u32,
+    due: &mut [u8; 32],
+    early: &[u16; 32],
+    late: &[u16; 32],
+    empties: bool,
+)
+    requires { ⌜ (bridges ≤ 8) × (start + bridges ≤ length (now table)) × (length (now due) ≡ 32) ⌝ }
+    ensures { λ _. ⌜ (length (now (table .exit)) ≡ length (now (table .entry))) × (length (now (due .exit)) ≡ 32)
+        × ((i : ℕ) → at (now (due .exit)) i ≡ at (now (due .entry)) i - bit (taken chosen i))
+        × ((empties ≡ false → EmptyRow (now (table .entry)) start bridges (taken mask))
+        → RowWritten (now (table .entry)) (now (table .exit)) start bridges
+        (slotCell 32 (taken chosen) (taken mask) (dueCells (now (due .entry)) (now (early .entry)) (now (late .entry)))
+        (λ b. at (now (table .entry)) (start + b)))) ⌝ }
+{
+    let mut free = mask;
+    let mut jobs = chosen;
+    while 0 < jobs {
+        let i = next_job(jobs);
+        let value = next_cell(due, early, late, i);
+        let b = next_free(free);
+        if b < bridges {
+            table[start + b] = value;
+            free = without_next(free);
+        }
+        jobs = without_lowest(jobs);
+    }
+    if !empties {
+        return;
+    }
+    empty_row(table, start, bridges, free);
+}

@@ -1,0 +1,142 @@
+// The eviction search: which optional cells a call evicts, and over which cells its jobs are then placed.
+pub(crate) mod longest; // longest.rt: the sums of the longest jobs
+pub(crate) mod empty; // empty.rt: the empty cells that a call may use
+pub(crate) mod excess; // excess.rt: by how much sums exceed capacities
+mod ranks; // ranks.rt: the ranks of the presets
+mod links; // links.rt: the optional cells as chains
+mod taking; // taking.rt: the walk over them
+
+use crate::capacities::capacities_of;
+use crate::capacities::slot_counts;
+use crate::limits::in_limits;
+use crate::search::empty::slot_masks;
+use crate::search::excess::excess;
+use crate::search::excess::tightest;
+use crate::search::longest::longest_sums;
+use crate::search::taking::walk;
+use station::types::Head;
+use station::types::Preset;
+ghost use Prim.Native.Nat.{ℕ, _-_, _<_, _≤_};
+ghost use mathlib.Core.Path.{_≡_};
+ghost use mathlib.Core.Bool.{true};
+ghost use mathlib.Core.List.{List};
+ghost use lib.ListN.{length, getD, take};
+ghost use Rattle.station.specs.Head.{Job};
+ghost use Rattle.station.specs.Types.{headIn};
+ghost use Rattle.placing.specs.Table.{cell};
+ghost use Rattle.placing.specs.Call.{lengths};
+ghost use Rattle.placing.specs.method.Search.{Starts, Evicts, searchable, unfit, Searched};
+
+// The answer: whether the call fits, how many cells are evicted, and for each slot the mask of the bridges that its jobs may use.
+pub struct Evicted {
+    pub fits: bool,
+    pub count: usize,
+    pub free: [u8; 64],
+}
+
+// What the jobs demand: how many they are, the sums of the r longest for r from 0 to as many, and the number of slots in which they are to have it.
+pub struct Demand {
+    pub slots: usize,
+    pub jobs: usize,
+    pub sums: [usize; 9],
+}
+
+// What the search keeps: for each slot the mask of the bridges that the jobs may use and the number of them, the capacities for 0 to 8, the shortage, the least
+// number of jobs that are short by as much, and how many cells are evicted so far.
+pub struct Search {
+    pub free: [u8; 64],
+    pub counts: [usize; 64],
+    pub capacities: [usize; 9],
+    pub short: usize,
+    pub tight: usize,
+    pub evicted: usize,
+}
+
+// What the search has before its walk: the empty cells from the clock on.
+fn starting(table: &[u16], bridges: usize, clock: usize, demand: Demand) -> Search
+    requires { ⌜ (bridges ≤ 8) × (demand .slots ≤ 64) × (demand .jobs ≤ 8) × (512 ≤ length (now table)) × ((r : ℕ) → r < 9 → getD (demand .sums) r 0 ≤ 2040) ⌝ }
+    ensures { λ s. ⌜ Starts (now (table .entry)) bridges clock demand s ⌝ }
+{
+    let slots = demand.slots;
+    let jobs = demand.jobs;
+    let sums = demand.sums;
+    let free = slot_masks(table, bridges, clock, slots);
+    let mut with = [0usize; 9];
+    let counts = slot_counts(&free, slots, &mut with);
+    let capacities = capacities_of(&with, slots);
+    let short = excess(&sums, &capacities, jobs);
+    let tight = tightest(&sums, &capacities, jobs, short);
+    Search {
+        free: free,
+        counts: counts,
+        capacities: capacities,
+        short: short,
+        tight: tight,
+        evicted: 0,
+    }
+}
+
+// The search of a frame within the limits: for jobs with the first k needs, whether the call fits, how many cells are evicted, and for each slot the mask of the bridges
+// that the jobs may use, the empty ones from the clock on and the evicted ones; 0 before the clock and past the frame. Where the call does not fit,
+// the evicted ones are those that lower the shortage, which then stays above 0. Where the empty cells are enough, no other cell is looked at.
+fn evict_in_limits(
+    table: &[u16],
+    head: Head,
+    presets: [Preset; 32],
+    clock: usize,
+    needs: [u8; 32],
+    k: usize,
+) -> Evicted
+    requires { ⌜ searchable head k (length (now table)) ≡ true ⌝ }
+    ensures { λ r. ⌜ ((jobs : List Job) → lengths jobs ≡ take k needs → Evicts (headIn head presets) clock jobs (cell (headIn head presets) (now (table .entry))) r) ⌝ }
+{
+    let sums = longest_sums(&needs, k);
+    let demand = Demand {
+        slots: head.slots,
+        jobs: k,
+        sums: sums,
+    };
+    let start = starting(table, head.bridges, clock, demand);
+    if start.short == 0 {
+        let free = start.free;
+        return Evicted {
+            fits: true,
+            count: 0,
+            free: free,
+        };
+    }
+    walk(table, head, presets, clock, demand, start)
+}
+
+// The answer where nothing is looked at: the call does not fit.
+fn unfit() -> Evicted
+    ensures { λ r. ⌜ r ≡ unfit ⌝ }
+{
+    let none = [0u8; 64];
+    Evicted {
+        fits: false,
+        count: 0,
+        free: none,
+    }
+}
+
+// The eviction search: for jobs with the first k needs, whether the call fits, how many cells are evicted, and which bridges its jobs may use. Where the
+// frame, the table or k is beyond the limits, nothing is read and the call does not fit.
+pub fn evict(
+    table: &[u16],
+    head: Head,
+    presets: [Preset; 32],
+    clock: usize,
+    needs: [u8; 32],
+    k: usize,
+) -> Evicted
+    ensures { λ r. ⌜ Searched head presets clock needs k (now (table .entry)) r ⌝ }
+{
+    if 8 < k {
+        return unfit();
+    }
+    if !in_limits(head.slots, head.bridges, head.count, table.len()) {
+        return unfit();
+    }
+    evict_in_limits(table, head, presets, clock, needs, k)
+}

@@ -1,0 +1,179 @@
+// The walk over the optional cells in eviction order: a cell that lowers the shortage is evicted.
+use crate::search::Demand;
+use crate::search::Evicted;
+use crate::search::Search;
+use crate::search::empty::bridge_bit;
+use crate::search::excess::tightest;
+use crate::search::links::link_slots;
+use crate::search::longest::raise;
+use crate::search::ranks::ranks_of;
+use station::types::Head;
+use station::types::Preset;
+ghost use Prim.Native.Nat.{ℕ, _+_, _*_, _-_, _<_, _≤_};
+ghost use mathlib.Core.Path.{_≡_};
+ghost use mathlib.Core.Bool.{true};
+ghost use mathlib.Core.List.{List, [], _∷_};
+ghost use lib.ListN.{length, getD};
+ghost use Rattle.station.specs.Types.{headIn};
+ghost use Rattle.placing.specs.Table.{cell};
+ghost use Rattle.placing.specs.Call.{Place, downward, evictionOrder};
+ghost use Rattle.placing.specs.method.Search.{searchOf, Stands, shortFor, keptIn, walked, Walked, Chain, Chains, Linked, answered, searchable};
+
+// The numbers of a search, beside its arrays, which the walk changes in place.
+pub struct Tally {
+    pub short: usize,
+    pub tight: usize,
+    pub evicted: usize,
+}
+
+// The least number of jobs that are short by as much, after one cell more in a slot with x free ones, where it was `tight`: `found` of those up to x, or as before, since
+// for more jobs than x the excess fell as much as the shortage did.
+fn tight_after(found: usize, x: usize, tight: usize) -> usize
+    ensures { λ r. ⌜ (found ≤ x → r ≡ found) × (x < found → r ≡ tight) ⌝ }
+{
+    if x < found {
+        return tight;
+    }
+    found
+}
+
+// Evicts a cell that lowers the shortage: one in a slot with fewer free cells than the least number of jobs that are short by as much. The shortage
+// is then less by 1.
+fn take_cell(
+    demand: Demand,
+    free: &mut [u8; 64],
+    counts: &mut [usize; 64],
+    capacities: &mut [usize; 9],
+    kept: Tally,
+    slot: usize,
+    bridge: usize,
+) -> Tally
+    requires { ⌜ (slot < demand .slots) × (bridge < 8) × Stands demand (searchOf (now free) (now counts) (now capacities) kept) × (getD (now counts) slot 0 < kept .tight) ⌝ }
+    ensures { λ r. ⌜ Walked demand (record { slot = slot; bridge = bridge } ∷ []) (searchOf (now (free .entry)) (now (counts .entry)) (now (capacities .entry)) kept) (searchOf (now (free .exit)) (now (counts .exit)) (now (capacities .exit)) r) ⌝ }
+{
+    let sums = demand.sums;
+    let x = counts[slot];
+    let short = kept.short - 1;
+    free[slot] = free[slot] | bridge_bit(bridge);
+    counts[slot] = x + 1;
+    raise(capacities, x, 8, 1);
+    let found = tightest(&sums, capacities, x + 1, short);
+    let tight = tight_after(found, x, kept.tight);
+    Tally {
+        short: short,
+        tight: tight,
+        evicted: kept.evicted + 1,
+    }
+}
+
+// The walk over a chain of cells: those that lower the shortage are evicted.
+fn through_chain(
+    next: &[u16; 512],
+    from: usize,
+    demand: Demand,
+    free: &mut [u8; 64],
+    counts: &mut [usize; 64],
+    capacities: &mut [usize; 9],
+    kept: Tally,
+) -> Tally
+    requires { ⌜ (from ≤ demand .slots * 8) × ((c : ℕ) → getD (now next) c 0 ≤ c) × Stands demand (searchOf (now free) (now counts) (now capacities) kept) ⌝ }
+    ensures { λ r. ⌜ Stands demand (searchOf (now (free .exit)) (now (counts .exit)) (now (capacities .exit)) r) × ((zs : List Place) → Chain (now (next .entry)) from zs → Walked demand zs (searchOf (now (free .entry)) (now (counts .entry)) (now (capacities .entry)) kept) (searchOf (now (free .exit)) (now (counts .exit)) (now (capacities .exit)) r)) ⌝ }
+{
+    let mut current = kept;
+    let mut c = from;
+    while 0 < c {
+        let place = c - 1;
+        let slot = place / 8;
+        c = next[place] as usize;
+        if counts[slot] < current.tight {
+            let taken = take_cell(demand, free, counts, capacities, current, slot, place % 8);
+            current = taken;
+        }
+    }
+    current
+}
+
+// The walk over the chains of the first n ranks, from the worst down. It ends as soon as there is no shortage.
+fn through_ranks(
+    first: &[u16; 32],
+    next: &[u16; 512],
+    n: usize,
+    demand: Demand,
+    free: &mut [u8; 64],
+    counts: &mut [usize; 64],
+    capacities: &mut [usize; 9],
+    kept: Tally,
+) -> Tally
+    requires { ⌜ (n ≤ 32) × Linked (now first) (now next) (demand .slots * 8) × Stands demand (searchOf (now free) (now counts) (now capacities) kept) ⌝ }
+    ensures { λ r. ⌜ ((of : ℕ → List Place) → Chains (now (first .entry)) (now (next .entry)) of → Walked demand (downward n of) (searchOf (now (free .entry)) (now (counts .entry)) (now (capacities .entry)) kept) (searchOf (now (free .exit)) (now (counts .exit)) (now (capacities .exit)) r)) ⌝ }
+{
+    let mut current = kept;
+    let mut r = n;
+    while 0 < r {
+        if current.short == 0 {
+            return current;
+        }
+        r -= 1;
+        let walked = through_chain(
+            next,
+            first[r] as usize,
+            demand,
+            free,
+            counts,
+            capacities,
+            current,
+        );
+        current = walked;
+    }
+    current
+}
+
+// The walk over the refinement cells from what the search starts with, and its answer.
+pub(crate) fn walk(
+    table: &[u16],
+    head: Head,
+    presets: [Preset; 32],
+    clock: usize,
+    demand: Demand,
+    start: Search,
+) -> Evicted
+    requires { ⌜ (searchable head (demand .jobs) (length (now table)) ≡ true) × (demand .slots ≡ head .slots) × Stands demand start ⌝ }
+    ensures { λ r. ⌜ r ≡ answered demand (walked (shortFor demand) (evictionOrder (headIn head presets) clock (cell (headIn head presets) (now (table .entry)))) (keptIn start)) ⌝ }
+{
+    let count = head.count;
+    let mut free = start.free;
+    let mut counts = start.counts;
+    let mut capacities = start.capacities;
+    let tally = Tally {
+        short: start.short,
+        tight: start.tight,
+        evicted: start.evicted,
+    };
+    let ranks = ranks_of(presets, count);
+    let mut first = [0u16; 32];
+    let mut next = [0u16; 512];
+    link_slots(
+        table,
+        head.bridges,
+        clock,
+        demand.slots,
+        &ranks,
+        &mut first,
+        &mut next,
+    );
+    let end = through_ranks(
+        &first,
+        &next,
+        count,
+        demand,
+        &mut free,
+        &mut counts,
+        &mut capacities,
+        tally,
+    );
+    Evicted {
+        fits: end.short == 0,
+        count: end.evicted,
+        free: free,
+    }
+}

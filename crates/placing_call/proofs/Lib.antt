@@ -1,3 +1,0 @@
--- The laws that a call cites.
-pub mod Calling
-pub mod Clean

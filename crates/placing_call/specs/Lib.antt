@@ -1,2 +1,0 @@
--- What a call is held to.
-pub mod Calling

@@ -1,2 +1,0 @@
--- What the entries plan and call are held to.
-pub mod Entered

@@ -1,2 +1,0 @@
--- What the eviction search's code is held to.
-pub mod Evict

@@ -1,3 +1,0 @@
--- The laws that the grants' code cites.
-pub mod Granting
-pub mod Granted

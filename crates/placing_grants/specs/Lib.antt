@@ -1,2 +1,0 @@
--- What the grants' code is held to.
-pub mod Granting

@@ -1,2 +1,0 @@
--- The laws that a plan cites.
-pub mod Planning

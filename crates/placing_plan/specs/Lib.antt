@@ -1,2 +1,0 @@
--- What a plan is held to.
-pub mod Planning

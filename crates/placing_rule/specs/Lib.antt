@@ -1,2 +1,0 @@
--- What the placing rule's code is held to.
-pub mod Code

@@ -1,0 +1,82 @@
+-- Laws of the layout, record by record and number by number, as the code reads and writes them.
+--
+-- In order: one record of those read (`record-read`), one more read into the bank (`read-more`, `read-all`); a record written byte by byte (`record-written`), one more
+-- of them (`write-more`, `written-all`); one more number written (`number-more`, `numbers-all`); a frame written number by number (`frame-written`).
+-- Assumes nothing.
+use Prim.Native.Nat.{ℕ, zero, suc, _+_, _*_, _≤_, _<_}
+use native.Mathlib.Omega.{arith}
+use mathlib.Core.Path.{_≡_, refl, sym, _∙_, ap}
+use mathlib.Core.List.{List, [], _∷_}
+use lib.ListN.{length, getD, set, take, drop, drop-of-length-le}
+use lib.Seq.{sets, drop-cons, getD-drop, take-suc, take-suc-set, take-all}
+use Rattle.station.specs.declared.types.Preset.{Preset}
+use Rattle.station.specs.declared.types.Head.{Head}
+use Rattle.station.specs.Types.{noRecord}
+use Rattle.planner.specs.Layout.{recordAt, firstRecords, recordsIn, bytesOf, numbersOver}
+use Rattle.planner.proofs.RoundTrip.{length-records}
+
+-- the record at place i of those read
+pub record-read : (n i : ℕ) (l : List ℕ) → i < n → getD (firstRecords n l) i noRecord ≡ recordAt l i
+unfolding firstRecords
+record-read zero i l h = absurd (omega arith)
+record-read (suc n) zero l h = refl
+record-read (suc n) (suc i) l h = record-read n i (drop 4 l) (omega arith) ∙ here
+  where
+    at : (k m : ℕ) → 4 + k ≡ m → getD (drop 4 l) k 0 ≡ getD l m 0
+    at k m e = getD-drop 4 l k 0 ∙ ap (λ (j : ℕ). getD l j 0) e
+
+    here : recordAt (drop 4 l) i ≡ recordAt l (suc i)
+    here =
+        rw (at (4 * i) (4 * suc i) (omega arith), at (4 * i + 1) (4 * suc i + 1) (omega arith), at (4 * i + 2) (4 * suc i + 2) (omega arith), at (4 * i + 3) (4 * suc i + 3) (omega arith))
+        refl
+
+-- one more record read into the bank
+pub read-more : (bank : List Preset) (l : List ℕ) (i : ℕ) {p : Preset} → i < 32 → length bank ≡ 32 → take i bank ≡ take i (recordsIn l) → p ≡ recordAt l i
+    → take (i + 1) (set bank i p) ≡ take (i + 1) (recordsIn l)
+read-more bank l i h long e p =
+    let next : i + 1 ≡ suc i = omega arith in
+    rw (p, next, take-suc-set bank i (recordAt l i) (omega (arith, long)), take-suc (recordsIn l) i noRecord (omega (arith, length-records 32 l)), e, record-read 32 i l h) refl
+
+pub read-all : (bank : List Preset) (l : List ℕ) (i : ℕ) → 32 ≤ i → i ≤ 32 → length bank ≡ 32 → take i bank ≡ take i (recordsIn l) → bank ≡ recordsIn l
+read-all bank l i low high long e =
+    sym (take-all i bank (omega (arith, long))) ∙ e ∙ take-all i (recordsIn l) (omega (arith, length-records 32 l))
+
+-- a record written byte by byte
+pub record-written : (p : Preset) (l : List ℕ) (k : ℕ) {l₁ l₂ l₃ l₄ : List ℕ}
+    → l₁ ≡ set l k (p .number) → l₂ ≡ set l₁ (k + 1) (p .priority) → l₃ ≡ set l₂ (k + 2) (p .mandatory) → l₄ ≡ set l₃ (k + 3) (p .optional) → l₄ ≡ sets l k (bytesOf (p ∷ []))
+unfolding bytesOf
+record-written p l k e₁ e₂ e₃ e₄ =
+    let one : k + 1 ≡ suc k = omega arith in
+    let two : k + 2 ≡ suc (suc k) = omega arith in
+    let three : k + 3 ≡ suc (suc (suc k)) = omega arith in
+    rw (e₄, e₃, e₂, e₁, one, two, three) refl
+
+-- one more record written: the rest of them is still to be
+pub write-more : (bank : List Preset) (l : List ℕ) (i : ℕ) {p : Preset} {l₁ : List ℕ} → i < length bank → p ≡ getD bank i noRecord → l₁ ≡ sets l (4 * i) (bytesOf (p ∷ []))
+    → sets l₁ (4 * (i + 1)) (bytesOf (drop (i + 1) bank)) ≡ sets l (4 * i) (bytesOf (drop i bank))
+unfolding bytesOf
+write-more bank l i h p e =
+    let next : i + 1 ≡ suc i = omega arith in
+    let four : 4 * suc i ≡ suc (suc (suc (suc (4 * i)))) = omega arith in
+    rw (e, p, next, four, drop-cons bank i noRecord h) refl
+
+pub written-all : (bank : List Preset) (l : List ℕ) (i : ℕ) {all : List ℕ} → length bank ≤ i → sets l (4 * i) (bytesOf (drop i bank)) ≡ all → l ≡ all
+unfolding bytesOf
+written-all bank l i h e = rw (drop-of-length-le bank h) at e
+
+-- ---- numbers
+
+-- one more number written, at place k: the rest of them is still to be
+pub number-more : (vs l : List ℕ) (i k next : ℕ) {l₁ : List ℕ} → next ≡ suc k → i < length vs → l₁ ≡ set l k (getD vs i 0)
+    → sets l₁ next (drop (i + 1) vs) ≡ sets l k (drop i vs)
+number-more vs l i k next n h e =
+    let one : i + 1 ≡ suc i = omega arith in
+    rw (e, n, one, drop-cons vs i 0 h) refl
+
+pub numbers-all : (vs l : List ℕ) (i k : ℕ) {all : List ℕ} → length vs ≤ i → sets l k (drop i vs) ≡ all → l ≡ all
+numbers-all vs l i k h e = rw (drop-of-length-le vs h) at e
+
+-- a head and a clock written number by number
+pub frame-written : (head : Head) (clock : ℕ) (l : List ℕ) {l₁ l₂ l₃ l₄ l₅ : List ℕ}
+    → l₁ ≡ set l 0 (head .slots) → l₂ ≡ set l₁ 1 (head .bridges) → l₃ ≡ set l₂ 2 (head .count) → l₄ ≡ set l₃ 3 clock → l₅ ≡ sets l₄ 4 (head .busy) → l₅ ≡ numbersOver head clock l
+frame-written head clock l e₁ e₂ e₃ e₄ e₅ = rw (e₅, e₄, e₃, e₂, e₁) refl

@@ -1,0 +1,27 @@
+-- `numbers::set_number` meets its contract: past the end `set` changes nothing. Assumes nothing.
+use borrow.Author.Needs.{needs}
+use mathlib.Core.Path.{sym}
+use lib.Seq.{set-out}
+use Rattle.planner.proofs.numbers.set_number.Statement.{statement}
+use Rattle.planner.proofs.numbers.set_number.Tie as tie
+
+mul-numbers : tie.Need-mul-numbers
+mul-numbers c = search needs
+
+slice-write-numbers : tie.Need-slice-write-numbers
+slice-write-numbers c = search needs
+
+same-length : tie.Need-same-length
+same-length c = search needs
+
+returns : tie.Need-returns
+returns c = search needs
+
+returns-2 : tie.Need-returns-2
+returns-2 c =
+    let a = c .before .args in
+    sym (set-out (a .numbers .now) (a .i) (a .given) (c .if1 .left))
+
+pub set-number-spec : {M : Type 1} → statement M
+set-number-spec =
+    tie.close (tie.spec mul-numbers slice-write-numbers same-length returns returns-2)

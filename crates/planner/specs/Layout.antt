@@ -1,0 +1,59 @@
+-- The layout of what a caller in another language lends: preset records as bytes, a frame as numbers. It is defined here and nowhere else; that reading and
+-- writing are inverse is proved in proofs/RoundTrip.antt.
+--
+-- In order: the bytes of preset records, read (`recordsIn`) and written (`bytesOver`); the numbers of a frame, read (`headOfNumbers`, `clockOfNumbers`) and
+-- written (`numbersOver`, `clockOver`).
+-- Assumes nothing.
+use Prim.Native.Nat.{ℕ, zero, suc, _+_, _*_}
+use mathlib.Core.List.{List, [], _∷_}
+use lib.ListN.{getD, set, drop}
+use lib.Seq.{sets}
+use Rattle.laws.specs.Lists.{tabulate}
+use Rattle.station.specs.declared.types.Preset.{Preset}
+use Rattle.station.specs.declared.types.Head.{Head}
+
+-- ---- "Presets stand in a lent list of records, in file order."
+
+-- A record is four bytes, number, priority, mandatory and optional slots; record i stands at 4 i.
+abbrev pub recordAt : List ℕ → ℕ → Preset
+recordAt l i = record {
+  number = getD l (4 * i) 0;
+  priority = getD l (4 * i + 1) 0;
+  mandatory = getD l (4 * i + 2) 0;
+  optional = getD l (4 * i + 3) 0;
+}
+
+-- the first n records of a list of bytes, one after the other
+unfoldable pub firstRecords : ℕ → List ℕ → List Preset
+firstRecords zero l = []
+firstRecords (suc n) l = recordAt l 0 ∷ firstRecords n (drop 4 l)
+
+-- the 32 records of the first 128 bytes: so many presets a head may have
+abbrev pub recordsIn : List ℕ → List Preset
+recordsIn l = firstRecords 32 l
+
+-- the bytes of some records
+unfoldable pub bytesOf : List Preset → List ℕ
+bytesOf [] = []
+bytesOf (p ∷ ps) = p .number ∷ p .priority ∷ p .mandatory ∷ p .optional ∷ bytesOf ps
+
+-- A list of bytes with some records written over its start: every byte past them is as it was.
+abbrev pub bytesOver : List Preset → List ℕ → List ℕ
+bytesOver ps l = sets l 0 (bytesOf ps)
+
+-- ---- the running frame: its head, and "the clock"
+
+-- Twelve numbers: slots, bridges, how many presets, the clock, and then the busy slots of bridges 1 to 8, one mask each with slot 1 as the lowest bit.
+abbrev pub headOfNumbers : List ℕ → Head
+headOfNumbers l = record { slots = getD l 0 0; bridges = getD l 1 0; busy = tabulate 8 (λ b. getD l (4 + b) 0); count = getD l 2 0 }
+
+abbrev pub clockOfNumbers : List ℕ → ℕ
+clockOfNumbers l = getD l 3 0
+
+-- A list of numbers with a head and a clock written over its start: every number past the twelfth is as it was.
+abbrev pub numbersOver : Head → ℕ → List ℕ → List ℕ
+numbersOver head clock l = sets l 0 (head .slots ∷ head .bridges ∷ head .count ∷ clock ∷ head .busy)
+
+-- and with a clock alone
+abbrev pub clockOver : ℕ → List ℕ → List ℕ
+clockOver clock l = set l 3 clock

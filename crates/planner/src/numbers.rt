@@ -1,0 +1,85 @@
+// The frame that a caller lends as twelve numbers: its head and its clock out of them by value, and back. Past the end of the numbers zeros are read and nothing is
+// written, so that each function takes every slice.
+use station::types::Head;
+ghost use mathlib.Core.Path.{_≡_};
+ghost use lib.ListN.{getD, set};
+ghost use lib.Seq.{sets};
+ghost use Rattle.planner.specs.Layout.{headOfNumbers, clockOfNumbers, numbersOver, clockOver};
+
+// The number at a place; 0 past the end.
+fn number_at(numbers: &[u64], i: usize) -> u64
+    ensures { λ r. ⌜ r ≡ getD (now (numbers .entry)) i 0 ⌝ }
+{
+    if i < numbers.len() {
+        return numbers[i];
+    }
+    0
+}
+
+// Replaces the number at a place; past the end nothing changes.
+fn set_number(numbers: &mut [u64], i: usize, given: u64)
+    ensures { λ _. ⌜ now (numbers .exit) ≡ set (now (numbers .entry)) i given ⌝ }
+{
+    if i < numbers.len() {
+        numbers[i] = given;
+    }
+}
+
+// The head of a frame.
+pub fn head_of(frame: &[u64]) -> Head
+    ensures { λ r. ⌜ r ≡ headOfNumbers (now (frame .entry)) ⌝ }
+{
+    let busy = [
+        number_at(frame, 4),
+        number_at(frame, 5),
+        number_at(frame, 6),
+        number_at(frame, 7),
+        number_at(frame, 8),
+        number_at(frame, 9),
+        number_at(frame, 10),
+        number_at(frame, 11),
+    ];
+    Head {
+        slots: number_at(frame, 0) as usize,
+        bridges: number_at(frame, 1) as usize,
+        busy,
+        count: number_at(frame, 2) as usize,
+    }
+}
+
+// The clock of a frame.
+pub fn clock_of(frame: &[u64]) -> usize
+    ensures { λ r. ⌜ r ≡ clockOfNumbers (now (frame .entry)) ⌝ }
+{
+    number_at(frame, 3) as usize
+}
+
+// Writes the clock of a frame, and nothing else.
+pub fn save_clock(frame: &mut [u64], clock: usize)
+    ensures { λ _. ⌜ now (frame .exit) ≡ clockOver clock (now (frame .entry)) ⌝ }
+{
+    set_number(frame, 3, clock as u64);
+}
+
+// Writes the masks of the busy slots to their places.
+fn save_masks(frame: &mut [u64], busy: [u64; 8])
+    ensures { λ _. ⌜ now (frame .exit) ≡ sets (now (frame .entry)) 4 busy ⌝ }
+{
+    let mut b = 0;
+    while b < 8 {
+        set_number(frame, 4 + b, busy[b]);
+        b += 1;
+    }
+}
+
+// Writes a head and a clock over the first twelve numbers.
+pub fn save_frame(frame: &mut [u64], head: Head, clock: usize)
+    ensures { λ _. ⌜ now (frame .exit) ≡ numbersOver head clock (now (frame .entry)) ⌝ }
+{
+    let busy = head.busy;
+    set_number(frame, 0, head.slots as u64);
+    set_number(frame, 1, head.bridges as u64);
+    set_number(frame, 2, head.count as u64);
+    set_number(frame, 3, clock as u64);
+    save_masks(frame, busy);
+}

@@ -1,0 +1,24 @@
+-- What the layers above cite of this one's laws: nothing else of proofs/ is theirs but Walks.antt, and Examples.antt for texts that compute.
+-- Assumes nothing.
+
+-- the causes: their numbers, and the first that holds
+pub use Rattle.station.proofs.Refusal.{number-small, number-some, first-none, first-of-none, first-some, append-none, append-some, append-left-none, passed, last-cause, cause-last, Never, end, skip, never-first}
+-- the lines of a text
+pub use Rattle.station.proofs.Text.{lines-join}
+pub use Rattle.station.proofs.lines.FirstLine.{lines-first, line-some, line-within, lines-at, lines-past}
+-- decimals
+pub use Rattle.station.proofs.Decimal.{digits-length}
+-- a head record that some text yields
+pub use Rattle.station.proofs.ValidHead.{within-low, within-high, of-within, valid-of, of-valid}
+-- reading and writing a head: the papers' meaning, and both ways
+pub use Rattle.station.proofs.Reading.{read-means, means-headOf}
+pub use Rattle.station.proofs.Writing.{read-valid, read-written, read-lines}
+pub use Rattle.station.proofs.WrittenRead.{written-read, yielded}
+-- what a reading of a head by value tells
+pub use Rattle.station.proofs.heads.LineLoop.{ReadAccepted, ReadRefused, read-accepted, read-refused, head-back}
+pub use Rattle.station.proofs.heads.OneLine.{records-back}
+-- preset records, in a list and by value
+pub use Rattle.station.proofs.CodeRecords.{records-step}
+pub use Rattle.station.proofs.records.BankLoops.{saved-loaded, saved-over, loaded-whole}
+-- bytes that are written one run after the other
+pub use Rattle.station.proofs.output.Runs.{wrote-none, wrote-then, wrote-fits, left-all, left-wrote, left-none, left-then, join-append}

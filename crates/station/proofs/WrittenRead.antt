@@ -1,0 +1,183 @@
+-- What is written reads as it was: a valid head's text reads to that head, so no two heads have the same text.
+--
+-- In order: lines that lead to a head (`Reaches`): presets, busy lines, the frame; `written-read`; `one-head`; the valid heads are those that
+-- some text yields (`yielded`).
+-- Assumes nothing.
+use Prim.Native.Nat.{ℕ, zero, suc, _+_, _-_, _^_, _≤_, _<_}
+use native.Mathlib.Nat.{le-refl}
+use native.Mathlib.Omega.{arith}
+use mathlib.Core.Path.{_≡_, refl, sym, _∙_, ap, subst}
+use mathlib.Core.Logic.{_↔_}
+use mathlib.Core.Bool.{true, false, not}
+use mathlib.Core.Option.{Option, none, some}
+use mathlib.Core.List.{List, [], _∷_, _++_, map, append-assoc, append-nil}
+use lib.ListN.{length, getD, set, replicate, length-append}
+use lib.Seq.{append-snoc, set-at}
+use lib.Dec.{eqb, ltb}
+use lib.Pow.{pow-mono}
+use Rattle.laws.proofs.Tests.{Is, is-true, is-false, is, left-of, right-of, false-of-not, neither-left, neither-right, none-some}
+use Rattle.laws.proofs.Comparisons.{lt-of, ge-of, ne-of, ltb-no, leb-no, eqb-no}
+use Rattle.station.specs.Head.{Preset, Head, Valid, inLimits, hasNumber, allInLimits, allDistinct}
+use Rattle.station.specs.Form.{Pairs, Form, frameLine, busyLine, print}
+use Rattle.station.specs.Writing.{maskOf, stretches, busyLineOf, busyLines, presetLineOf, formsOf, textOf}
+use Rattle.station.specs.Reading.{accepted, headOf, SoFar, begin, ends, misplaced, outside, used, full, more, Passes, no-more, one-more, at-end}
+use Rattle.station.specs.Reading.{by-lines}
+use Rattle.station.proofs.Form.{lines-prints}
+use Rattle.station.proofs.Stretches.{stretches-zero, stretches-ordered, mask-stretches, no-stretches}
+use Rattle.station.proofs.ValidHead.{of-within, parts-valid}
+use Rattle.station.proofs.Reading.{NoCause, of-no-cause, means-headOf}
+use Rattle.station.proofs.Writing.{read-valid}
+use Rattle.station.proofs.TextSize.{text-fits}
+
+-- the lines fs pass after r and lead to the head h
+record Reaches (r : SoFar) (fs : List Form) (h : Head) : Type 0 where
+  so-far : SoFar
+  passes : Passes r fs so-far
+  begun : so-far .begun ≡ true
+  head : so-far .head ≡ h
+
+-- under way: the frame line was read
+abbrev under : ℕ → ℕ → ℕ → List ℕ → List Preset → SoFar
+under s b from busy ps = record { begun = true; from = from; head = record { slots = s; bridges = b; busy = busy; presets = ps } }
+
+abbrev headWith : ℕ → ℕ → List ℕ → List Preset → Head
+headWith s b busy ps = record { slots = s; bridges = b; busy = busy; presets = ps }
+
+then-reaches : {r : SoFar} {f : Form} {fs : List Form} {h : Head} → ends r f ≡ false → NoCause r f → Reaches (more r f) fs h → Reaches r (f ∷ fs) h
+then-reaches {r} {f} e c w =
+    record { so-far = w .so-far; passes = one-more e (of-no-cause r f c) (w .passes); begun = w .begun; head = w .head }
+
+-- ---- presets
+
+distinct-unused : (done : List Preset) (p : Preset) (ps : List Preset) → allDistinct (done ++ (p ∷ ps)) ≡ true → hasNumber (p .number) done ≡ false
+unfolding allDistinct hasNumber
+distinct-unused [] p ps e = refl
+distinct-unused (x ∷ done) p ps e =
+    let fresh : hasNumber (x .number) (done ++ (p ∷ ps)) ≡ false =
+    false-of-not (hasNumber (x .number) (done ++ (p ∷ ps)))
+    (left-of (not (hasNumber (x .number) (done ++ (p ∷ ps)))) (allDistinct (done ++ (p ∷ ps))) e) in
+    rw (eqb-no (p .number) (x .number) (λ q. other done fresh (sym q)))
+    (distinct-unused done p ps (right-of (not (hasNumber (x .number) (done ++ (p ∷ ps)))) (allDistinct (done ++ (p ∷ ps))) e))
+  where
+    other : (l : List Preset) → hasNumber (x .number) (l ++ (p ∷ ps)) ≡ false → x .number ≡ p .number → ⊥
+    other [] u q = ne-of (x .number) (p .number) (neither-left (eqb (x .number) (p .number)) (hasNumber (x .number) ps) u) q
+    other (y ∷ l) u q = other l (neither-right (eqb (x .number) (y .number)) (hasNumber (x .number) (l ++ (p ∷ ps))) u) q
+
+presets-reach : (s b from : ℕ) (busy : List ℕ) (done ps : List Preset) → allInLimits ps ≡ true → allDistinct (done ++ ps) ≡ true
+    → length (done ++ ps) ≤ 32 → Reaches (under s b from busy done) (map presetLineOf ps) (headWith s b busy (done ++ ps))
+unfolding allInLimits more misplaced outside used full
+presets-reach s b from busy done [] l d n =
+    record { so-far = under s b from busy done; passes = no-more; begun = refl; head = rw append-nil refl }
+presets-reach s b from busy done (p ∷ ps) l d n =
+    let snoc : done ++ (p ∷ []) ++ ps ≡ done ++ (p ∷ ps) = append-snoc done p ps in
+    let few : length done < 32 = omega (arith, length-append done (p ∷ ps)) in
+    then-reaches {r = under s b from busy done} {f = presetLineOf p} refl
+    (record {
+      in-place = refl;
+      in-limits = ap not (left-of (inLimits p) (allInLimits ps) l);
+      unused = distinct-unused done p ps d;
+      fits = leb-no 32 (length done) few;
+    })
+    (rw snoc at
+    (presets-reach s b from busy (done ++ (p ∷ [])) ps (right-of (inLimits p) (allInLimits ps) l) (rw snoc d) (rw snoc n)))
+
+-- ---- busy lines
+
+-- the line of one bridge, where the masks from it on are still to come
+busy-line : (s b from : ℕ) (done zs : List ℕ) (m : ℕ) (fs : List Form) (h : Head) → s ≤ 64 → from ≤ suc (length done) → m < 2 ^ s
+    → (b ≤ length done → m ≡ 0)
+    → ((to : ℕ) → to ≤ suc (suc (length done)) → Reaches (under s b to (done ++ (m ∷ zs)) []) fs h)
+    → (o : Option Pairs) → stretches 64 1 m ≡ o → Reaches (under s b from (done ++ (0 ∷ zs)) []) (busyLineOf (suc (length done)) o ++ fs) h
+unfolding misplaced outside used full more
+busy-line s b from done zs m fs h top low below last-bridge go none e =
+    let most : 2 ^ s ≤ 2 ^ 64 = pow-mono top in
+    let zero : m ≡ 0 = no-stretches m (omega arith) e in
+    subst (λ (x : ℕ). Reaches (under s b from (done ++ (x ∷ zs)) []) fs h) zero (go from (omega arith))
+busy-line s b from done zs m fs h top low below last-bridge go (some p) e =
+    let i = length done in
+    let at : i ≡ suc i - 1 = omega arith in
+    let written : set (done ++ (0 ∷ zs)) (suc i - 1) (maskOf p) ≡ done ++ (m ∷ zs) =
+    set-at done 0 zs (maskOf p) (suc i - 1) at ∙ ap (λ (x : ℕ). done ++ (x ∷ zs)) (mask-stretches s m p top below e) in
+    then-reaches {r = under s b from (done ++ (0 ∷ zs)) []} {f = busyLine (suc i) p} refl
+    (record {
+      in-place = ltb-no (suc i) from low;
+      in-limits = rw (of-within 1 b (suc i) (omega arith) (inside (is (ltb i b))), stretches-ordered s m p top below e) refl;
+      unused = refl;
+      fits = refl;
+    })
+    (subst (λ (k : List ℕ). Reaches (under s b (suc (suc i)) k []) fs h) (sym written) (go (suc (suc i)) (le-refl (suc (suc i)))))
+  where
+    inside : Is (ltb (length done) b) → length done < b
+    inside (is-true q) = lt-of (length done) b q
+    inside (is-false q) =
+        let zero : m ≡ 0 = last-bridge (ge-of (length done) b q) in
+        absurd (none-some (sym (stretches-zero 64 1) ∙ ap (stretches 64 1) (sym zero) ∙ e))
+
+-- the masks still to come, all 0
+zeros : List ℕ → List ℕ
+zeros ms = replicate (length ms) 0
+
+busy-cons : (s b m : ℕ) (ms done : List ℕ) (from : ℕ) (rest : List Form) (h : Head) → s ≤ 64 → from ≤ suc (length done) → m < 2 ^ s
+    → (b ≤ length done → m ≡ 0)
+    → ((to : ℕ) → to ≤ suc (suc (length done))
+    → Reaches (under s b to (done ++ (m ∷ zeros ms)) []) (busyLines (suc (suc (length done))) ms ++ rest) h)
+    → Reaches (under s b from (done ++ zeros (m ∷ ms)) []) (busyLines (suc (length done)) (m ∷ ms) ++ rest) h
+unfolding busyLines zeros
+busy-cons s b m ms done from rest h top low below last-bridge later =
+    subst (λ (fs : List Form). Reaches (under s b from (done ++ (0 ∷ zeros ms)) []) fs h)
+    (sym (append-assoc (busyLineOf (suc (length done)) (stretches 64 1 m)) (busyLines (suc (suc (length done))) ms) rest))
+    (busy-line s b from done (zeros ms) m (busyLines (suc (suc (length done))) ms ++ rest) h top low below last-bridge later (stretches 64 1 m) refl)
+
+-- one mask more is done
+busy-moved : (s b m to : ℕ) (ms done : List ℕ) (rest : List Form) (h : Head)
+    → Reaches (under s b to (done ++ (m ∷ []) ++ zeros ms) []) (busyLines (suc (length (done ++ (m ∷ [])))) ms ++ rest) h
+    → Reaches (under s b to (done ++ (m ∷ zeros ms)) []) (busyLines (suc (suc (length done))) ms ++ rest) h
+busy-moved s b m to ms done rest h w =
+    let n : length (done ++ (m ∷ [])) ≡ suc (length done) = omega (arith, length-append done (m ∷ [])) in
+    subst (λ (k : ℕ). Reaches (under s b to (done ++ (m ∷ zeros ms)) []) (busyLines (suc k) ms ++ rest) h) n
+    (subst (λ (k : List ℕ). Reaches (under s b to k []) (busyLines (suc (length (done ++ (m ∷ [])))) ms ++ rest) h) (append-snoc done m (zeros ms)) w)
+
+busy-reach : (s b : ℕ) (ms done : List ℕ) (from : ℕ) (rest : List Form) (h : Head) → s ≤ 64 → from ≤ suc (length done)
+    → ((i : ℕ) → getD ms i 0 < 2 ^ s) → ((i : ℕ) → b ≤ length done + i → getD ms i 0 ≡ 0)
+    → ((to : ℕ) → Reaches (under s b to (done ++ ms) []) rest h)
+    → Reaches (under s b from (done ++ zeros ms) []) (busyLines (suc (length done)) ms ++ rest) h
+busy-reach s b [] done from rest h top low f g k = unfold busyLines zeros in (k from)
+busy-reach s b (m ∷ ms) done from rest h top low f g k =
+    busy-cons s b m ms done from rest h top low (f 0) (λ q. g 0 (omega arith))
+    (λ to l. busy-moved s b m to ms done rest h
+    (busy-reach s b ms (done ++ (m ∷ [])) to rest h top (omega (arith, length-append done (m ∷ []))) (λ i. f (suc i))
+    (λ i q. g (suc i) (omega (arith, length-append done (m ∷ []))))
+    (λ x. subst (λ (k : List ℕ). Reaches (under s b x k []) rest h) (sym (append-snoc done m ms)) (k x))))
+
+-- ---- the whole head
+
+forms-reach : (h : Head) → Valid h → Reaches begin (formsOf h) h
+unfolding zeros formsOf more misplaced outside used full
+forms-reach h v =
+    let p = parts-valid h v in
+    let none-yet : zeros (h .busy) ≡ replicate 8 0 = ap (λ (n : ℕ). replicate {A = ℕ} n 0) (v .masks) in
+    then-reaches {r = begin} {f = frameLine (h .slots) (h .bridges)} refl
+    (record { in-place = refl; in-limits = rw (p .slots, p .bridges) refl; unused = refl; fits = refl })
+    (subst (λ (k : List ℕ). Reaches (under (h .slots) (h .bridges) 0 k []) (busyLines 1 (h .busy) ++ map presetLineOf (h .presets)) h) none-yet
+    (busy-reach (h .slots) (h .bridges) (h .busy) [] 0 (map presetLineOf (h .presets)) h (v .slots-high) (omega arith) (v .in-frame)
+    (λ i l. v .no-bridge i (omega arith))
+    (λ to. presets-reach (h .slots) (h .bridges) to (h .busy) [] (h .presets) (p .limits) (p .distinct) (p .number))))
+
+-- the text of a valid head reads to that head, and all its lines are the head's
+pub written-read : (h : Head) → Valid h → headOf (textOf h) ≡ accepted h (length (formsOf h))
+unfolding textOf
+written-read h v =
+    let w = forms-reach h v in
+    let fits : length (textOf h) ≤ 8192 = text-fits h v in
+    means-headOf (by-lines (omega arith) (lines-prints (formsOf h) ∙ sym (append-nil (map print (formsOf h)))) (w .passes) (at-end (w .begun)))
+    ∙ ap (λ (k : Head). accepted k (length (formsOf h))) (w .head)
+
+-- "The head has one text only": no two heads have the same
+pub one-head : (g h : Head) → Valid g → Valid h → textOf g ≡ textOf h → g ≡ h
+one-head g h v w e =
+    let q : accepted g (length (formsOf g)) ≡ accepted h (length (formsOf h)) = sym (written-read g v) ∙ ap headOf e ∙ written-read h w in
+    cc
+
+-- "a head record that no text yields": the valid ones are those that some text yields
+pub yielded : (h : Head) → Valid h ↔ ((t : List ℕ) × (n : ℕ) × (headOf t ≡ accepted h n))
+yielded h = (λ v. (textOf h, length (formsOf h), written-read h v), λ w. read-valid (w .0) h (w .1) (w .2))

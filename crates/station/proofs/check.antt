@@ -1,0 +1,2 @@
+-- The test of a head record.
+pub mod ValidRecord

@@ -1,0 +1,2 @@
+-- Event lines as they are read.
+pub mod EventLines

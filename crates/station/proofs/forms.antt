@@ -1,0 +1,2 @@
+-- Lines as they are read.
+pub mod LineForms

@@ -1,0 +1,72 @@
+-- Laws of what the code makes of a line.
+--
+-- In order: the first of two forms that is there (`read-first`, `read-second`); the five forms in two parts (`form-parts`); a busy line by its
+-- stretches (`busy-none`, `busy-some`); a call by its jobs (`call-none`, `call-some`).
+-- Assumes nothing.
+use Prim.Native.Nat.{ℕ}
+use mathlib.Core.Path.{_≡_, refl, sym, _∙_, ap}
+use mathlib.Core.Bool.{true, false}
+use mathlib.Core.Option.{Option, none, some}
+use mathlib.Core.List.{List}
+use Rattle.laws.proofs.Tests.{clash}
+use Rattle.station.specs.declared.forms.Read.{Read}
+use Rattle.station.specs.declared.forms.Line.the-variants.{Busy, Call}
+use Rattle.station.specs.declared.brackets.Taken.{Taken}
+use Rattle.station.specs.declared.brackets.Jobs.{Jobs}
+use Rattle.station.specs.Form.{Pairs, Form, frameLine, busyLine, presetLine, clockLine, callLine, _orElse_, made}
+use Rattle.station.specs.Form.{frameIn, busyIn, presetIn, form}
+use Rattle.station.specs.method.Numeral.{seen}
+use Rattle.station.specs.Jobs.{noJobs}
+use Rattle.station.specs.method.ReadLine.{readIn, hasForm, headForm, eventForm}
+use Rattle.station.specs.method.Bracket.{takenIn, jobsRead}
+
+-- ---- the first of two forms that is there
+
+module _ (hi : ℕ) where
+  has-some : (f : Form) → hasForm (readIn hi (some f) .line) ≡ true
+  has-some (frameLine s b) = refl
+  has-some (busyLine b p) = refl
+  has-some (presetLine n p m o) = refl
+  has-some (clockLine t) = refl
+  has-some (callLine p) = refl
+
+  pub read-first : (x y : Option Form) (r : Read) → r ≡ readIn hi x → hasForm (r .line) ≡ true → r ≡ readIn hi (x orElse y)
+  read-first none y r e h = absurd (clash (sym h ∙ ap (λ (q : Read). hasForm (q .line)) e))
+  read-first (some f) y r e h = e
+
+  pub read-second : (x y : Option Form) (q r : Read) → r ≡ readIn hi y → q ≡ readIn hi x → hasForm (q .line) ≡ false → r ≡ readIn hi (x orElse y)
+  read-second none y q r s e h = s
+  read-second (some f) y q r s e h = absurd (clash (sym (has-some f) ∙ sym (ap (λ (z : Read). hasForm (z .line)) e) ∙ h))
+
+or-three : (x y z w : Option Form) → (x orElse y orElse z orElse w) ≡ ((x orElse y orElse z) orElse w)
+or-three none none z w = refl
+or-three none (some g) z w = refl
+or-three (some f) y z w = refl
+
+-- the five forms in two parts
+pub form-parts : (l : List ℕ) → form l ≡ (headForm l orElse eventForm l)
+unfolding form
+form-parts l = or-three (frameIn l) (busyIn l) (presetIn l) (eventForm l)
+
+-- ---- a busy line by its stretches
+
+module _ (hi b : ℕ) where
+  pub busy-none : (o : Option Pairs) (t : Taken) → t ≡ takenIn hi o → t .found ≡ false → made (busyLine b) o ≡ none
+  busy-none none t e h = refl
+  busy-none (some p) t e h = absurd (clash (sym (ap (λ (x : Taken). x .found) e) ∙ h))
+
+  pub busy-some : (o : Option Pairs) (t : Taken) → t ≡ takenIn hi o → t .found ≡ true
+      → record { line = Busy (seen b) (t .mask) (t .ordered); jobs = noJobs } ≡ readIn hi (made (busyLine b) o)
+  busy-some none t e h = absurd (clash (sym h ∙ ap (λ (x : Taken). x .found) e))
+  busy-some (some p) t e h = rw e refl
+
+-- ---- a call by its jobs
+
+pub call-none : (o : Option Pairs) (j : Jobs) → j ≡ jobsRead o → j .found ≡ false → made callLine o ≡ none
+call-none none j e h = refl
+call-none (some p) j e h = absurd (clash (sym (ap (λ (x : Jobs). x .found) e) ∙ h))
+
+pub call-some : (hi : ℕ) (o : Option Pairs) (j : Jobs) → j ≡ jobsRead o → j .found ≡ true
+    → record { line = Call (j .count); jobs = j .jobs } ≡ readIn hi (made callLine o)
+call-some hi none j e h = absurd (clash (sym h ∙ ap (λ (x : Jobs). x .found) e))
+call-some hi (some p) j e h = rw e refl

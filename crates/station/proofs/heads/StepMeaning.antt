@@ -1,0 +1,319 @@
+-- One line more in the reading of a head: what the code's step means for `readFrom`.
+--
+-- In order: the state's bounds (`Kept`); what a step means for the lines that are left (`afterStep`); line 1 (`first-line`), a line after it
+-- (`next-line`), and both (`step-line`).
+-- Assumes nothing.
+use Prim.Native.Nat.{ℕ, suc, _+_, _-_, _≤_, _<_, min}
+use native.Mathlib.Omega.{arith}
+use native.Mathlib.Numerals.{add-one}
+use mathlib.Core.Path.{_≡_, refl, sym, _∙_, ap, subst}
+use mathlib.Core.Bool.{Bool, true, false, cond, _&&_, _||_}
+use mathlib.Core.Option.{Option, none, some}
+use mathlib.Core.List.{List, [], _∷_, _++_, map}
+use lib.ListN.{length, take, drop, set, length-map, length-set}
+use lib.Seq.{drop-drop, take-suc-set, drop-set-lt, length-take-le}
+use lib.Dec.{ltb, leb}
+use Rattle.laws.proofs.Tests.{Is, is, is-true, is-false, clash, left-of, right-of, neither-left}
+use Rattle.laws.proofs.Comparisons.{gt-of, ge-of}
+use Rattle.station.specs.declared.types.Preset.{Preset}
+use Rattle.station.specs.declared.heads.steps.State.{State}
+use Rattle.station.specs.declared.heads.steps.Verdict.{Verdict}
+use Rattle.station.specs.declared.heads.steps.Verdict.the-variants.{Goes, Ends, Fails}
+use Rattle.station.specs.declared.heads.steps.Step.{Step}
+use Rattle.station.specs.Head as meant
+use Rattle.station.specs.Head.{within, inLimits, hasNumber}
+use Rattle.station.specs.Refusal.{firstOf}
+use Rattle.station.specs.Form.{Pairs, Form, frameLine, busyLine, presetLine, clockLine, callLine}
+use Rattle.station.specs.Writing.{maskOf, ordered}
+use Rattle.station.specs.Reading.{Reading, accepted, refused, SoFar, begin, misplaced, outside, used, full, more, readFrom, presetOf}
+use Rattle.station.specs.method.Numeral.{seen}
+use Rattle.station.specs.method.ReadLine.{lineIn}
+use Rattle.station.specs.Types.{refusalIn, presetIn, headIn}
+use Rattle.station.specs.ReadHead.{recordOf}
+use Rattle.station.specs.method.HeadStep.{madeIn, soFarIn, stepOf, stepWhere, firstStep, nextStep, withFrame, withBusy, withPreset}
+use Rattle.station.specs.method.HeadStep.{frameStep, busyStep, presetStep}
+use Rattle.station.proofs.numbers.Decimals.{seen-leb, seen-within}
+use Rattle.station.proofs.ValidHead.{within-high, limits-of}
+use mathlib.Core.List.{map-append}
+use Rattle.station.proofs.heads.OneLine.{seen-ltb, seen-small}
+
+-- ---- the state's bounds
+
+-- What holds between two lines: slots, bridges and presets are within their limits, the least bridge allowed is at most the ninth, no preset comes
+-- before the frame line, and of the records those past the last preset are still `old`, the ones handed in.
+pub record Kept (old : List Preset) (s : State) : Type 0 where
+  pub slots : s .head .slots ≤ 64
+  pub bridges : s .head .bridges ≤ 8
+  pub from : s .from ≤ 9
+  pub count : s .head .count ≤ 32
+  pub records : length (s .presets) ≡ 32
+  pub fresh : s .begun ≡ false → s .head .count ≡ 0
+  pub past : drop (s .head .count) (s .presets) ≡ drop (s .head .count) old
+
+-- ---- what a step means for the lines that are left
+
+-- the reading after n lines and one with that verdict, whose state is s: it goes on with the lines that are left, or it is decided
+abbrev pub afterVerdict : Verdict → State → ℕ → List (Option Form) → Reading
+afterVerdict Goes s n ls = readFrom (suc n) (soFarIn s) ls
+afterVerdict Ends s n ls = accepted (headIn (s .head) (s .presets)) n
+afterVerdict (Fails c) s n ls = refused (suc n) (refusalIn c)
+
+abbrev pub afterStep : Step → ℕ → List (Option Form) → Reading
+afterStep x n ls = afterVerdict (x .verdict) (x .state) n ls
+
+-- x is the step of the line f after n lines that made r: the reading of f and the lines after it is what x makes of it
+pub record LineMeans (old : List Preset) (r : SoFar) (n : ℕ) (f : Option Form) (ls : List (Option Form)) (x : Step) : Type 0 where
+  pub reads : readFrom n r (f ∷ ls) ≡ afterStep x n ls
+  pub kept : Kept old (x .state)
+
+-- ---- line 1
+
+module _ (old : List Preset) (s : State) (k : Kept old s) (n : ℕ) (ls : List (Option Form)) where
+  module _ (e : s .begun ≡ false) where
+    -- a frame within its limits
+    frame-kept : (a b : ℕ) → (within 1 64 a && within 1 8 b) ≡ true → Kept old (withFrame s a b)
+    frame-kept a b w = record {
+      slots = within-high 1 64 a (left-of (within 1 64 a) (within 1 8 b) w);
+      bridges = within-high 1 8 b (right-of (within 1 64 a) (within 1 8 b) w);
+      from = omega arith;
+      count = omega arith;
+      records = k .records;
+      fresh = λ f. absurd (clash f);
+      past = rw (k .fresh e) at (k .past);
+    }
+
+    frame-yes : (a b : ℕ) → (within 1 64 a && within 1 8 b) ≡ true → LineMeans old begin n (some (frameLine a b)) ls (frameStep s a b)
+    unfolding readFrom misplaced outside used full more firstOf
+    frame-yes a b w = rw w (record { reads = rw w refl; kept = frame-kept a b w })
+
+    -- a frame outside them, its numbers as they are read
+    frame-no : (a b : ℕ) → (within 1 64 a && within 1 8 b) ≡ false → LineMeans old begin n (some (frameLine a b)) ls (frameStep s (seen a) (seen b))
+    unfolding readFrom misplaced outside used full more firstOf
+    frame-no a b w =
+        rw (seen-within 1 64 a (omega arith) (omega arith), seen-within 1 8 b (omega arith) (omega arith), w) (record { reads = rw w refl; kept = k })
+
+    frame-line : (a b : ℕ) → LineMeans old begin n (some (frameLine a b)) ls (frameStep s (seen a) (seen b))
+    frame-line a b = go (is (within 1 64 a && within 1 8 b))
+      where
+        go : Is (within 1 64 a && within 1 8 b) → LineMeans old begin n (some (frameLine a b)) ls (frameStep s (seen a) (seen b))
+        go (is-true w) =
+            let sa : seen a ≡ a = seen-small a 64 (omega arith) (within-high 1 64 a (left-of (within 1 64 a) (within 1 8 b) w)) in
+            let sb : seen b ≡ b = seen-small b 8 (omega arith) (within-high 1 8 b (right-of (within 1 64 a) (within 1 8 b) w)) in
+            rw (sa, sb) (frame-yes a b w)
+        go (is-false w) = frame-no a b w
+
+    -- line 1: any form but a frame's is out of its place, whatever its values
+    pub first-line : (hi : ℕ) (f : Option Form) → LineMeans old begin n f ls (firstStep s (lineIn hi f))
+    unfolding readFrom misplaced outside used full more firstOf
+    first-line hi none = record { reads = refl; kept = k }
+    first-line hi (some (frameLine a b)) = frame-line a b
+    first-line hi (some (busyLine b p)) = record { reads = refl; kept = k }
+    first-line hi (some (presetLine a p m o)) = record { reads = refl; kept = k }
+    first-line hi (some (clockLine t)) = record { reads = refl; kept = k }
+    first-line hi (some (callLine p)) = record { reads = refl; kept = k }
+
+  -- ---- a line after line 1
+
+  -- the presets so far are as many as the count says
+  count-length : length (map presetIn (take (s .head .count) (s .presets))) ≡ s .head .count
+  count-length =
+      let c = k .count in
+      let r = k .records in
+      length-map (take (s .head .count) (s .presets)) presetIn ∙ length-take-le (s .head .count) (s .presets) (omega arith)
+
+  busy-kept : (b mask : ℕ) → within 1 (s .head .bridges) b ≡ true → s .head .count ≡ 0 → Kept old (withBusy s b mask)
+  busy-kept b mask w z =
+      let h = within-high 1 (s .head .bridges) b w in
+      let g = k .bridges in
+      record {
+        slots = k .slots;
+        bridges = k .bridges;
+        from = omega arith;
+        count = k .count;
+        records = k .records;
+        fresh = λ f. absurd (clash f);
+        past = k .past;
+      }
+
+  module _ (b : ℕ) (p : Pairs) where
+    -- out of its place: after a preset line, or on a bridge that does not ascend
+    abbrev early : Bool
+    early = ltb 0 (s .head .count) || ltb b (s .from)
+
+    abbrev BusyMeans : ℕ → ℕ → Bool → Type 0
+    BusyMeans b' mask o = LineMeans old (madeIn true s) n (some (busyLine b p)) ls (busyStep s b' mask o)
+
+    -- whatever the other values
+    busy-early : (mask : ℕ) (o : Bool) → early ≡ true → BusyMeans (seen b) mask o
+    unfolding readFrom misplaced outside used full more firstOf
+    busy-early mask o e =
+        let f = k .from in
+        rw (seen-ltb b (s .from) (omega arith), e) (record { reads = rw (count-length, e) refl; kept = k })
+
+    -- in its place, and outside the frame
+    busy-no : (mask : ℕ) → early ≡ false → (within 1 (s .head .bridges) b && ordered 1 (s .head .slots) p) ≡ false
+        → BusyMeans (seen b) mask (ordered 1 (s .head .slots) p)
+    unfolding readFrom misplaced outside used full more firstOf
+    busy-no mask e w =
+        let f = k .from in
+        let g = k .bridges in
+        rw (seen-ltb b (s .from) (omega arith), e, seen-within 1 (s .head .bridges) b (omega arith) (omega arith), w)
+        (record { reads = rw (count-length, e, w) refl; kept = k })
+
+    -- within it: the values were read as they are, and the bridge has the mask of its stretches
+    busy-yes : early ≡ false → within 1 (s .head .bridges) b ≡ true → ordered 1 (s .head .slots) p ≡ true → BusyMeans b (maskOf p) true
+    unfolding readFrom misplaced outside used full more firstOf
+    busy-yes e w o =
+        let z : s .head .count ≡ 0 = omega (arith, ge-of 0 (s .head .count) (neither-left (ltb 0 (s .head .count)) (ltb b (s .from)) e)) in
+        rw (e, w)
+        (record {
+          reads =
+              rw (count-length, e, w, o)
+              (ap
+              (λ (x : ℕ). readFrom (suc n)
+              (record {
+                begun = true;
+                from = x;
+                head =
+                    record {
+                      slots = s .head .slots;
+                      bridges = s .head .bridges;
+                      busy = set (s .head .busy) (b - 1) (maskOf p);
+                      presets = map presetIn (take (s .head .count) (s .presets));
+                    };
+              })
+              ls)
+              (sym (add-one b)));
+          kept = busy-kept b (maskOf p) w z;
+        })
+
+    busy-line : BusyMeans (seen b) (cond (ordered 1 (s .head .slots) p) (maskOf p) 0) (ordered 1 (s .head .slots) p)
+    busy-line = go (is early) (is (within 1 (s .head .bridges) b && ordered 1 (s .head .slots) p))
+      where
+        go : Is early → Is (within 1 (s .head .bridges) b && ordered 1 (s .head .slots) p)
+            → BusyMeans (seen b) (cond (ordered 1 (s .head .slots) p) (maskOf p) 0) (ordered 1 (s .head .slots) p)
+        go (is-true e) w = busy-early _ _ e
+        go (is-false e) (is-false w) = busy-no _ e w
+        go (is-false e) (is-true w) =
+            let v = left-of (within 1 (s .head .bridges) b) (ordered 1 (s .head .slots) p) w in
+            let o = right-of (within 1 (s .head .bridges) b) (ordered 1 (s .head .slots) p) w in
+            let g = k .bridges in
+            let h = within-high 1 (s .head .bridges) b v in
+            let sb : seen b ≡ b = seen-small b 8 (omega arith) (omega arith) in
+            rw (sb, o) (busy-yes e v o)
+
+  -- the presets so far
+  abbrev inUse : List meant.Preset
+  inUse = map presetIn (take (s .head .count) (s .presets))
+
+  module _ (a p m o : ℕ) where
+    abbrev PresetMeans : meant.Preset → Type 0
+    PresetMeans q = LineMeans old (madeIn true s) n (some (presetLine a p m o)) ls (presetStep s q)
+
+    -- a value outside its limits
+    preset-no : inLimits (presetOf a p m o) ≡ false → PresetMeans (presetOf (seen a) (seen p) (seen m) (seen o))
+    unfolding readFrom misplaced outside used full more firstOf
+    preset-no e =
+        rw (
+          seen-within 1 255 a (omega arith) (omega arith),
+          seen-leb p 9 (omega arith),
+          seen-leb m 64 (omega arith),
+          seen-leb o 64 (omega arith),
+          e,
+        )
+        (record { reads = rw e refl; kept = k })
+
+    -- within them, and the number is used
+    preset-taken : inLimits (presetOf a p m o) ≡ true → hasNumber a inUse ≡ true → PresetMeans (presetOf a p m o)
+    unfolding readFrom misplaced outside used full more firstOf
+    preset-taken e u = rw (e, u) (record { reads = rw (e, u) refl; kept = k })
+
+    -- not used, and the 33rd
+    preset-over : inLimits (presetOf a p m o) ≡ true → hasNumber a inUse ≡ false → leb 32 (s .head .count) ≡ true → PresetMeans (presetOf a p m o)
+    unfolding readFrom misplaced outside used full more firstOf
+    preset-over e u c = rw (e, u, c) (record { reads = rw (e, u, count-length, c) refl; kept = k })
+
+    -- one more preset, after those so far
+    preset-added : s .head .count < 32
+        → map presetIn (take (s .head .count + 1) (set (s .presets) (s .head .count) (recordOf (presetOf a p m o)))) ≡ inUse ++ (presetOf a p m o ∷ [])
+    preset-added c =
+        let r = k .records in
+        rw (add-one (s .head .count), take-suc-set (s .presets) (s .head .count) (recordOf (presetOf a p m o)) (omega arith))
+        (map-append presetIn (take (s .head .count) (s .presets)) (recordOf (presetOf a p m o) ∷ []))
+
+    preset-kept : s .head .count < 32 → Kept old (withPreset s (presetOf a p m o))
+    preset-kept c = record {
+      slots = k .slots;
+      bridges = k .bridges;
+      from = k .from;
+      count = omega arith;
+      records = length-set (s .presets) (s .head .count) (recordOf (presetOf a p m o)) ∙ k .records;
+      fresh = λ f. absurd (clash f);
+      past =
+          drop-set-lt (s .head .count + 1) (s .presets) (s .head .count) (recordOf (presetOf a p m o)) (omega arith)
+          ∙ sym (drop-drop 1 (s .head .count) (s .presets))
+          ∙ ap (drop 1) (k .past)
+          ∙ drop-drop 1 (s .head .count) old;
+    }
+
+    -- no cause holds
+    preset-fits : inLimits (presetOf a p m o) ≡ true → hasNumber a inUse ≡ false → leb 32 (s .head .count) ≡ false → PresetMeans (presetOf a p m o)
+    unfolding readFrom misplaced outside used full more firstOf
+    preset-fits e u c =
+        let l : s .head .count < 32 = gt-of 32 (s .head .count) c in
+        rw (e, u, c)
+        (record {
+          reads =
+              rw (e, u, count-length, c)
+              (ap
+              (λ (x : List meant.Preset). readFrom (suc n)
+              (record {
+                begun = true;
+                from = s .from;
+                head = record { slots = s .head .slots; bridges = s .head .bridges; busy = s .head .busy; presets = x };
+              })
+              ls)
+              (sym (preset-added l)));
+          kept = preset-kept l;
+        })
+
+    -- values within their limits were read as they are
+    preset-line : PresetMeans (presetOf (seen a) (seen p) (seen m) (seen o))
+    preset-line = go (is (inLimits (presetOf a p m o))) (is (hasNumber a inUse)) (is (leb 32 (s .head .count)))
+      where
+        raw : inLimits (presetOf a p m o) ≡ true → PresetMeans (presetOf a p m o) → PresetMeans (presetOf (seen a) (seen p) (seen m) (seen o))
+        raw e x =
+            let l = limits-of (presetOf a p m o) e in
+            let sa : seen a ≡ a = seen-small a 255 (omega arith) (l .number-high) in
+            let sp : seen p ≡ p = seen-small p 9 (omega arith) (l .priority) in
+            let sm : seen m ≡ m = seen-small m 64 (omega arith) (l .mandatory) in
+            let so : seen o ≡ o = seen-small o 64 (omega arith) (l .optional) in
+            rw (sa, sp, sm, so) x
+
+        go : Is (inLimits (presetOf a p m o)) → Is (hasNumber a inUse) → Is (leb 32 (s .head .count)) → PresetMeans (presetOf (seen a) (seen p) (seen m) (seen o))
+        go (is-false e) u c = preset-no e
+        go (is-true e) (is-true u) c = raw e (preset-taken e u)
+        go (is-true e) (is-false u) (is-true c) = raw e (preset-over e u c)
+        go (is-true e) (is-false u) (is-false c) = raw e (preset-fits e u c)
+
+  -- a line after line 1; an event's form ends the head
+  pub next-line : (f : Option Form) → LineMeans old (madeIn true s) n f ls (nextStep s (lineIn (s .head .slots) f))
+  unfolding readFrom misplaced outside used full more firstOf
+  next-line none = record { reads = refl; kept = k }
+  next-line (some (frameLine a b)) = record { reads = refl; kept = k }
+  next-line (some (busyLine b p)) = busy-line b p
+  next-line (some (presetLine a p m o)) = preset-line a p m o
+  next-line (some (clockLine t)) = record { reads = refl; kept = k }
+  next-line (some (callLine p)) = record { reads = refl; kept = k }
+
+  -- ---- a line wherever it stands
+
+  pub step-line : (f : Option Form) → LineMeans old (soFarIn s) n f ls (stepOf s (lineIn (min (s .head .slots) 64) f))
+  step-line f =
+      let h = k .slots in
+      let e : min (s .head .slots) 64 ≡ s .head .slots = omega arith in
+      rw e (go (is (s .begun)))
+    where
+      go : Is (s .begun) → LineMeans old (soFarIn s) n f ls (stepOf s (lineIn (s .head .slots) f))
+      go (is-true b) = subst (λ (x : Bool). LineMeans old (madeIn x s) n f ls (stepWhere x s (lineIn (s .head .slots) f))) (sym b) (next-line f)
+      go (is-false b) = subst (λ (x : Bool). LineMeans old (madeIn x s) n f ls (stepWhere x s (lineIn (s .head .slots) f))) (sym b) (first-line b (s .head .slots) f)

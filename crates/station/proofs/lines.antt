@@ -1,0 +1,2 @@
+-- The line of a text from a place on.
+pub mod FirstLine

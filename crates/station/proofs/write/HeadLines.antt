@@ -1,0 +1,91 @@
+-- Laws of a head's text, line by line, as the writer's loops meet it.
+--
+-- In order: the busy lines from one bridge on (`busy-lines-step`); the preset lines from one record on (`preset-lines-step`); the
+-- whole text (`head-text`); the entry's answer and output (`too-short`, `out-of-limits`, `head-written`), and that the answer is fixed
+-- (`answer-one`).
+-- Assumes nothing.
+use Prim.Native.Nat.{ℕ, suc, _≤_, _<_}
+use native.Mathlib.Omega.{arith}
+use mathlib.Core.Path.{_≡_, refl, sym, _∙_, ap}
+use mathlib.Core.Bool.{true, false}
+use mathlib.Core.List.{List, _++_, map, map-append}
+use lib.ListN.{length, take, drop, getD}
+use lib.Seq.{drop-cons}
+use Rattle.laws.proofs.Comparisons.{ltb-yes, ltb-no}
+use Rattle.station.specs.declared.types.Preset.{Preset}
+use Rattle.station.specs.declared.types.Head.{Head as Record}
+use Rattle.station.specs.declared.write.Writing.{Writing}
+use Rattle.station.specs.declared.write.Writing.the-variants.{Written, Refused}
+use Rattle.station.specs.declared.types.Refusal.the-variants.{TooShort, OutOfLimits}
+use Rattle.station.specs.Head.{Head}
+use Rattle.station.specs.Refusal.{firstOf}
+use Rattle.station.specs.Text.{join}
+use Rattle.station.specs.Form.{Form, frameLine, print}
+use Rattle.station.specs.Writing.{stretches, busyLineOf, busyLines, presetLineOf, formsOf, textOf}
+use Rattle.station.specs.Types.{refusalOf, presetIn, noRecord, headIn, validRecord}
+use Rattle.station.specs.Wrote.{Wrote}
+use Rattle.station.specs.WriteHead.{Answer, written, refused, answerIn, writeAnswer, writeOutput, WroteHead}
+use Rattle.station.proofs.CodeRecords.{records-step, refusal-in}
+use Rattle.station.proofs.output.Runs.{join-append, wrote-fits}
+use Rattle.station.proofs.TextSize.{text-fits}
+use Rattle.station.proofs.check.ValidRecord.{valid-head}
+
+-- the texts of one list of lines and then another
+text-append : (a b : List Form) → join (map print (a ++ b)) ≡ join (map print a) ++ join (map print b)
+text-append a b = ap join (map-append print a b) ∙ join-append (map print a) (map print b)
+
+-- the busy lines of the bridges from b on, counted from 0: that of b, and the others
+pub busy-lines-step : (b : ℕ) (busy : List ℕ) → b < length busy
+    → join (map print (busyLines (suc b) (drop b busy)))
+    ≡ join (map print (busyLineOf (suc b) (stretches 64 1 (getD busy b 0)))) ++ join (map print (busyLines (suc (suc b)) (drop (suc b) busy)))
+unfolding busyLines
+busy-lines-step b busy h =
+    rw (drop-cons busy b 0 h) (text-append (busyLineOf (suc b) (stretches 64 1 (getD busy b 0))) (busyLines (suc (suc b)) (drop (suc b) busy)))
+
+-- the lines of the presets from record i on: that of i, and the others
+pub preset-lines-step : (i n : ℕ) (ps : List Preset) → i < n → n ≤ length ps
+    → join (map print (map presetLineOf (map presetIn (drop i (take n ps)))))
+    ≡ print (presetLineOf (presetIn (getD ps i noRecord))) ++ join (map print (map presetLineOf (map presetIn (drop (suc i) (take n ps)))))
+preset-lines-step i n ps h l = rw (records-step i n ps h l) refl
+
+-- the text of a head: the frame line, the busy lines, the preset lines
+pub head-text : (h : Head) → textOf h ≡ print (frameLine (h .slots) (h .bridges)) ++ (join (map print (busyLines 1 (h .busy))) ++ join (map print (map presetLineOf (h .presets))))
+unfolding textOf formsOf
+head-text h = ap (λ (l : List ℕ). print (frameLine (h .slots) (h .bridges)) ++ l) (text-append (busyLines 1 (h .busy)) (map presetLineOf (h .presets)))
+
+-- ---- the entry's answer and output, by the cause that holds
+
+module _ (h : Record) (ps : List Preset) (out : List ℕ) where
+  -- 8: the output is too short
+  pub too-short : length out < 8192 → WroteHead h ps out (Refused TooShort) out
+  unfolding writeAnswer writeOutput firstOf
+  too-short l = let q = ltb-yes (length out) 8192 l in record { answer = rw q refl; output = rw q refl }
+
+  -- 2: no text yields the record
+  pub out-of-limits : 8192 ≤ length out → validRecord h ps ≡ false → WroteHead h ps out (Refused OutOfLimits) out
+  unfolding writeAnswer writeOutput firstOf
+  out-of-limits l v = let q = ltb-no (length out) 8192 l in record { answer = rw (q, v) refl; output = rw (q, v) refl }
+
+  -- no cause holds, and the text was written
+  pub head-written : (n : ℕ) (after : List ℕ) → 8192 ≤ length out → validRecord h ps ≡ true → Wrote out 0 (textOf (headIn h ps)) after n → WroteHead h ps out (Written n) after
+  unfolding writeAnswer writeOutput firstOf
+  head-written n after l v w =
+      let q = ltb-no (length out) 8192 l in
+      let fits : length (textOf (headIn h ps)) ≤ length out = omega (arith, text-fits (headIn h ps) (valid-head h ps v)) in
+      let both = wrote-fits w fits in
+      record { answer = rw (q, v) (ap written (both .1)); output = rw (q, v) (both .0) }
+
+-- ---- the answer that the contract's equation fixes
+
+answerOut : Answer → Writing
+answerOut (written n) = Written n
+answerOut (refused r) = Refused (refusalOf r)
+
+out-in-answer : (w : Writing) → answerOut (answerIn w) ≡ w
+unfolding answerOut
+out-in-answer (Written n) = refl
+out-in-answer (Refused r) = ap Refused (refusal-in r)
+
+-- two answers that stand for one are one
+pub answer-one : (v w : Writing) → answerIn v ≡ answerIn w → v ≡ w
+answer-one v w e = sym (out-in-answer v) ∙ ap answerOut e ∙ out-in-answer w

@@ -1,0 +1,44 @@
+-- `write::head_text` meets its contract. Assumes nothing.
+use native.Mathlib.Omega.{arith}
+use Rattle.station.specs.Types.{headIn}
+use Rattle.station.proofs.check.ValidRecord.{valid-head, valid-few}
+use Rattle.station.proofs.write.HeadLines.{head-text}
+use Rattle.station.proofs.output.Runs.{wrote-then}
+use borrow.Author.Needs.{needs}
+use Rattle.station.proofs.write.head_text.Statement.{statement}
+use Rattle.station.proofs.write.head_text.Tie as tie
+
+cast-slots : tie.Need-cast-slots
+cast-slots c = let s = c .before .before in omega (arith, valid-head (s .args .head) (s .args .presets) (s .pre) .slots-high)
+
+cast-bridges : tie.Need-cast-bridges
+cast-bridges c = let s = c .before .before .before in omega (arith, valid-head (s .args .head) (s .args .presets) (s .pre) .bridges-high)
+
+frame-line-requires : tie.Need-frame-line-requires
+frame-line-requires c κs = search needs
+
+busy-lines-requires : tie.Need-busy-lines-requires
+busy-lines-requires c κs = search needs
+
+preset-lines-requires : tie.Need-preset-lines-requires
+preset-lines-requires c κs = let s = c .before .before .before .before .before .before .before .before .before .before .before .before .before in valid-few (s .args .head) (s .args .presets) (s .pre)
+
+same-length : tie.Need-same-length
+same-length c = search needs
+
+returns : tie.Need-returns
+returns c = let a = c .before .before .before .before .before .before .before .before .before .before .before .before .before .before .before .before .args in
+    rw (head-text (headIn (a .head) (a .presets)))
+    (wrote-then (c .before .before .before .before .before .before .before .before .before .before .frame-line .ensures) (wrote-then (c .before .before .before .before .before .before .busy-lines .ensures) (c .before .before .preset-lines .ensures)))
+
+pub head-text-spec : {M : Type 1} → statement M
+head-text-spec =
+    tie.close
+    (tie.spec
+    cast-slots
+    cast-bridges
+    frame-line-requires
+    busy-lines-requires
+    preset-lines-requires
+    same-length
+    returns)

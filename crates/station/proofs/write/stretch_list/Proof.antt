@@ -1,0 +1,106 @@
+-- `write::stretch_list` meets its contract. The invariant: `from` is busy or past the end, and the brackets of the slots from there on are left. Assumes nothing.
+use Prim.Native.Nat.{suc, _-_, _≤_, _<_}
+use native.Mathlib.Nat.{div-one}
+use native.Mathlib.Numerals.{add-one}
+use native.Mathlib.Omega.{arith}
+use mathlib.Core.Path.{_≡_, refl, sym, ap}
+use mathlib.Core.Bool.{true}
+use lib.Dec.{ltb}
+use denote.Ref.{now}
+use Rattle.station.specs.Head.{taken}
+use Rattle.station.specs.Writing.{stretches}
+use Rattle.station.specs.method.Runs.{stretchesFrom, bracketsOf, bracketText}
+use Rattle.station.specs.Wrote.{Left}
+use Rattle.station.proofs.write.MaskRuns.{busy-found, busy-high, free-high, from-next-busy, NextRun, next-run, bracket-step}
+use Rattle.station.proofs.output.Runs.{left-all, left-wrote, left-none}
+use borrow.Author.Needs.{needs}
+use Rattle.station.proofs.write.stretch_list.Statement.{statement}
+use Rattle.station.proofs.write.stretch_list.Tie as tie
+
+abbrev Inv-loop : tie.InvT-loop
+Inv-loop out₀ at mask place₀ from₀ out place from = (from ≤ 64) × (from < 64 → taken mask from ≡ true)
+    × Left out₀ at (bracketsOf (stretches 64 1 mask)) out place (bracketsOf (stretchesFrom (64 - from) mask from))
+
+abbrev μ-loop : tie.MeasureT-loop
+μ-loop out₀ at mask place₀ from₀ out place from = 64 - from
+
+next-busy-requires : tie.Need-next-busy-requires Inv-loop μ-loop
+next-busy-requires c κs = search needs
+
+loop-holds : tie.Need-loop-holds Inv-loop μ-loop
+loop-holds c = let a = c .before .before .args in
+    let mask = a .mask in
+    let e = c .next-busy .ensures in
+    let all : stretches 64 1 mask ≡ stretchesFrom 64 mask 0 = ap (stretches 64 1) (sym (div-one mask)) in (
+      rw e (busy-high 64 mask 0),
+      (λ h. rw e (busy-found 64 mask 0 (rw e at h))),
+      rw (e, ← from-next-busy 64 mask 0 64 refl, ← all) (left-all (now (a .out)) (a .at) (bracketsOf (stretches 64 1 mask))),
+    )
+
+next-free-requires : tie.Need-next-free-requires Inv-loop μ-loop
+next-free-requires c κs = search needs
+
+next-busy-requires-2 : tie.Need-next-busy-requires-2 Inv-loop μ-loop
+next-busy-requires-2 c κs = search needs
+
+add-bracket : tie.Need-add-bracket Inv-loop μ-loop
+add-bracket c = omega arith
+
+cast-bracket : tie.Need-cast-bracket Inv-loop μ-loop
+cast-bracket c = omega arith
+
+cast-bracket-2 : tie.Need-cast-bracket-2 Inv-loop μ-loop
+cast-bracket-2 c = omega (arith, c .before .before .next-free .ensures, free-high (64 - c .before .before .before .before .loop .from) (c .before .before .before .before .before .before .before .args .mask) (c .before .before .before .before .loop .from))
+
+bracket-requires : tie.Need-bracket-requires Inv-loop μ-loop
+bracket-requires c κs = search needs
+
+-- after a turn: where the next run begins
+ahead : (c : tie.After-slice-known2 Inv-loop μ-loop) → NextRun (c .before .before .before .before .before .before .before .before .before .before .args .mask) (c .before .before .before .before .before .before .before .loop .from) (c .before .before .before .before .next-busy2 .result)
+ahead c =
+    let h = c .before .before .before .before .before .before .loop-test .taken in
+    next-run (c .before .before .before .before .before .before .before .before .before .before .args .mask) (c .before .before .before .before .before .before .before .loop .from) (c .before .before .before .before .before .next-free .result) (c .before .before .before .before .next-busy2 .result) h (c .before .before .before .before .before .before .before .loop .inv .1 h)
+    (c .before .before .before .before .before .next-free .ensures) (c .before .before .before .before .next-busy2 .ensures)
+
+loop-less : tie.Need-loop-less Inv-loop μ-loop
+loop-less c = omega (arith, ahead c .later)
+
+loop-again : tie.Need-loop-again Inv-loop μ-loop
+loop-again c = let loop = c .before .before .before .before .before .before .before .loop in
+    let mask = c .before .before .before .before .before .before .before .before .before .before .args .mask in
+    let to = c .before .before .before .before .before .next-free in
+    let next = c .before .before .before .before .next-busy2 in
+    let step = bracket-step mask (loop .from) (to .result) (next .result) (c .before .before .before .before .before .before .loop-test .taken) (loop .inv .1 (c .before .before .before .before .before .before .loop-test .taken)) (to .ensures) (next .ensures) in (
+      ahead c .high,
+      ahead c .found,
+      left-wrote (bracketText (suc (loop .from)) (to .result) (ltb (next .result) 64)) (bracketsOf (stretchesFrom (64 - next .result) mask (next .result)))
+          (rw step at (loop .inv .2)) (rw add-one at (c .before .before .bracket .ensures)),
+    )
+
+same-length : tie.Need-same-length Inv-loop μ-loop
+same-length c = c .before .loop .inv .2 .size
+
+returns : tie.Need-returns Inv-loop μ-loop
+unfolding stretches
+returns c = let loop = c .before .loop in
+    let e : 64 - loop .from ≡ 0 = omega arith in
+    left-none (rw e at (loop .inv .2))
+
+pub stretch-list-spec : {M : Type 1} → statement M
+stretch-list-spec =
+    tie.close
+    (tie.spec
+    Inv-loop
+    μ-loop
+    next-busy-requires
+    loop-holds
+    next-free-requires
+    next-busy-requires-2
+    add-bracket
+    cast-bracket
+    cast-bracket-2
+    bracket-requires
+    loop-less
+    loop-again
+    same-length
+    returns)

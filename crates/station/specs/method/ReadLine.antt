@@ -1,0 +1,58 @@
+-- What the code makes of a line: its form with the numbers as they are read. Document 01, "The station text".
+-- Assumes nothing.
+use Prim.Native.Nat.{ℕ}
+use mathlib.Core.Bool.{Bool, true, false, cond}
+use mathlib.Core.Option.{Option, none, some}
+use mathlib.Core.List.{List}
+use lib.ListN.{length}
+use Rattle.station.specs.Form.{Form, frameLine, busyLine, presetLine, clockLine, callLine, jobsOf}
+use Rattle.station.specs.Form.{_orElse_, frameIn, busyIn, presetIn, clockIn, callIn}
+use Rattle.station.specs.Writing.{maskOf, ordered}
+use Rattle.station.specs.method.Numeral.{seen}
+use Rattle.station.specs.Jobs.{padded, noJobs}
+use Rattle.station.specs.declared.types.Job.{Job}
+use Rattle.station.specs.declared.forms.Line.{Line}
+use Rattle.station.specs.declared.forms.Line.the-variants.{NoForm, Frame, Busy, Preset, Clock, Call}
+use Rattle.station.specs.declared.forms.Read.{Read}
+
+-- A line in a frame of hi slots. Of a busy line: the bridge, the mask of its stretches where they are in order and within the frame, else 0,
+-- and whether they are. Of a call the number of its jobs.
+abbrev pub lineIn : ℕ → Option Form → Line
+lineIn hi none = NoForm
+lineIn hi (some (frameLine s b)) = Frame (seen s) (seen b)
+lineIn hi (some (busyLine b p)) = Busy (seen b) (cond (ordered 1 hi p) (maskOf p) 0) (ordered 1 hi p)
+lineIn hi (some (presetLine n p m o)) = Preset (seen n) (seen p) (seen m) (seen o)
+lineIn hi (some (clockLine t)) = Clock (seen t)
+lineIn hi (some (callLine p)) = Call (seen (length (jobsOf p)))
+
+-- the first eight jobs of a call, and no job of any other line
+abbrev pub jobsIn : Option Form → List Job
+jobsIn none = noJobs
+jobsIn (some (frameLine s b)) = noJobs
+jobsIn (some (busyLine b p)) = noJobs
+jobsIn (some (presetLine n p m o)) = noJobs
+jobsIn (some (clockLine t)) = noJobs
+jobsIn (some (callLine p)) = padded 8 (jobsOf p)
+
+-- a line and its jobs
+abbrev pub readIn : ℕ → Option Form → Read
+readIn hi f = record { line = lineIn hi f; jobs = jobsIn f }
+
+-- ---- the five forms in two parts
+
+-- "a line that is not one of the five forms" is not
+abbrev pub hasForm : Line → Bool
+hasForm NoForm = false
+hasForm (Frame s b) = true
+hasForm (Busy b m o) = true
+hasForm (Preset n p m o) = true
+hasForm (Clock t) = true
+hasForm (Call n) = true
+
+-- "The head comes first": a line of the head
+abbrev pub headForm : List ℕ → Option Form
+headForm l = frameIn l orElse busyIn l orElse presetIn l
+
+-- "Events follow": an event's line
+abbrev pub eventForm : List ℕ → Option Form
+eventForm l = clockIn l orElse callIn l

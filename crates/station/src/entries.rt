@@ -1,0 +1,47 @@
+// The entries of layer 1 over a borrowed slice of preset records. Each reads the first 32 records by value and calls what works on them by value; the reader
+// writes them back.
+mod counted; // counted.rt: what the entries do with the records by value, where the list has as many records as are counted
+
+use crate::entries::counted::answer_of;
+use crate::entries::counted::bank_of;
+use crate::entries::counted::read_counted;
+use crate::entries::counted::write_counted;
+use crate::heads::ReadAnswer;
+use crate::records::load;
+use crate::records::record_count;
+use crate::records::save;
+use crate::types::Head;
+use crate::types::Preset;
+use crate::write::Writing;
+ghost use mathlib.Core.Path.{_≡_};
+ghost use lib.ListN.{length};
+ghost use Rattle.station.specs.Entries.{WroteEntry, entryRead, leftBy};
+
+// What reading a head answers, and the head; its preset records stand in the list.
+pub struct HeadAnswer {
+    pub answer: ReadAnswer,
+    pub head: Head,
+}
+
+// Writes the one text of a head at the start of the output and answers its length; the bytes past it stay. Refused with 8 for fewer than 32 preset records and for an
+// output below 8,192 bytes, whatever the frame, and with 2 for a head record that no text yields; the output then stays as it was.
+pub fn write_head(head: Head, presets: &[Preset], out: &mut [u8]) -> Writing
+    ensures { λ r. ⌜ WroteEntry (length (now (presets .entry))) head (now (presets .entry)) (now (out .entry)) r (now (out .exit)) ⌝ }
+{
+    let records = record_count(presets);
+    let bank = load(presets);
+    write_counted(records, head, bank, out)
+}
+
+// Reads the head of a text into the list of preset records. Answers the number of the head's lines and bytes, and the head; or the line at fault and the cause, 0 and 10
+// for a text of more than 32,768 bytes, 0 and 8 for fewer than 32 records. A refusal leaves the list as it was and answers the head handed in; else the records past
+// the last preset stay.
+pub fn read_head(text: &[u8], head: Head, presets: &mut [Preset]) -> HeadAnswer
+    ensures { λ r. ⌜ leftBy r (now (presets .exit)) ≡ entryRead (length (now (presets .entry))) (now (text .entry)) head (now (presets .entry)) ⌝ }
+{
+    let records = record_count(presets);
+    let bank = load(presets);
+    let read = read_counted(records, text, head, bank);
+    save(presets, bank_of(read), 32);
+    answer_of(read)
+}

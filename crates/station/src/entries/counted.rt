@@ -1,0 +1,67 @@
+// What the entries call: a head read or written with its first 32 preset records by value, where the list has as many records as are counted.
+use crate::entries::HeadAnswer;
+use crate::heads::HeadRead;
+use crate::heads::ReadAnswer;
+use crate::heads::read_head_by_value;
+use crate::types::Head;
+use crate::types::Preset;
+use crate::types::Refusal;
+use crate::write::Writing;
+use crate::write::write_head_by_value;
+ghost use mathlib.Core.Path.{_≡_};
+ghost use Rattle.station.specs.Entries.{WroteEntry, entryRead, refusedAtStart, answerOf};
+
+// Writes the text of a head; refused with 8 for fewer than 32 records.
+pub(crate) fn write_counted(
+    records: usize,
+    head: Head,
+    bank: [Preset; 32],
+    out: &mut [u8],
+) -> Writing
+    ensures { λ r. ⌜ WroteEntry records head bank (now (out .entry)) r (now (out .exit)) ⌝ }
+{
+    if records < 32 {
+        return Writing::Refused(Refusal::TooShort);
+    }
+    write_head_by_value(head, bank, out)
+}
+
+// A refusal at line 0, which leaves the head and the records as they were handed in.
+fn refuse_at_start(cause: Refusal, head: Head, bank: [Preset; 32]) -> HeadRead
+    ensures { λ r. ⌜ r ≡ refusedAtStart cause head bank ⌝ }
+{
+    HeadRead {
+        answer: ReadAnswer::Refused(0, cause),
+        head,
+        presets: bank,
+    }
+}
+
+// Reads the head of a text; refused with 10 for more than 32,768 bytes, and then with 8 for fewer than 32 records.
+pub(crate) fn read_counted(records: usize, text: &[u8], head: Head, bank: [Preset; 32]) -> HeadRead
+    ensures { λ r. ⌜ r ≡ entryRead records (now (text .entry)) head bank ⌝ }
+{
+    if 32768 < text.len() {
+        return refuse_at_start(Refusal::TextTooLong, head, bank);
+    }
+    if records < 32 {
+        return refuse_at_start(Refusal::TooShort, head, bank);
+    }
+    read_head_by_value(text, head, bank)
+}
+
+// The records that a reading leaves.
+pub(crate) fn bank_of(read: HeadRead) -> [Preset; 32]
+    ensures { λ r. ⌜ r ≡ read .presets ⌝ }
+{
+    read.presets
+}
+
+// What a reading answers, and its head.
+pub(crate) fn answer_of(read: HeadRead) -> HeadAnswer
+    ensures { λ r. ⌜ r ≡ answerOf read ⌝ }
+{
+    let answer = read.answer;
+    let head = read.head;
+    HeadAnswer { answer, head }
+}

@@ -1,0 +1,95 @@
+// The preset records of a borrowed slice: their number, one of them, and the first 32 by value, the bank. The functions that take the slice only copy records out of it
+// or into it: what works on records takes the bank.
+use crate::types::NO_RECORD;
+use crate::types::Preset;
+ghost use mathlib.Core.Path.{_≡_};
+ghost use lib.ListN.{set, length, getD, replicate};
+ghost use Prim.Native.Nat.{min};
+ghost use Rattle.station.specs.Types.{noRecord};
+ghost use Rattle.station.specs.Records.{loaded, saved};
+
+// The records with one of them replaced; past the end there is none, and they stay as they are.
+pub(crate) fn with_record(bank: [Preset; 32], at: usize, given: Preset) -> [Preset; 32]
+    ensures { λ r. ⌜ r ≡ set bank at given ⌝ }
+{
+    let mut after = bank;
+    if at < 32 {
+        after[at] = given;
+    }
+    after
+}
+
+// How many records the list has.
+pub fn record_count(presets: &[Preset]) -> usize
+    ensures { λ r. ⌜ r ≡ length (now (presets .entry)) ⌝ }
+{
+    presets.len()
+}
+
+// The record at a place; past the end the record of zeros.
+fn record_at(presets: &[Preset], i: usize) -> Preset
+    ensures { λ r. ⌜ r ≡ getD (now (presets .entry)) i noRecord ⌝ }
+{
+    if i < presets.len() {
+        return presets[i];
+    }
+    NO_RECORD
+}
+
+// Replaces the record at a place; past the end nothing changes.
+fn set_record(presets: &mut [Preset], i: usize, given: Preset)
+    ensures { λ _. ⌜ now (presets .exit) ≡ set (now (presets .entry)) i given ⌝ }
+{
+    if i < presets.len() {
+        presets[i] = given;
+    }
+}
+
+// The record of the bank at a place; past the end the record of zeros.
+fn bank_at(bank: [Preset; 32], at: usize) -> Preset
+    ensures { λ r. ⌜ r ≡ getD bank at noRecord ⌝ }
+{
+    if at < 32 {
+        return bank[at];
+    }
+    NO_RECORD
+}
+
+// 32 records of zeros.
+fn no_records() -> [Preset; 32]
+    ensures { λ r. ⌜ r ≡ replicate 32 noRecord ⌝ }
+{
+    [NO_RECORD; 32]
+}
+
+// The first 32 records by value; zeros where there are fewer.
+pub fn load(presets: &[Preset]) -> [Preset; 32]
+    ensures { λ r. ⌜ r ≡ loaded (now (presets .entry)) ⌝ }
+{
+    let mut bank = no_records();
+    let mut i = 0;
+    while i < 32 {
+        bank = with_record(bank, i, record_at(presets, i));
+        i += 1;
+    }
+    bank
+}
+
+// The smaller of a number and 32.
+fn at_most_32(n: usize) -> usize
+    ensures { λ r. ⌜ r ≡ min n 32 ⌝ }
+{
+    if n < 32 { n } else { 32 }
+}
+
+// The first n records of the bank go back to the front of the list, as far as both have them; every other record stays.
+pub fn save(presets: &mut [Preset], bank: [Preset; 32], n: usize)
+    ensures { λ _. ⌜ now (presets .exit) ≡ saved (now (presets .entry)) bank n ⌝ }
+{
+    let count = at_most_32(n);
+    let mut i = 0;
+    while i < count {
+        set_record(presets, i, bank_at(bank, i));
+        i += 1;
+    }
+}

@@ -1,2 +1,0 @@
--- The laws of the test of a head record.
-pub mod Valid

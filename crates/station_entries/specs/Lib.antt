@@ -1,2 +1,0 @@
--- What the entries read_head and write_head are held to.
-pub mod Entries

@@ -1,2 +1,0 @@
--- What a writer of bytes leaves.
-pub mod Wrote
