@@ -1,36 +1,19 @@
 /*
- * The bridge planner, for programs in C (and, by the same names and types, in Rust).
+ * The bridge planner, for programs in C and C++ (and, by the same names and types, in Rust: examples/rust).
  *
- * Link target/staticlib/libplanner.a, which `rt staticlib planner` writes. It needs memcpy and memset and nothing else: no heap, no files, no clock of its own, and no
- * state: all that a function knows is in its arguments. What is said here of each function is proved for every input (crates/planner, specs/Exports.antt).
+ * x86-64 only, with the calling convention of Linux there. Link target/staticlib/libplanner.a, which `rt staticlib planner` (or bin/build planner) writes.
  *
- * Each function answers 0, or the number of the refusal, 1 to 11. Causes are tried in the order in which a function's comment names them, and the first that holds is
- * the answer.
+ * What is said below of each function, of its answer and of every byte that is handed over, is proved for every input (crates/planner/specs/Exports.antt). Not proved, but seen:
  *
- *    1  a line that is not one of the five forms, or lacks its end
- *    2  a value or busy stretch outside its limits; a ninth job in a call; t below 1 or above S + 1; a head that no text yields
- *    3  a form out of its place; no frame on line 1
- *    4  a number already used, or twice in a call
- *    5  the required slots do not fit
- *    6  a clock below the present one
- *    7  a call that does not fit
- *    8  frame below 12 numbers, presets below 128 bytes, table below 512 cells, output below 8,192 bytes, or grants below 32 bytes
- *    9  33rd preset or 65th job
- *   10  text above 32,768 bytes
- *   11  a table that is not sound, or a clock outside 1 to S + 1
+ *   - The library needs memcpy and memset and nothing else: no heap, no files, no clock of its own, no state. So says nm of the library. That memcpy and memset do
+ *     what C says of them is taken for granted.
+ *   - No function was seen to use more than PLANNER_STACK_SEEN bytes of stack. This was measured by painting the stack, on the largest frames and texts, damaged ones too
+ *     (bench/c/stack.c, which bin/check-all runs); nothing proves it. Leave room to spare.
+ *   - That this header and the library's functions agree is checked by the programs in examples/, not proved.
  *
- * What the caller owes, for every pointer: it is not null, also where its length is 0; it is aligned for its type and valid for as many elements as its length says, for
- * writing too where it is not const; what one pointer of a call may write does not overlap what another one reads or writes. Nothing else is asked: any bytes and
- * any numbers may be handed over, and short buffers have their number.
- *
- * The layout:
- *
- *   frame    twelve numbers: S (slots), B (bridges), how many presets, the clock, and the busy slots of bridges 1 to 8, one mask each, slot 1 being the lowest bit.
- *            Numbers past the twelfth are never looked at or changed.
- *   presets  32 records of four bytes, in file order: number, priority, required slots, refinement slots. Record i stands at 4 i. Bytes past the 128th are never
- *            looked at or changed, nor are records past the last preset changed.
- *   table    cells of 16 bits, slot by slot and in each slot bridge by bridge. A cell is kind * 256 + number; kinds: 0 empty, 1 busy (both with number 0), 2 required,
- *            3 refinement, 4 call. Cells past S * B are never changed.
+ * What the caller owes, for every pointer: it is not null, also where its length is 0; it is aligned for its type and valid for as many elements as its length says, for writing too where
+ * it is not const; what one pointer of a call may write does not overlap what another one reads or writes. Nothing else is asked: any bytes and any numbers may be
+ * handed over, and short buffers have their number.
  */
 #ifndef PLANNER_H
 #define PLANNER_H
@@ -38,15 +21,86 @@
 #include <stddef.h>
 #include <stdint.h>
 
-#define PLANNER_SLOTS 64       /* the most slots of a frame */
-#define PLANNER_BRIDGES 8      /* the most bridges */
-#define PLANNER_TEXT 32768     /* the longest text, in bytes */
-#define PLANNER_FRAME 12       /* the least numbers of a frame */
-#define PLANNER_PRESETS 128    /* the least bytes of the presets */
-#define PLANNER_TABLE 512      /* the least cells of a table, whatever the frame's size */
-#define PLANNER_GRANTS 32      /* the least bytes of the grants */
-#define PLANNER_OUT 8192       /* the least bytes of an output */
-#define PLANNER_LISTING 655360 /* with so many bytes of output every listing is whole */
+/*
+ * The version of the layout below and of what the numbers mean. Whoever stores a frame stores this beside it, and restores no frame of another version: later versions have wider
+ * cells (with the place of each cell in its preset or job), another range of the clock (from 0) and more numbers in a frame.
+ */
+#define PLANNER_VERSION 1
+
+/* How many there are at most. */
+#define PLANNER_MAX_SLOTS 64
+#define PLANNER_MAX_BRIDGES 8
+#define PLANNER_MAX_PRESETS 32
+#define PLANNER_MAX_CALL_JOBS 8 /* in one call */
+#define PLANNER_MAX_JOBS 64     /* in a frame */
+
+/* How long what is handed over has to be, counted in its elements. What stands past these makes no difference and is not changed. */
+#define PLANNER_FRAME_NUMBERS 12 /* numbers of a frame */
+#define PLANNER_TABLE_CELLS 512  /* cells of a table, whatever the frame's size */
+
+/* The same in bytes; an output may be used as far as it goes. */
+#define PLANNER_PRESETS_BYTES 128 /* PLANNER_MAX_PRESETS records */
+#define PLANNER_GRANTS_BYTES 32   /* one for each of PLANNER_MAX_PRESETS */
+#define PLANNER_OUT_BYTES 8192    /* an output */
+
+/* Other sizes in bytes. */
+#define PLANNER_TEXT_BYTES 32768     /* the longest text */
+#define PLANNER_LISTING_BYTES 655360 /* an output that is so long has room for every listing */
+#define PLANNER_STACK_SEEN 17000     /* see above: measured, not proved */
+
+/*
+ * Each function answers PLANNER_ACCEPTED or the number of a refusal. Causes are tried in the order in which a function's comment names them, and the first that holds is the answer.
+ * docs/FORMAT.md has an example of each.
+ */
+enum planner_cause {
+    PLANNER_ACCEPTED = 0,
+    PLANNER_NO_FORM = 1,              /* a line that is not one of the five forms, or lacks its end */
+    PLANNER_OUT_OF_LIMITS = 2,        /* a value or busy stretch outside its limits; a ninth job in a call; a clock below 1 or above S + 1; a head that no text yields */
+    PLANNER_OUT_OF_PLACE = 3,         /* a form out of its place; no frame on line 1 */
+    PLANNER_NUMBER_USED = 4,          /* a number already used, or twice in a call */
+    PLANNER_REQUIRED_DO_NOT_FIT = 5,  /* the required slots do not fit */
+    PLANNER_CLOCK_BACK = 6,           /* a clock below the present one */
+    PLANNER_NO_PLACE = 7,             /* a call that does not fit */
+    PLANNER_TOO_SHORT = 8,            /* frame, presets, table, output or grants shorter than they have to be */
+    PLANNER_TOO_MANY = 9,             /* 33rd preset or 65th job */
+    PLANNER_TEXT_TOO_LONG = 10,       /* text above 32,768 bytes */
+    PLANNER_NOT_SOUND = 11            /* a table that is not sound, or a clock in the frame outside 1 to S + 1 */
+};
+
+/* The places of a frame's numbers. */
+enum planner_frame_place {
+    PLANNER_FRAME_SLOTS = 0,   /* S, how many slots */
+    PLANNER_FRAME_BRIDGES = 1, /* B, how many bridges */
+    PLANNER_FRAME_PRESETS = 2, /* how many presets */
+    PLANNER_FRAME_CLOCK = 3,   /* the slot that is about to begin; S + 1 after the last one */
+    PLANNER_FRAME_BUSY = 4     /* the busy slots of bridge 1 as a mask, slot 1 being the lowest bit; those of bridges 2 to 8 follow */
+};
+
+/* The presets are records of PLANNER_PRESET_BYTES bytes, in file order; record i, from 0, begins at i * PLANNER_PRESET_BYTES. The places of a record's bytes: */
+enum planner_preset_place {
+    PLANNER_PRESET_NUMBER = 0,
+    PLANNER_PRESET_PRIORITY = 1,   /* 0 is best */
+    PLANNER_PRESET_REQUIRED = 2,   /* required slots */
+    PLANNER_PRESET_REFINEMENT = 3, /* refinement slots */
+    PLANNER_PRESET_BYTES = 4
+};
+
+/*
+ * A table is cells, slot by slot and in each slot bridge by bridge: slot s and bridge b, both from 0, are the cell at s * B + b. Cells past S * B are never changed. A cell has a kind
+ * and the number of the preset or job that has it, 0 if it is empty or busy.
+ */
+typedef uint16_t planner_cell;
+
+enum planner_kind {
+    PLANNER_CELL_EMPTY = 0,
+    PLANNER_CELL_BUSY = 1,
+    PLANNER_CELL_REQUIRED = 2,
+    PLANNER_CELL_REFINEMENT = 3,
+    PLANNER_CELL_CALL = 4
+};
+
+#define PLANNER_CELL_KIND(cell) ((cell) / 256)
+#define PLANNER_CELL_NUMBER(cell) ((cell) % 256)
 
 #ifdef __cplusplus
 extern "C" {
@@ -57,16 +111,17 @@ extern "C" {
  *
  * Causes: 10; 8 of the frame, the presets, the output and the table; those of the head's lines, of which the first line at fault decides: 1, 3, 2, 4, 9; 5.
  *
- * 0: the listing stands at the start of the output, as far as it has room for it, and *end is the number of its bytes there; bytes past it are as they were. The frame
- * has the head and the clock that the text left, the presets its records, the table its cells: a running frame for planner_event. A line after the head that is
- * refused has its line in the listing, changes nothing, and does not end the text.
+ * 0: the listing stands at the start of the output, as far as it has room for it; bytes past it are as they were. *end is the smaller of out_len and the number of the listing's bytes: below
+ * out_len the listing is whole; equal to it, the listing may have been cut, unless out_len is PLANNER_LISTING_BYTES or more, when no listing is. The frame has the head and the clock that the text
+ * left, the presets its records, the table its cells: a running frame for planner_event, also where the listing was cut. Records past the last preset are as they were. A line
+ * after the head that is refused has its line in the listing, changes nothing, and does not end the text.
  * Else *end is the line at fault, 0 for 10 and 8, and nothing else changes; but 5 (its line is the last of the head) leaves the head in the frame and its
  * records in the presets, and clock, table and output as they were.
  */
 uint32_t planner_run_text(const uint8_t *text, size_t text_len,
                           uint64_t *frame, size_t frame_len,
                           uint8_t *presets, size_t presets_len,
-                          uint16_t *table, size_t table_len,
+                          planner_cell *table, size_t table_len,
                           uint8_t *out, size_t out_len,
                           uint64_t *end);
 
@@ -82,7 +137,7 @@ uint32_t planner_run_text(const uint8_t *text, size_t text_len,
  */
 uint32_t planner_event(uint64_t *frame, size_t frame_len,
                        const uint8_t *presets, size_t presets_len,
-                       uint16_t *table, size_t table_len,
+                       planner_cell *table, size_t table_len,
                        const uint8_t *line, size_t line_len,
                        uint64_t *number);
 
@@ -91,13 +146,13 @@ uint32_t planner_event(uint64_t *frame, size_t frame_len,
  *
  * Causes: 8 of the frame, the presets, the grants and the table; 2 of the head; 5. It is 5 exactly when no valid plan exists.
  *
- * 0: the grants of the presets, in refinement slots, stand at the start of grants in file order, with 0 past the last preset up to 32; bytes past those are as they
+ * 0: the grants of the presets, in refinement slots, stand at the start of grants in file order, with 0 past the last preset up to PLANNER_MAX_PRESETS; bytes past those are as they
  * were. The table is the plan. For every k, no other valid plan gives the first k presets by rank more refinement.
  * Else nothing changes.
  */
 uint32_t planner_plan(const uint64_t *frame, size_t frame_len,
                       const uint8_t *presets, size_t presets_len,
-                      uint16_t *table, size_t table_len,
+                      planner_cell *table, size_t table_len,
                       uint8_t *grants, size_t grants_len);
 
 /*
@@ -106,11 +161,11 @@ uint32_t planner_plan(const uint64_t *frame, size_t frame_len,
  *
  * Causes: 10; 8 of the output and the table.
  *
- * 0: *bytes is how many bytes were written, and the table is the one that the text left. With PLANNER_LISTING bytes of output the listing is whole.
+ * 0: *bytes is the smaller of out_len and the number of the listing's bytes, which tells a cut listing as in planner_run_text. The table is the one that the text left.
  * Else *bytes is 0, and nothing else changes.
  */
 uint32_t planner_listing(const uint8_t *text, size_t text_len,
-                         uint16_t *table, size_t table_len,
+                         planner_cell *table, size_t table_len,
                          uint8_t *out, size_t out_len,
                          uint64_t *bytes);
 

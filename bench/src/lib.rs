@@ -1,5 +1,6 @@
-//! A bridge planner for the shared tuner, written from the scope document alone and without a look at the
-//! proved one, so that the two can be held against each other.
+//! A bridge planner for the shared tuner, written from the scope document and the readings of it in
+//! docs/DECISIONS.md, without a look at the proved one, so that the two can be held against each other. Both follow
+//! the same readings, so a wrong reading would not show.
 //!
 //! From the bottom up:
 //! - [`bits`]: sets of small numbers as words of bits;

@@ -1,71 +1,114 @@
 /*
- * Plans the head of a station file, then hands its events over one by one, as firmware does: of the file that is named, or of standard input. It prints what the
- * program plan prints: the grants, the answer to each event, and the table at the end.
- *
- * An example and no second reader: the head is taken to end before the first line that begins as an event, whatever its form.
+ * Plans the head of a station file, then hands its events over one by one, as firmware does: of the file that is named, or of standard input. For every text it prints what the program plan
+ * prints: the grants, the answer to each event, and the table at the end, or the one line of a head that is refused.
  */
 #include <stdio.h>
 #include <string.h>
 
 #include "planner.h"
 
-static uint8_t text[PLANNER_TEXT + 1];
+/* One byte more than a text may have, so that a longer one is seen to be too long. */
+static uint8_t text[PLANNER_TEXT_BYTES + 1];
 
 /* The running frame. */
-static uint64_t frame[PLANNER_FRAME];
-static uint8_t presets[PLANNER_PRESETS];
-static uint16_t table[PLANNER_TABLE];
+static uint64_t frame[PLANNER_FRAME_NUMBERS];
+static uint8_t presets[PLANNER_PRESETS_BYTES];
+static planner_cell table[PLANNER_TABLE_CELLS];
 
 /* The output of planner_run_text, which this program does not print. */
-static uint8_t out[PLANNER_OUT];
+static uint8_t out[PLANNER_OUT_BYTES];
 
 /* How many bytes the line at a place has, its byte 10 included. */
 static size_t line_length(const uint8_t *line, size_t left)
 {
-    const uint8_t *end = memchr(line, '\n', left);
+    const uint8_t *end = (const uint8_t *)memchr(line, '\n', left);
     return end == NULL ? left : (size_t)(end - line) + 1;
 }
 
-static int begins(const uint8_t *line, size_t length, const char *word)
-{
-    return strlen(word) <= length && memcmp(line, word, strlen(word)) == 0;
-}
-
+/* Whether a line has an event's form, whatever its values: a frame of one slot and one bridge is asked. */
 static int is_event(const uint8_t *line, size_t length)
 {
-    return begins(line, length, "(clock") || begins(line, length, "(call");
+    uint64_t small[PLANNER_FRAME_NUMBERS] = {0};
+    static planner_cell empty[PLANNER_TABLE_CELLS];
+    uint64_t number = 0;
+    small[PLANNER_FRAME_SLOTS] = 1;
+    small[PLANNER_FRAME_BRIDGES] = 1;
+    small[PLANNER_FRAME_CLOCK] = 1;
+    uint32_t cause = planner_event(small, PLANNER_FRAME_NUMBERS, presets, sizeof presets, empty, PLANNER_TABLE_CELLS, line, length, &number);
+    empty[0] = 0;
+    return cause != PLANNER_NO_FORM && cause != PLANNER_OUT_OF_PLACE;
+}
+
+static void print_refused(uint64_t line, uint32_t cause)
+{
+    printf("(refused %llu %u)\n", (unsigned long long)line, (unsigned)cause);
 }
 
 static void print_grants(const uint8_t *grants)
 {
-    for (uint64_t i = 0; i < frame[2]; i++) {
-        printf("(granted %u %u)\n", presets[4 * i], grants[i]);
+    for (uint64_t i = 0; i < frame[PLANNER_FRAME_PRESETS]; i++) {
+        printf("(granted %u %u)\n", presets[i * PLANNER_PRESET_BYTES + PLANNER_PRESET_NUMBER], grants[i]);
     }
 }
 
-static void print_answer(const uint8_t *line, size_t length, size_t number, uint32_t refusal, uint64_t count)
+static void print_cell(planner_cell cell)
 {
-    if (refusal != 0) {
-        printf("(refused %zu %u)\n", number, (unsigned)refusal);
-    } else {
-        printf("(%s %llu)\n", begins(line, length, "(clock") ? "now" : "taken", (unsigned long long)count);
+    unsigned number = PLANNER_CELL_NUMBER(cell);
+    switch (PLANNER_CELL_KIND(cell)) {
+    case PLANNER_CELL_EMPTY: printf(" 0"); break;
+    case PLANNER_CELL_BUSY: printf(" -"); break;
+    case PLANNER_CELL_REQUIRED: printf(" m%u", number); break;
+    case PLANNER_CELL_REFINEMENT: printf(" o%u", number); break;
+    case PLANNER_CELL_CALL: printf(" c%u", number); break;
     }
 }
 
 static void print_table(void)
 {
-    for (uint64_t s = 0; s < frame[0]; s++) {
+    uint64_t bridges = frame[PLANNER_FRAME_BRIDGES];
+    for (uint64_t s = 0; s < frame[PLANNER_FRAME_SLOTS]; s++) {
         printf("(slot %llu", (unsigned long long)(s + 1));
-        for (uint64_t b = 0; b < frame[1]; b++) {
-            uint16_t cell = table[s * frame[1] + b];
-            if (cell < 512) {
-                printf(" %c", cell < 256 ? '0' : '-');
-            } else {
-                printf(" %c%u", "moc"[cell / 256 - 2], cell % 256);
-            }
+        for (uint64_t b = 0; b < bridges; b++) {
+            print_cell(table[s * bridges + b]);
         }
         printf(")\n");
     }
+}
+
+/* The head is the first head_bytes bytes of the text, its lines the first head_lines. */
+static void run(size_t length, size_t head_bytes, uint64_t head_lines)
+{
+    /* The head alone: read, planned, and left as a running frame at the first clock. */
+    uint64_t end = 0;
+    uint32_t cause = planner_run_text(text, head_bytes, frame, PLANNER_FRAME_NUMBERS, presets, sizeof presets, table, PLANNER_TABLE_CELLS, out, sizeof out, &end);
+    if (cause != PLANNER_ACCEPTED) {
+        print_refused(end, cause);
+        return;
+    }
+
+    /* The same plan again, for its grants. */
+    uint8_t grants[PLANNER_GRANTS_BYTES] = {0};
+    cause = planner_plan(frame, PLANNER_FRAME_NUMBERS, presets, sizeof presets, table, PLANNER_TABLE_CELLS, grants, sizeof grants);
+    if (cause != PLANNER_ACCEPTED) {
+        print_refused(0, cause);
+        return;
+    }
+    print_grants(grants);
+
+    uint64_t lines = head_lines;
+    for (size_t at = head_bytes, bytes; at < length; at += bytes) {
+        uint64_t number = 0;
+        bytes = line_length(text + at, length - at);
+        lines++;
+        cause = planner_event(frame, PLANNER_FRAME_NUMBERS, presets, sizeof presets, table, PLANNER_TABLE_CELLS, text + at, bytes, &number);
+        if (cause != PLANNER_ACCEPTED) {
+            print_refused(lines, cause);
+        } else {
+            /* An event that is accepted is (clock .. or (call .. */
+            printf("(%s %llu)\n", text[at + 2] == 'l' ? "now" : "taken", (unsigned long long)number);
+        }
+    }
+    print_table();
 }
 
 int main(int argc, char **argv)
@@ -76,37 +119,29 @@ int main(int argc, char **argv)
         return 1;
     }
     size_t length = fread(text, 1, sizeof text, in);
-    size_t at = 0;
-    size_t lines = 0;
-    while (at < length && !is_event(text + at, length - at)) {
-        at += line_length(text + at, length - at);
-        lines++;
-    }
-
-    /* The head alone: read, planned, and left as a running frame at clock 1. */
-    uint64_t end = 0;
-    uint32_t refusal = planner_run_text(text, at, frame, PLANNER_FRAME, presets, PLANNER_PRESETS, table, PLANNER_TABLE, out, sizeof out, &end);
-    if (refusal != 0) {
-        printf("(refused %llu %u)\n", (unsigned long long)end, (unsigned)refusal);
-        return 0;
-    }
-
-    /* The same plan again, for its grants. */
-    uint8_t grants[PLANNER_GRANTS] = {0};
-    refusal = planner_plan(frame, PLANNER_FRAME, presets, PLANNER_PRESETS, table, PLANNER_TABLE, grants, sizeof grants);
-    if (refusal != 0) {
+    if (ferror(in)) {
+        perror("the station file");
         return 1;
     }
-    print_grants(grants);
-
-    while (at < length) {
-        size_t line = line_length(text + at, length - at);
-        uint64_t count = 0;
-        lines++;
-        refusal = planner_event(frame, PLANNER_FRAME, presets, PLANNER_PRESETS, table, PLANNER_TABLE, text + at, line, &count);
-        print_answer(text + at, line, lines, refusal, count);
-        at += line;
+    if (PLANNER_TEXT_BYTES < length) {
+        print_refused(0, PLANNER_TEXT_TOO_LONG);
+    } else {
+        /* The head ends before the first line that has an event's form, or with the text. */
+        size_t head_bytes = 0;
+        uint64_t head_lines = 0;
+        while (head_bytes < length) {
+            size_t bytes = line_length(text + head_bytes, length - head_bytes);
+            if (is_event(text + head_bytes, bytes)) {
+                break;
+            }
+            head_bytes += bytes;
+            head_lines++;
+        }
+        run(length, head_bytes, head_lines);
     }
-    print_table();
+    if (fflush(stdout) != 0 || ferror(stdout)) {
+        perror("the listing");
+        return 1;
+    }
     return 0;
 }

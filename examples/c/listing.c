@@ -8,9 +8,9 @@
 #include "planner.h"
 
 /* One byte more than a text may have, so that a longer one is seen to be too long. */
-static uint8_t text[PLANNER_TEXT + 1];
-static uint16_t table[PLANNER_TABLE];
-static uint8_t out[PLANNER_LISTING];
+static uint8_t text[PLANNER_TEXT_BYTES + 1];
+static planner_cell table[PLANNER_TABLE_CELLS];
+static uint8_t out[PLANNER_LISTING_BYTES];
 
 int main(int argc, char **argv)
 {
@@ -21,15 +21,20 @@ int main(int argc, char **argv)
     }
     size_t length = fread(text, 1, sizeof text, in);
     if (ferror(in)) {
-        perror("read");
+        perror("the station file");
         return 1;
     }
     uint64_t bytes = 0;
-    uint32_t refusal = planner_listing(text, length, table, PLANNER_TABLE, out, sizeof out, &bytes);
-    if (refusal != 0) {
+    uint32_t cause = planner_listing(text, length, table, PLANNER_TABLE_CELLS, out, sizeof out, &bytes);
+    if (cause == PLANNER_ACCEPTED) {
+        fwrite(out, 1, bytes, stdout);
+    } else {
         /* Only 10 and 8 come here, at line 0: every other refusal is in the listing. */
-        printf("(refused 0 %u)\n", (unsigned)refusal);
-        return 0;
+        printf("(refused 0 %u)\n", (unsigned)cause);
     }
-    return fwrite(out, 1, bytes, stdout) == bytes ? 0 : 1;
+    if (fflush(stdout) != 0 || ferror(stdout)) {
+        perror("the listing");
+        return 1;
+    }
+    return 0;
 }
