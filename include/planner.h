@@ -22,10 +22,10 @@
 #include <stdint.h>
 
 /*
- * The version of the layout below and of what the numbers mean. Whoever stores a frame stores this beside it, and restores no frame of another version: later versions have wider
- * cells (with the place of each cell in its preset or job), another range of the clock (from 0) and more numbers in a frame.
+ * The version of the layout below and of what the numbers mean. Whoever stores a frame stores this beside it, and restores no frame of another version: version 1 had 12 numbers in a
+ * frame, later versions have wider cells (with the place of each cell in its preset or job), another range of the clock (from 0) and something to say in the reserved numbers of a frame.
  */
-#define PLANNER_VERSION 1
+#define PLANNER_VERSION 2
 
 /* How many there are at most. */
 #define PLANNER_MAX_SLOTS 64
@@ -35,7 +35,7 @@
 #define PLANNER_MAX_JOBS 64     /* in a frame */
 
 /* How long what is handed over has to be, counted in its elements. What stands past these makes no difference and is not changed. */
-#define PLANNER_FRAME_NUMBERS 12 /* numbers of a frame */
+#define PLANNER_FRAME_NUMBERS 16 /* numbers of a frame */
 #define PLANNER_TABLE_CELLS 512  /* cells of a table, whatever the frame's size */
 
 /* The same in bytes; an output may be used as far as it goes. */
@@ -73,7 +73,16 @@ enum planner_frame_place {
     PLANNER_FRAME_BRIDGES = 1, /* B, how many bridges */
     PLANNER_FRAME_PRESETS = 2, /* how many presets */
     PLANNER_FRAME_CLOCK = 3,   /* the slot that is about to begin; S + 1 after the last one */
-    PLANNER_FRAME_BUSY = 4     /* the busy slots of bridge 1 as a mask, slot 1 being the lowest bit; those of bridges 2 to 8 follow */
+    PLANNER_FRAME_BUSY = 4,    /* the busy slots of bridge 1 as a mask, slot 1 being the lowest bit; those of bridges 2 to 8 follow */
+
+    /*
+     * Reserved for requests to come. This version does not look at these four: whatever stands there, every answer is the same. planner_run_text leaves 0 there where the text ran, and
+     * nothing else writes there; a frame that a program makes itself has 0 there too if it is to be stored.
+     */
+    PLANNER_FRAME_SUPPLY = 12,  /* how many motors the supply feeds at a time (request 2026-03) */
+    PLANNER_FRAME_TIE = 13,     /* the order of ties that the head asks for (request 2026-02) */
+    PLANNER_FRAME_TIE_NOW = 14, /* the order of ties in force (request 2026-02) */
+    PLANNER_FRAME_JOBS = 15     /* how many jobs were admitted (request 2026-06) */
 };
 
 /* The presets are records of PLANNER_PRESET_BYTES bytes, in file order; record i, from 0, begins at i * PLANNER_PRESET_BYTES. The places of a record's bytes: */
@@ -113,10 +122,10 @@ extern "C" {
  *
  * 0: the listing stands at the start of the output, as far as it has room for it; bytes past it are as they were. *end is the smaller of out_len and the number of the listing's bytes: below
  * out_len the listing is whole; equal to it, the listing may have been cut, unless out_len is PLANNER_LISTING_BYTES or more, when no listing is. The frame has the head and the clock that the text
- * left, the presets its records, the table its cells: a running frame for planner_event, also where the listing was cut. Records past the last preset are as they were. A line
- * after the head that is refused has its line in the listing, changes nothing, and does not end the text.
+ * left, and 0 for its reserved numbers, the presets its records, the table its cells: a running frame for planner_event, also where the listing was cut. Records past the last preset
+ * are as they were. A line after the head that is refused has its line in the listing, changes nothing, and does not end the text.
  * Else *end is the line at fault, 0 for 10 and 8, and nothing else changes; but 5 (its line is the last of the head) leaves the head in the frame and its
- * records in the presets, and clock, table and output as they were.
+ * records in the presets, and clock, reserved numbers, table and output as they were.
  */
 uint32_t planner_run_text(const uint8_t *text, size_t text_len,
                           uint64_t *frame, size_t frame_len,

@@ -18,7 +18,7 @@ mod archive {
 
     use super::OUT;
 
-    const FRAME: usize = 12;
+    const FRAME: usize = 16;
     const PRESETS: usize = 128;
     pub const GRANTS: usize = 32;
 

@@ -33,7 +33,7 @@ static void answer(const char *what, size_t numbers, size_t cells)
 int main(void)
 {
     begin();
-    answer("a frame of 11 numbers", PLANNER_FRAME_NUMBERS - 1, PLANNER_TABLE_CELLS);
+    answer("a frame of 15 numbers", PLANNER_FRAME_NUMBERS - 1, PLANNER_TABLE_CELLS);
     begin();
     answer("a table of 511 cells", PLANNER_FRAME_NUMBERS, PLANNER_TABLE_CELLS - 1);
     begin();

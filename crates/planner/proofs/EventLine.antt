@@ -23,7 +23,7 @@ use Rattle.frame.specs.declared.types.Outcome as result
 use Rattle.frame.specs.Demands.{EventIs, stopped, clockSet, placed}
 use Rattle.frame.proofs.Theorems.{event-is, demand-3, done-running}
 use Rattle.frame.specs.EventDone.{stateOf, eventMeant, EventDone}
-use Rattle.planner.specs.Layout.{recordsIn, headOfNumbers, clockOfNumbers, clockOver}
+use Rattle.planner.specs.Layout.{recordsIn, frameNumbers, headOfNumbers, clockOfNumbers, clockOver}
 use Rattle.planner.proofs.RoundTrip.{clock-head, clock-new, clock-same}
 use Rattle.planner.specs.Exports.{headOn, RunningOn, eventOn, answerNumber, answerCount, EventLeaves, EventPromise}
 
@@ -45,17 +45,17 @@ module _ (f p t l : List ℕ) where
   abbrev state : State
   state = stateOf t (clockOfNumbers f)
 
-  on-short-frame : length f < 12 → eventOn f p t l ≡ record { answer = refused tooShort; after = state }
+  on-short-frame : length f < frameNumbers → eventOn f p t l ≡ record { answer = refused tooShort; after = state }
   unfolding eventOn firstOf
-  on-short-frame s = rw (ltb-yes (length f) 12 s, eventOn) refl
+  on-short-frame s = rw (ltb-yes (length f) frameNumbers s, eventOn) refl
 
-  on-short-presets : 12 ≤ length f → length p < 128 → eventOn f p t l ≡ record { answer = refused tooShort; after = state }
+  on-short-presets : frameNumbers ≤ length f → length p < 128 → eventOn f p t l ≡ record { answer = refused tooShort; after = state }
   unfolding eventOn firstOf
-  on-short-presets k s = rw (ltb-no (length f) 12 k, ltb-yes (length p) 128 s, eventOn) refl
+  on-short-presets k s = rw (ltb-no (length f) frameNumbers k, ltb-yes (length p) 128 s, eventOn) refl
 
-  on-enough : 12 ≤ length f → 128 ≤ length p → eventOn f p t l ≡ eventMeant (headOfNumbers f) (recordsIn p) state (Event.line l)
+  on-enough : frameNumbers ≤ length f → 128 ≤ length p → eventOn f p t l ≡ eventMeant (headOfNumbers f) (recordsIn p) state (Event.line l)
   unfolding eventOn firstOf
-  on-enough k s = rw (ltb-no (length f) 12 k, ltb-no (length p) 128 s, eventOn) refl
+  on-enough k s = rw (ltb-no (length f) frameNumbers k, ltb-no (length p) 128 s, eventOn) refl
 
   -- what is answered and left, and what is claimed
   abbrev Done : List ℕ → List ℕ → ℕ → ℕ → Type 0
@@ -67,13 +67,13 @@ module _ (f p t l : List ℕ) where
     record { unchanged = λ z. (refl, refl); kept = λ run. run; claim = demand-3 (headOn f p) state (Event.line l ∷ []) },
   )
 
-  pub event-short-frame : length f < 12 → Done f t 0 8
+  pub event-short-frame : length f < frameNumbers → Done f t 0 8
   event-short-frame s = event-stopped (on-short-frame s)
 
-  pub event-short-presets : 12 ≤ length f → length p < 128 → Done f t 0 8
+  pub event-short-presets : frameNumbers ≤ length f → length p < 128 → Done f t 0 8
   event-short-presets k s = event-stopped (on-short-presets k s)
 
-  module _ {f₁ t₁ : List ℕ} {x : result.Outcome} (k : 12 ≤ length f) (s : 128 ≤ length p) (d : EventDone (headOfNumbers f) (recordsIn p) t (clockOfNumbers f) (Event.line l) t₁ x)
+  module _ {f₁ t₁ : List ℕ} {x : result.Outcome} (k : frameNumbers ≤ length f) (s : 128 ≤ length p) (d : EventDone (headOfNumbers f) (recordsIn p) t (clockOfNumbers f) (Event.line l) t₁ x)
       (a : f₁ ≡ clockOver (x .clock) f) where
     -- the head of the frame is as it was, and its clock the new one
     frame-again : Running (headOn f p) (x .clock) t₁ → RunningOn f₁ p t₁
@@ -102,7 +102,7 @@ module _ (f p t l : List ℕ) where
     )
 
   -- the same of what was read of the frame and of the presets
-  pub event-handed : (hd : record-of-head.Head) (ps : List record-of-preset.Preset) (c : ℕ) (x : result.Outcome) {f₁ t₁ : List ℕ} {n r : ℕ} → 12 ≤ length f → 128 ≤ length p
+  pub event-handed : (hd : record-of-head.Head) (ps : List record-of-preset.Preset) (c : ℕ) (x : result.Outcome) {f₁ t₁ : List ℕ} {n r : ℕ} → frameNumbers ≤ length f → 128 ≤ length p
       → hd ≡ headOfNumbers f → ps ≡ recordsIn p → c ≡ clockOfNumbers f → EventDone hd ps t c (Event.line l) t₁ x
       → f₁ ≡ clockOver (x .clock) f → n ≡ answerCount (answerIn (x .answer)) → r ≡ answerNumber (answerIn (x .answer)) → Done f₁ t₁ n r
   event-handed hd ps c x k s a b e d f₂ n r = event-run {x = x} k s (rw (a, b, e) at d) f₂ n r

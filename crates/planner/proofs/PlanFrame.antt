@@ -29,7 +29,7 @@ use Rattle.placing.specs.declared.plan.Planned as result
 use Rattle.placing.specs.declared.plan.PlanAnswer.the-variants.{Granted, Refused}
 use Rattle.placing.specs.PlanDone.{planMeant, repliedIn, grantsIn, PlanDone}
 use Rattle.frame.proofs.Theorems.{planned-running}
-use Rattle.planner.specs.Layout.{recordsIn, headOfNumbers}
+use Rattle.planner.specs.Layout.{recordsIn, frameNumbers, headOfNumbers}
 use Rattle.planner.specs.Exports.{headOn, planOn, planNumber, grantsAfter, PlanLeaves, PlanPromise}
 
 -- a refused plan leaves the table
@@ -64,21 +64,21 @@ module _ (head : record-of-head.Head) (ps : List record-of-preset.Preset) (t : L
       go (some r) q = absurd (number-some r (rw (q, planMeant) at z))
 
 module _ (f p t g : List ℕ) where
-  on-short-frame : length f < 12 → planOn f p t g ≡ record { answer = PlanAnswer.refused tooShort; table = t }
+  on-short-frame : length f < frameNumbers → planOn f p t g ≡ record { answer = PlanAnswer.refused tooShort; table = t }
   unfolding planOn firstOf
-  on-short-frame s = rw (ltb-yes (length f) 12 s, planOn) refl
+  on-short-frame s = rw (ltb-yes (length f) frameNumbers s, planOn) refl
 
-  on-short-presets : 12 ≤ length f → length p < 128 → planOn f p t g ≡ record { answer = PlanAnswer.refused tooShort; table = t }
+  on-short-presets : frameNumbers ≤ length f → length p < 128 → planOn f p t g ≡ record { answer = PlanAnswer.refused tooShort; table = t }
   unfolding planOn firstOf
-  on-short-presets k s = rw (ltb-no (length f) 12 k, ltb-yes (length p) 128 s, planOn) refl
+  on-short-presets k s = rw (ltb-no (length f) frameNumbers k, ltb-yes (length p) 128 s, planOn) refl
 
-  on-short-grants : 12 ≤ length f → 128 ≤ length p → length g < 32 → planOn f p t g ≡ record { answer = PlanAnswer.refused tooShort; table = t }
+  on-short-grants : frameNumbers ≤ length f → 128 ≤ length p → length g < 32 → planOn f p t g ≡ record { answer = PlanAnswer.refused tooShort; table = t }
   unfolding planOn firstOf
-  on-short-grants k m s = rw (ltb-no (length f) 12 k, ltb-no (length p) 128 m, ltb-yes (length g) 32 s, planOn) refl
+  on-short-grants k m s = rw (ltb-no (length f) frameNumbers k, ltb-no (length p) 128 m, ltb-yes (length g) 32 s, planOn) refl
 
-  on-enough : 12 ≤ length f → 128 ≤ length p → 32 ≤ length g → planOn f p t g ≡ planMeant (headOfNumbers f) (recordsIn p) t
+  on-enough : frameNumbers ≤ length f → 128 ≤ length p → 32 ≤ length g → planOn f p t g ≡ planMeant (headOfNumbers f) (recordsIn p) t
   unfolding planOn firstOf
-  on-enough k m s = rw (ltb-no (length f) 12 k, ltb-no (length p) 128 m, ltb-no (length g) 32 s, planOn) refl
+  on-enough k m s = rw (ltb-no (length f) frameNumbers k, ltb-no (length p) 128 m, ltb-no (length g) 32 s, planOn) refl
 
   -- what is answered and left, and what is claimed
   abbrev Done : List ℕ → List ℕ → ℕ → Type 0
@@ -91,16 +91,16 @@ module _ (f p t g : List ℕ) where
     record { unchanged = λ z. refl; claim = plan-claim (headOn f p) t; running = λ z. absurd (number-some tooShort z) },
   )
 
-  pub plan-short-frame : length f < 12 → Done t g 8
+  pub plan-short-frame : length f < frameNumbers → Done t g 8
   plan-short-frame s = plan-stopped (on-short-frame s)
 
-  pub plan-short-presets : 12 ≤ length f → length p < 128 → Done t g 8
+  pub plan-short-presets : frameNumbers ≤ length f → length p < 128 → Done t g 8
   plan-short-presets k s = plan-stopped (on-short-presets k s)
 
-  pub plan-short-grants : 12 ≤ length f → 128 ≤ length p → length g < 32 → Done t g 8
+  pub plan-short-grants : frameNumbers ≤ length f → 128 ≤ length p → length g < 32 → Done t g 8
   plan-short-grants k m s = plan-stopped (on-short-grants k m s)
 
-  module _ {t₁ : List ℕ} {x : result.Planned} (k : 12 ≤ length f) (m : 128 ≤ length p) (s : 32 ≤ length g) (d : PlanDone (headOfNumbers f) (recordsIn p) t t₁ x) where
+  module _ {t₁ : List ℕ} {x : result.Planned} (k : frameNumbers ≤ length f) (m : 128 ≤ length p) (s : 32 ≤ length g) (d : PlanDone (headOfNumbers f) (recordsIn p) t t₁ x) where
     abbrev meant : PlanOutcome
     meant = planMeant (headOfNumbers f) (recordsIn p) t
 
@@ -131,7 +131,7 @@ module _ (f p t g : List ℕ) where
         ∙ sym (ap (λ (a : PlanAnswer). grantsAfter a g) is))
 
   -- the same of what was read of the frame and of the presets
-  module _ (hd : record-of-head.Head) (ps : List record-of-preset.Preset) (x : result.Planned) {t₁ : List ℕ} (k : 12 ≤ length f) (m : 128 ≤ length p) (s : 32 ≤ length g)
+  module _ (hd : record-of-head.Head) (ps : List record-of-preset.Preset) (x : result.Planned) {t₁ : List ℕ} (k : frameNumbers ≤ length f) (m : 128 ≤ length p) (s : 32 ≤ length g)
       (a : hd ≡ headOfNumbers f) (b : ps ≡ recordsIn p) (d : PlanDone hd ps t t₁ x) where
     pub refused-handed : {c : cause.Refusal} {r : ℕ} → x .answer ≡ Refused c → r ≡ numberOf (refusalIn c) → Done t₁ g r
     refused-handed = plan-refused k m s (rw (a, b) at d)

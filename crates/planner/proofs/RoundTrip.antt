@@ -1,20 +1,22 @@
 -- The layout's round trips: reading and writing are inverse, and what stands past the records and the frame never changes.
 --
 -- In order: a run of stores (`sets-cons`, `sets-four`, `sets-short`, `sets-past`); preset records: what was written is read back (`records-back`), what was read and is
--- written changes nothing (`bytes-back`), nor does what was read behind other records (`bytes-over-rest`), and bytes past them stay (`bytes-past`); a frame, likewise
--- (`head-back`, `clock-back`, `numbers-back`, `numbers-past`), and its clock alone (`clock-head`, `clock-new`, `clock-same`).
+-- written changes nothing (`bytes-back`), nor does what was read behind other records (`bytes-over-rest`), and bytes past them stay (`bytes-past`); a frame: its reserved
+-- places are not looked at (`reserved-head`, `reserved-clock`), what was written is read back (`head-back`, `clock-back`) with 0 in the reserved places
+-- (`cleared-zero`), numbers past it stay (`head-past`, `numbers-past`), the head and the clock that were read and are written change nothing (`head-same`), and with the
+-- reserved numbers exactly if these are 0 (`numbers-back`, `back-zero`); its clock alone (`clock-head`, `clock-new`, `clock-same`).
 -- Assumes nothing.
-use Prim.Native.Nat.{ℕ, zero, suc, _+_, _*_, _≤_}
+use Prim.Native.Nat.{ℕ, zero, suc, _+_, _*_, _≤_, _<_}
 use native.Mathlib.Omega.{arith}
-use mathlib.Core.Path.{_≡_, refl, sym, _∙_, ap}
+use mathlib.Core.Path.{_≡_, refl, sym, _∙_, ap, subst}
 use mathlib.Core.List.{List, [], _∷_, _++_, append-nil}
 use lib.ListN.{length, getD, set, drop}
-use lib.Seq.{sets, sets-eq, drop-set-lt, getD-set-same, set-getD}
+use lib.Seq.{sets, sets-eq, drop-set-lt, getD-set-same, getD-set-other, set-getD}
 use Rattle.laws.specs.Lists.{tabulate}
 use Rattle.laws.proofs.Stores.{sets-out}
 use Rattle.station.specs.declared.types.Preset.{Preset}
 use Rattle.station.specs.declared.types.Head.{Head}
-use Rattle.planner.specs.Layout.{firstRecords, bytesOf, bytesOver, headOfNumbers, clockOfNumbers, numbersOver, clockOver}
+use Rattle.planner.specs.Layout.{firstRecords, bytesOf, bytesOver, frameNumbers, headOfNumbers, clockOfNumbers, headOver, reservedCleared, numbersOver, clockOver}
 
 -- ---- a run of stores
 
@@ -100,27 +102,86 @@ unfolding tabulate
 firsts-read [] b = refl
 firsts-read (x ∷ a) b = ap (λ (r : List ℕ). x ∷ r) (firsts-read a b)
 
+-- a number below a run of stores
+below-sets : (l : List ℕ) (k : ℕ) (vs : List ℕ) (i : ℕ) → i < k → getD (sets l k vs) i 0 ≡ getD l i 0
+below-sets l k [] i h = refl
+below-sets l k (v ∷ vs) i h = below-sets (set l k v) (suc k) vs i (omega arith) ∙ getD-set-other l k i v 0 (omega arith)
+
+-- The reserved places are not looked at: whatever is written there, the head and the clock are the same.
+pub reserved-head : (l vs : List ℕ) → headOfNumbers (sets l 12 vs) ≡ headOfNumbers l
+unfolding tabulate
+reserved-head l vs =
+    let at : (i : ℕ) → i < 12 → getD (sets l 12 vs) i 0 ≡ getD l i 0 = below-sets l 12 vs in
+    rw (at 0 (omega arith), at 1 (omega arith), at 2 (omega arith), at 4 (omega arith), at 5 (omega arith), at 6 (omega arith), at 7 (omega arith), at 8 (omega arith), at 9 (omega arith), at 10 (omega arith), at 11 (omega arith))
+    refl
+
+pub reserved-clock : (l vs : List ℕ) → clockOfNumbers (sets l 12 vs) ≡ clockOfNumbers l
+reserved-clock l vs = below-sets l 12 vs 3 (omega arith)
+
+-- what was written is read back
 module _ (head : Head) (clock : ℕ) (l : List ℕ) (eight : length (head .busy) ≡ 8) where
-  numbers-are : 12 ≤ length l → numbersOver head clock l ≡ head .slots ∷ head .bridges ∷ head .count ∷ clock ∷ (head .busy ++ drop 12 l)
+  numbers-are : frameNumbers ≤ length l → headOver head clock l ≡ head .slots ∷ head .bridges ∷ head .count ∷ clock ∷ (head .busy ++ drop 12 l)
   numbers-are h = sets-eq (head .slots ∷ head .bridges ∷ head .count ∷ clock ∷ head .busy) l 0 (omega (arith, eight)) ∙ rw eight refl
 
-  pub head-back : 12 ≤ length l → headOfNumbers (numbersOver head clock l) ≡ head
+  pub head-back : frameNumbers ≤ length l → headOfNumbers (numbersOver head clock l) ≡ head
   unfolding tabulate
   head-back h =
       let masks : tabulate 8 (λ i. getD (head .busy ++ drop 12 l) i 0) ≡ head .busy = rw eight at (firsts-read (head .busy) (drop 12 l)) in
-      rw (numbers-are h, masks) refl
+      reserved-head (headOver head clock l) (0 ∷ 0 ∷ 0 ∷ 0 ∷ []) ∙ rw (numbers-are h, masks) refl
 
-  pub clock-back : 12 ≤ length l → clockOfNumbers (numbersOver head clock l) ≡ clock
-  clock-back h = rw (numbers-are h) refl
+  pub clock-back : frameNumbers ≤ length l → clockOfNumbers (numbersOver head clock l) ≡ clock
+  clock-back h = reserved-clock (headOver head clock l) (0 ∷ 0 ∷ 0 ∷ 0 ∷ []) ∙ rw (numbers-are h) refl
 
-  pub numbers-past : drop 12 (numbersOver head clock l) ≡ drop 12 l
-  numbers-past = sets-past 12 l 0 (head .slots ∷ head .bridges ∷ head .count ∷ clock ∷ head .busy) (omega (arith, eight))
+  -- numbers past those written never change: past the twelfth with the head and the clock alone, past the sixteenth with a whole frame
+  pub head-past : drop 12 (headOver head clock l) ≡ drop 12 l
+  head-past = sets-past 12 l 0 (head .slots ∷ head .bridges ∷ head .count ∷ clock ∷ head .busy) (omega (arith, eight))
 
-pub numbers-back : (l : List ℕ) → numbersOver (headOfNumbers l) (clockOfNumbers l) l ≡ l
+  pub numbers-past : drop frameNumbers (numbersOver head clock l) ≡ drop frameNumbers l
+  numbers-past =
+      sets-past frameNumbers (headOver head clock l) 12 (0 ∷ 0 ∷ 0 ∷ 0 ∷ []) (omega arith)
+      ∙ sets-past frameNumbers l 0 (head .slots ∷ head .bridges ∷ head .count ∷ clock ∷ head .busy) (omega (arith, eight))
+
+-- writing the head and the clock that were read changes nothing
+pub head-same : (l : List ℕ) → headOver (headOfNumbers l) (clockOfNumbers l) l ≡ l
 unfolding tabulate
-numbers-back l =
+head-same l =
     rw (set-getD l 0 0, set-getD l 1 0, set-getD l 2 0, set-getD l 3 0, set-getD l 4 0, set-getD l 5 0, set-getD l 6 0, set-getD l 7 0, set-getD l 8 0, set-getD l 9 0, set-getD l 10 0, set-getD l 11 0)
     refl
+
+-- the reserved numbers are 0
+pub record ReservedZero (l : List ℕ) : Type 0 where
+  pub supply : getD l 12 0 ≡ 0
+  pub tie : getD l 13 0 ≡ 0
+  pub tie-now : getD l 14 0 ≡ 0
+  pub jobs : getD l 15 0 ≡ 0
+
+-- 0 that was written at a place stands there, and past the end 0 is read; written where it stands it changes nothing
+zero-at : (l : List ℕ) (i : ℕ) → getD (set l i 0) i 0 ≡ 0
+zero-at [] i = refl
+zero-at (x ∷ l) zero = refl
+zero-at (x ∷ l) (suc i) = zero-at l i
+
+zero-same : (l : List ℕ) (i : ℕ) → getD l i 0 ≡ 0 → set l i 0 ≡ l
+zero-same l i e = ap (set l i) (sym e) ∙ set-getD l i 0
+
+pub cleared-zero : (l : List ℕ) → ReservedZero (reservedCleared l)
+cleared-zero l =
+    let l₁ = set l 12 0 in
+    let l₂ = set l₁ 13 0 in
+    let l₃ = set l₂ 14 0 in
+    record {
+      supply = below-sets l₁ 13 (0 ∷ 0 ∷ 0 ∷ []) 12 (omega arith) ∙ zero-at l 12;
+      tie = below-sets l₂ 14 (0 ∷ 0 ∷ []) 13 (omega arith) ∙ zero-at l₁ 13;
+      tie-now = below-sets l₃ 15 (0 ∷ []) 14 (omega arith) ∙ zero-at l₂ 14;
+      jobs = zero-at l₃ 15;
+    }
+
+-- Writing the whole frame that was read changes nothing exactly if they are.
+pub numbers-back : (l : List ℕ) → ReservedZero l → numbersOver (headOfNumbers l) (clockOfNumbers l) l ≡ l
+numbers-back l z = ap reservedCleared (head-same l) ∙ rw (zero-same l 12 (z .supply), zero-same l 13 (z .tie), zero-same l 14 (z .tie-now), zero-same l 15 (z .jobs)) refl
+
+pub back-zero : (l : List ℕ) → numbersOver (headOfNumbers l) (clockOfNumbers l) l ≡ l → ReservedZero l
+back-zero l e = subst ReservedZero e (cleared-zero (headOver (headOfNumbers l) (clockOfNumbers l) l))
 
 -- ---- its clock alone
 
@@ -132,7 +193,7 @@ clock-head c (x ∷ y ∷ []) = refl
 clock-head c (x ∷ y ∷ z ∷ []) = refl
 clock-head c (x ∷ y ∷ z ∷ w ∷ l) = refl
 
-pub clock-new : (c : ℕ) (l : List ℕ) → 12 ≤ length l → clockOfNumbers (clockOver c l) ≡ c
+pub clock-new : (c : ℕ) (l : List ℕ) → frameNumbers ≤ length l → clockOfNumbers (clockOver c l) ≡ c
 clock-new c l h = getD-set-same l 3 c 0 (omega arith)
 
 pub clock-same : (l : List ℕ) → clockOver (clockOfNumbers l) l ≡ l

@@ -24,30 +24,30 @@ use Rattle.placing.specs.Claims.{Running}
 use Rattle.frame.specs.Text.{Whole, notRead, notPlanned, ran}
 use Rattle.frame.specs.Event.{Run}
 use Rattle.frame.specs.declared.text.TextRun as run
-use Rattle.frame.specs.TextDone.{wholeBeside, endIn, endOf, headAfter, presetsAfter, tableAfter, clockAfter, outputAfter, TextDone}
+use Rattle.frame.specs.TextDone.{wholeBeside, End, endIn, endOf, headAfter, presetsAfter, tableAfter, clockAfter, outputAfter, TextDone}
 use Rattle.frame.proofs.Theorems.{beside-long, text-claim}
-use Rattle.planner.specs.Layout.{recordsIn, bytesOver, headOfNumbers, clockOfNumbers, numbersOver}
-use Rattle.planner.proofs.RoundTrip.{records-back, bytes-back, bytes-over-rest, length-records, head-back, clock-back, numbers-back}
-use Rattle.planner.specs.Exports.{RunningOn, textOn, endNumber, endPlace, frameAfter, recordsAfter, TextLeaves, TextPromise}
+use Rattle.planner.specs.Layout.{recordsIn, bytesOver, frameNumbers, headOfNumbers, clockOfNumbers, numbersOver}
+use Rattle.planner.proofs.RoundTrip.{records-back, bytes-back, bytes-over-rest, length-records, head-back, clock-back, head-same}
+use Rattle.planner.specs.Exports.{RunningOn, textOn, endNumber, endPlace, frameLeft, frameAfter, recordsAfter, TextLeaves, TextPromise}
 
 module _ (text f p t out : List ℕ) where
   on-long : 32768 < length text → textOn text f p t out ≡ notRead 0 textTooLong
   unfolding textOn firstOf
   on-long l = rw (ltb-yes 32768 (length text) l, textOn) refl
 
-  on-short-frame : length text ≤ 32768 → length f < 12 → textOn text f p t out ≡ notRead 0 tooShort
+  on-short-frame : length text ≤ 32768 → length f < frameNumbers → textOn text f p t out ≡ notRead 0 tooShort
   unfolding textOn firstOf
-  on-short-frame l s = rw (ltb-no 32768 (length text) l, ltb-yes (length f) 12 s, textOn) refl
+  on-short-frame l s = rw (ltb-no 32768 (length text) l, ltb-yes (length f) frameNumbers s, textOn) refl
 
-  on-short-presets : length text ≤ 32768 → 12 ≤ length f → length p < 128 → textOn text f p t out ≡ notRead 0 tooShort
+  on-short-presets : length text ≤ 32768 → frameNumbers ≤ length f → length p < 128 → textOn text f p t out ≡ notRead 0 tooShort
   unfolding textOn firstOf
-  on-short-presets l k s = rw (ltb-no 32768 (length text) l, ltb-no (length f) 12 k, ltb-yes (length p) 128 s, textOn) refl
+  on-short-presets l k s = rw (ltb-no 32768 (length text) l, ltb-no (length f) frameNumbers k, ltb-yes (length p) 128 s, textOn) refl
 
-  on-long-enough : length text ≤ 32768 → 12 ≤ length f → 128 ≤ length p → textOn text f p t out ≡ wholeBeside text t out
+  on-long-enough : length text ≤ 32768 → frameNumbers ≤ length f → 128 ≤ length p → textOn text f p t out ≡ wholeBeside text t out
   unfolding textOn firstOf
-  on-long-enough l k s = rw (ltb-no 32768 (length text) l, ltb-no (length f) 12 k, ltb-no (length p) 128 s, textOn) refl
+  on-long-enough l k s = rw (ltb-no 32768 (length text) l, ltb-no (length f) frameNumbers k, ltb-no (length p) 128 s, textOn) refl
 
-  on-enough : 12 ≤ length f → 128 ≤ length p → textOn text f p t out ≡ wholeBeside text t out
+  on-enough : frameNumbers ≤ length f → 128 ≤ length p → textOn text f p t out ≡ wholeBeside text t out
   on-enough k s = go (is (ltb 32768 (length text)))
     where
       go : Is (ltb 32768 (length text)) → textOn text f p t out ≡ wholeBeside text t out
@@ -69,16 +69,16 @@ module _ (text f p t out : List ℕ) where
   pub text-long : 32768 < length text → Done f p t out 0 10
   text-long l = text-stopped textTooLong (on-long l)
 
-  pub text-short-frame : length text ≤ 32768 → length f < 12 → Done f p t out 0 8
+  pub text-short-frame : length text ≤ 32768 → length f < frameNumbers → Done f p t out 0 8
   text-short-frame l s = text-stopped tooShort (on-short-frame l s)
 
-  pub text-short-presets : length text ≤ 32768 → 12 ≤ length f → length p < 128 → Done f p t out 0 8
+  pub text-short-presets : length text ≤ 32768 → frameNumbers ≤ length f → length p < 128 → Done f p t out 0 8
   text-short-presets l k s = text-stopped tooShort (on-short-presets l k s)
 
   -- what a text leaves of the frame and of the records by value, written back
-  frame-left : (w : Whole) → numbersOver (headAfter w (headOfNumbers f)) (clockAfter w (clockOfNumbers f)) f ≡ frameAfter w f
-  unfolding headAfter clockAfter frameAfter
-  frame-left (notRead n r) = numbers-back f
+  frame-left : (w : Whole) → frameLeft (endOf w out) (headAfter w (headOfNumbers f)) (clockAfter w (clockOfNumbers f)) f ≡ frameAfter w f
+  unfolding endOf headAfter clockAfter frameAfter
+  frame-left (notRead n r) = head-same f
   frame-left (notPlanned h n r) = refl
   frame-left (ran h n g r) = refl
 
@@ -92,7 +92,7 @@ module _ (text f p t out : List ℕ) where
   presets-left (ran h n g r) = over-left h
 
   -- a head and its records, written and read again
-  head-again : (h : Head) (c : ℕ) {f₁ p₁ : List ℕ} → 12 ≤ length f → 128 ≤ length p → length (h .busy) ≡ 8 → length (h .presets) ≤ 32
+  head-again : (h : Head) (c : ℕ) {f₁ p₁ : List ℕ} → frameNumbers ≤ length f → 128 ≤ length p → length (h .busy) ≡ 8 → length (h .presets) ≤ 32
       → f₁ ≡ numbersOver (headRecord h) c f → p₁ ≡ bytesOver (recordsOver (h .presets) (recordsIn p)) p
       → (headIn (headOfNumbers f₁) (recordsIn p₁) ≡ h) × (clockOfNumbers f₁ ≡ c)
   head-again h c {f₁} {p₁} k s eight few a b =
@@ -106,8 +106,8 @@ module _ (text f p t out : List ℕ) where
         ap clockOfNumbers a ∙ clock-back (headRecord h) c f eight k,
       )
 
-  module _ {f₁ p₁ t₁ out₁ : List ℕ} {x : run.TextRun} (k : 12 ≤ length f) (s : 128 ≤ length p) (d : TextDone text (headOfNumbers f) (recordsIn p) t (clockOfNumbers f) out t₁ out₁ x)
-      (a : f₁ ≡ numbersOver (x .head) (x .clock) f) (b : p₁ ≡ bytesOver (x .presets) p) where
+  module _ {f₁ p₁ t₁ out₁ : List ℕ} {x : run.TextRun} (k : frameNumbers ≤ length f) (s : 128 ≤ length p) (d : TextDone text (headOfNumbers f) (recordsIn p) t (clockOfNumbers f) out t₁ out₁ x)
+      (a : f₁ ≡ frameLeft (endIn (x .ended)) (x .head) (x .clock) f) (b : p₁ ≡ bytesOver (x .presets) p) where
     ran-left : (w : Whole) → wholeBeside text t out ≡ w → endNumber (endOf w out) ≡ 0 → RunningOn f₁ p₁ t₁
     unfolding endOf headAfter presetsAfter tableAfter clockAfter
     ran-left (notRead n r) e z = absurd (number-some r z)
@@ -115,12 +115,16 @@ module _ (text f p t out : List ℕ) where
     ran-left (ran h n g r) e z =
         let after : Running h (r .after .clock) (r .after .table) =
         subst (λ (y : Run). Running h (y .after .clock) (y .after .table)) (sym (text-claim text t out .events h n g r e)) (text-claim text t out .demand3 h n g r e .running) in
+        let end : endIn (x .ended) ≡ endOf (ran h n g r) out = d .ended ∙ ap (λ (w : Whole). endOf w out) e in
         let head : x .head ≡ headRecord h = d .head ∙ ap (λ (w : Whole). headAfter w (headOfNumbers f)) e in
         let clock : x .clock ≡ r .after .clock = d .clock ∙ ap (λ (w : Whole). clockAfter w (clockOfNumbers f)) e in
         let records : x .presets ≡ recordsOver (h .presets) (recordsIn p) = d .presets ∙ ap (λ (w : Whole). presetsAfter w (recordsIn p)) e in
         let table : t₁ ≡ r .after .table = d .table ∙ ap (λ (w : Whole). tableAfter w t) e in
         let again = head-again h (r .after .clock) k s (after .valid .masks) (after .valid .number-of-presets)
-        (a ∙ ap (λ (g : record-of-head.Head). numbersOver g (x .clock) f) head ∙ ap (λ (c : ℕ). numbersOver (headRecord h) c f) clock)
+        (a
+        ∙ ap (λ (y : End). frameLeft y (x .head) (x .clock) f) end
+        ∙ ap (λ (g : record-of-head.Head). numbersOver g (x .clock) f) head
+        ∙ ap (λ (c : ℕ). numbersOver (headRecord h) c f) clock)
         (b ∙ ap (λ (l : List record-of-preset.Preset). bytesOver l p) records) in
         rw (again .0, again .1, table) after
 
@@ -131,8 +135,9 @@ module _ (text f p t out : List ℕ) where
         end = e₁ ∙ ap endPlace (d .ended);
         frame =
             a
-            ∙ ap (λ (g : record-of-head.Head). numbersOver g (x .clock) f) (d .head)
-            ∙ ap (λ (c : ℕ). numbersOver (headAfter (wholeBeside text t out) (headOfNumbers f)) c f) (d .clock)
+            ∙ ap (λ (y : End). frameLeft y (x .head) (x .clock) f) (d .ended)
+            ∙ ap (λ (g : record-of-head.Head). frameLeft (endOf (wholeBeside text t out) out) g (x .clock) f) (d .head)
+            ∙ ap (λ (c : ℕ). frameLeft (endOf (wholeBeside text t out) out) (headAfter (wholeBeside text t out) (headOfNumbers f)) c f) (d .clock)
             ∙ frame-left (wholeBeside text t out);
         presets = b ∙ ap (λ (l : List record-of-preset.Preset). bytesOver l p) (d .presets) ∙ presets-left (wholeBeside text t out);
         table = d .table;
@@ -146,7 +151,7 @@ module _ (text f p t out : List ℕ) where
     )
 
   -- the same of what was read of the frame and of the presets
-  pub text-handed : (hd : record-of-head.Head) (ps : List record-of-preset.Preset) (c : ℕ) (x : run.TextRun) {f₁ p₁ t₁ out₁ : List ℕ} {n r : ℕ} → 12 ≤ length f → 128 ≤ length p
+  pub text-handed : (hd : record-of-head.Head) (ps : List record-of-preset.Preset) (c : ℕ) (x : run.TextRun) {f₁ p₁ t₁ out₁ : List ℕ} {n r : ℕ} → frameNumbers ≤ length f → 128 ≤ length p
       → hd ≡ headOfNumbers f → ps ≡ recordsIn p → c ≡ clockOfNumbers f → TextDone text hd ps t c out t₁ out₁ x
-      → f₁ ≡ numbersOver (x .head) (x .clock) f → p₁ ≡ bytesOver (x .presets) p → n ≡ endPlace (endIn (x .ended)) → r ≡ endNumber (endIn (x .ended)) → Done f₁ p₁ t₁ out₁ n r
+      → f₁ ≡ frameLeft (endIn (x .ended)) (x .head) (x .clock) f → p₁ ≡ bytesOver (x .presets) p → n ≡ endPlace (endIn (x .ended)) → r ≡ endNumber (endIn (x .ended)) → Done f₁ p₁ t₁ out₁ n r
   text-handed hd ps c x k s a b e d f₂ p₂ n r = text-run {x = x} k s (rw (a, b, e) at d) f₂ p₂ n r

@@ -1,7 +1,8 @@
 -- Laws of the layout, record by record and number by number, as the code reads and writes them.
 --
 -- In order: one record of those read (`record-read`), one more read into the bank (`read-more`, `read-all`); a record written byte by byte (`record-written`), one more
--- of them (`write-more`, `written-all`); one more number written (`number-more`, `numbers-all`); a frame written number by number (`frame-written`).
+-- of them (`write-more`, `written-all`); one more number written (`number-more`, `numbers-all`); a frame written number by number (`head-written`, `reserved-written`), after a text
+-- that ran and after a refusal (`ran-written`, `refused-written`).
 -- Assumes nothing.
 use Prim.Native.Nat.{ℕ, zero, suc, _+_, _*_, _≤_, _<_}
 use native.Mathlib.Omega.{arith}
@@ -11,8 +12,13 @@ use lib.ListN.{length, getD, set, take, drop, drop-of-length-le}
 use lib.Seq.{sets, drop-cons, getD-drop, take-suc, take-suc-set, take-all}
 use Rattle.station.specs.declared.types.Preset.{Preset}
 use Rattle.station.specs.declared.types.Head.{Head}
+use Rattle.station.specs.declared.types.Refusal.{Refusal}
+use Rattle.frame.specs.declared.text.Ended.{Ended}
+use Rattle.frame.specs.declared.text.Ended.the-variants.{Ran, Refused}
+use Rattle.frame.specs.TextDone.{endIn}
 use Rattle.station.specs.Types.{noRecord}
-use Rattle.planner.specs.Layout.{recordAt, firstRecords, recordsIn, bytesOf, numbersOver}
+use Rattle.planner.specs.Layout.{recordAt, firstRecords, recordsIn, bytesOf, headOver, reservedCleared}
+use Rattle.planner.specs.Exports.{frameLeft}
 use Rattle.planner.proofs.RoundTrip.{length-records}
 
 -- the record at place i of those read
@@ -77,6 +83,19 @@ pub numbers-all : (vs l : List ℕ) (i k : ℕ) {all : List ℕ} → length vs �
 numbers-all vs l i k h e = rw (drop-of-length-le vs h) at e
 
 -- a head and a clock written number by number
-pub frame-written : (head : Head) (clock : ℕ) (l : List ℕ) {l₁ l₂ l₃ l₄ l₅ : List ℕ}
-    → l₁ ≡ set l 0 (head .slots) → l₂ ≡ set l₁ 1 (head .bridges) → l₃ ≡ set l₂ 2 (head .count) → l₄ ≡ set l₃ 3 clock → l₅ ≡ sets l₄ 4 (head .busy) → l₅ ≡ numbersOver head clock l
-frame-written head clock l e₁ e₂ e₃ e₄ e₅ = rw (e₅, e₄, e₃, e₂, e₁) refl
+pub head-written : (head : Head) (clock : ℕ) (l : List ℕ) {l₁ l₂ l₃ l₄ l₅ : List ℕ}
+    → l₁ ≡ set l 0 (head .slots) → l₂ ≡ set l₁ 1 (head .bridges) → l₃ ≡ set l₂ 2 (head .count) → l₄ ≡ set l₃ 3 clock → l₅ ≡ sets l₄ 4 (head .busy) → l₅ ≡ headOver head clock l
+head-written head clock l e₁ e₂ e₃ e₄ e₅ = rw (e₅, e₄, e₃, e₂, e₁) refl
+
+-- and 0 in the reserved places
+pub reserved-written : (l : List ℕ) {l₁ l₂ l₃ l₄ : List ℕ}
+    → l₁ ≡ set l 12 0 → l₂ ≡ set l₁ 13 0 → l₃ ≡ set l₂ 14 0 → l₄ ≡ set l₃ 15 0 → l₄ ≡ reservedCleared l
+reserved-written l e₁ e₂ e₃ e₄ = rw (e₄, e₃, e₂, e₁) refl
+
+-- what a text that ran leaves of a frame, and what a refusal leaves
+module _ (x : Ended) (head : Head) (clock : ℕ) (l : List ℕ) {l₁ : List ℕ} where
+  pub ran-written : {n : ℕ} {l₂ : List ℕ} → x ≡ Ran n → l₁ ≡ headOver head clock l → l₂ ≡ reservedCleared l₁ → l₂ ≡ frameLeft (endIn x) head clock l
+  ran-written q e₁ e₂ = rw (q, e₂, e₁) refl
+
+  pub refused-written : {n : ℕ} {r : Refusal} → x ≡ Refused n r → l₁ ≡ headOver head clock l → l₁ ≡ frameLeft (endIn x) head clock l
+  refused-written q e₁ = rw (q, e₁) refl

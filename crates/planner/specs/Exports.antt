@@ -15,6 +15,7 @@ use Rattle.laws.specs.Lists.{at}
 use Rattle.station.specs.Head.{Head}
 use Rattle.station.specs.Refusal.{Refusal, numberOf, tooShort, textTooLong, try, firstOf}
 use Rattle.station.specs.Types.{headIn}
+use Rattle.station.specs.declared.types.Head as record-of-head
 use Rattle.station.specs.ReadHead.{headRecord, recordOf}
 use Rattle.station.specs.WriteHead as writing
 use Rattle.placing.specs.Claims.{Running, PlanClaim}
@@ -28,7 +29,7 @@ use Rattle.frame.specs.Demands.{Demand3}
 use Rattle.frame.specs.EventDone.{stateOf, eventMeant}
 use Rattle.frame.specs.TextDone.{wholeBeside, End, listed, refusedAt, endOf, tableAfter, outputAfter, TextClaim}
 use Rattle.frame.specs.WriteListing.{listingCause, listingMeant}
-use Rattle.planner.specs.Layout.{recordsIn, bytesOver, headOfNumbers, clockOfNumbers, numbersOver, clockOver}
+use Rattle.planner.specs.Layout.{recordsIn, bytesOver, frameNumbers, headOfNumbers, clockOfNumbers, headOver, numbersOver, clockOver}
 
 -- ---- the running frame
 
@@ -40,9 +41,9 @@ headOn frame presets = headIn (headOfNumbers frame) (recordsIn presets)
 abbrev pub RunningOn : List ℕ → List ℕ → List ℕ → Type 0
 RunningOn frame presets t = Running (headOn frame presets) (clockOfNumbers frame) t
 
--- "preset list below 32 records" is 8, and so is a frame below twelve numbers
+-- "preset list below 32 records" is 8, and so is a frame below sixteen numbers
 abbrev pub shortCauses : List ℕ → List ℕ → List (Option Refusal)
-shortCauses frame presets = try tooShort (ltb (length frame) 12) ∷ try tooShort (ltb (length presets) 128) ∷ []
+shortCauses frame presets = try tooShort (ltb (length frame) frameNumbers) ∷ try tooShort (ltb (length presets) 128) ∷ []
 
 -- ---- planner_run_text
 
@@ -61,11 +62,16 @@ abbrev pub endPlace : End → ℕ
 endPlace (listed n) = n
 endPlace (refusedAt n r) = n
 
+-- What a head and a clock make of a frame: all its numbers where the text ran, and after a refusal all but the reserved ones, which stay.
+abbrev pub frameLeft : End → record-of-head.Head → ℕ → List ℕ → List ℕ
+frameLeft (listed n) head clock frame = numbersOver head clock frame
+frameLeft (refusedAt n r) head clock frame = headOver head clock frame
+
 -- The frame and the presets afterwards: a head that is not read leaves both as they were; "the head is the one read" where the required slots do not fit, and the
--- clock stays; where the text ran, the clock is the one it left.
+-- clock and the reserved numbers stay; where the text ran, the clock is the one it left, and the reserved numbers are 0.
 unfoldable pub frameAfter : Whole → List ℕ → List ℕ
 frameAfter (notRead n r) frame = frame
-frameAfter (notPlanned h n r) frame = numbersOver (headRecord h) (clockOfNumbers frame) frame
+frameAfter (notPlanned h n r) frame = headOver (headRecord h) (clockOfNumbers frame) frame
 frameAfter (ran h n g r) frame = numbersOver (headRecord h) (r .after .clock) frame
 
 unfoldable pub recordsAfter : Whole → List ℕ → List ℕ
@@ -85,7 +91,7 @@ pub record TextLeaves (w : Whole) (f p t out f₁ p₁ t₁ out₁ : List ℕ) (
 -- What is claimed of it, r being the answer.
 pub record TextPromise (text frame presets t out frame₁ presets₁ t₁ : List ℕ) (r : ℕ) : Type 0 where
   -- a frame and presets that are long enough do not matter
-  pub long : 12 ≤ length frame → 128 ≤ length presets → textOn text frame presets t out ≡ wholeBeside text t out
+  pub long : frameNumbers ≤ length frame → 128 ≤ length presets → textOn text frame presets t out ≡ wholeBeside text t out
   -- demands 1 to 3 and what is claimed of the plan
   pub claim : TextClaim text t out
   -- "Each event gets the table and clock that the last one left": a text that ran leaves a running frame for `planner_event`
@@ -133,7 +139,7 @@ pub record EventPromise (frame presets t l frame₁ t₁ : List ℕ) (r : ℕ) :
 -- A plan: 8 of the frame, of the presets and of fewer than 32 grants, which change nothing, then what the plan comes to. The clock is not looked at.
 unfoldable pub planOn : List ℕ → List ℕ → List ℕ → List ℕ → PlanOutcome
 planOn frame presets t grants =
-    elim (firstOf (try tooShort (ltb (length frame) 12) ∷ try tooShort (ltb (length presets) 128) ∷ try tooShort (ltb (length grants) 32) ∷ [])) [
+    elim (firstOf (try tooShort (ltb (length frame) frameNumbers) ∷ try tooShort (ltb (length presets) 128) ∷ try tooShort (ltb (length grants) 32) ∷ [])) [
       | none ↦ planMeant (headOfNumbers frame) (recordsIn presets) t
       | some r ↦ record { answer = PlanAnswer.refused r; table = t }
     ]

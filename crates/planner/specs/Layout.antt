@@ -2,7 +2,7 @@
 -- writing are inverse is proved in proofs/RoundTrip.antt.
 --
 -- In order: the bytes of preset records, read (`recordsIn`) and written (`bytesOver`); the numbers of a frame, read (`headOfNumbers`, `clockOfNumbers`) and
--- written (`numbersOver`, `clockOver`).
+-- written (`headOver`, `reservedCleared`, `numbersOver`, `clockOver`).
 -- Assumes nothing.
 use Prim.Native.Nat.{ℕ, zero, suc, _+_, _*_}
 use mathlib.Core.List.{List, [], _∷_}
@@ -43,16 +43,30 @@ bytesOver ps l = sets l 0 (bytesOf ps)
 
 -- ---- the running frame: its head, and "the clock"
 
--- Twelve numbers: slots, bridges, how many presets, the clock, and then the busy slots of bridges 1 to 8, one mask each with slot 1 as the lowest bit.
+-- A frame is sixteen numbers: slots, bridges, how many presets, the clock, the busy slots of bridges 1 to 8, one mask each with slot 1 as the lowest bit, and four that
+-- are reserved for requests to come: at 12 the supply (2026-03), at 13 the head's tie and at 14 the tie in force (2026-02), at 15 how many jobs were admitted (2026-06).
+-- Until then these four are not looked at. A text that ran leaves 0 there, so that a later version can tell a frame stored by this one; nothing else writes there.
+abbrev pub frameNumbers : ℕ
+frameNumbers = 16
+
+-- what is read of them; the reserved ones are not
 abbrev pub headOfNumbers : List ℕ → Head
 headOfNumbers l = record { slots = getD l 0 0; bridges = getD l 1 0; busy = tabulate 8 (λ b. getD l (4 + b) 0); count = getD l 2 0 }
 
 abbrev pub clockOfNumbers : List ℕ → ℕ
 clockOfNumbers l = getD l 3 0
 
--- A list of numbers with a head and a clock written over its start: every number past the twelfth is as it was.
+-- A list of numbers with a head and a clock written over its start: every number past the twelfth, the reserved ones too, is as it was.
+abbrev pub headOver : Head → ℕ → List ℕ → List ℕ
+headOver head clock l = sets l 0 (head .slots ∷ head .bridges ∷ head .count ∷ clock ∷ head .busy)
+
+-- with 0 in the reserved places
+abbrev pub reservedCleared : List ℕ → List ℕ
+reservedCleared l = sets l 12 (0 ∷ 0 ∷ 0 ∷ 0 ∷ [])
+
+-- with a whole frame, that is with both: every number past the sixteenth is as it was
 abbrev pub numbersOver : Head → ℕ → List ℕ → List ℕ
-numbersOver head clock l = sets l 0 (head .slots ∷ head .bridges ∷ head .count ∷ clock ∷ head .busy)
+numbersOver head clock l = reservedCleared (headOver head clock l)
 
 -- and with a clock alone
 abbrev pub clockOver : ℕ → List ℕ → List ℕ

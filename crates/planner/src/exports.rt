@@ -11,9 +11,13 @@ use crate::grants::save_grants;
 use crate::numbers::clock_of;
 use crate::numbers::head_of;
 use crate::numbers::save_clock;
-use crate::numbers::save_frame;
+use crate::numbers::save_run;
 use crate::presets::load_presets;
 use crate::presets::save_presets;
+use crate::sizes::FRAME_NUMBERS;
+use crate::sizes::PRESETS;
+use crate::sizes::PRESETS_BYTES;
+use crate::sizes::TEXT_BYTES;
 use frame::event::event_by_value;
 use frame::listing::write_listing;
 use frame::text::run_text_by_value;
@@ -23,19 +27,15 @@ ghost use Prim.Native.Nat.{_≤_};
 ghost use lib.ListN.{length};
 ghost use Rattle.planner.specs.Exports.{textOn, TextLeaves, TextPromise, eventOn, EventLeaves, EventPromise, planOn, PlanLeaves, PlanPromise, ListingLeaves, ListingWhole};
 
-// The numbers of a frame, and the bytes of 32 preset records.
-const FRAME: usize = 12;
-
-const PRESETS: usize = 128;
-
 // Document 01's numbers of "text above 32,768 bytes" and of what is lent too short.
 const TEXT_TOO_LONG: u32 = 10;
 
 const TOO_SHORT: u32 = 8;
 
-// Runs a whole text: 10 for more than 32,768 bytes, 8 for a frame below 12 numbers, presets below 128 bytes, an output below 8,192 bytes or a table below 512 cells,
+// Runs a whole text: 10 for more than 32,768 bytes, 8 for a frame below 16 numbers, presets below 128 bytes, an output below 8,192 bytes or a table below 512 cells,
 // then the head's causes, then 5. Where it ran, `end` is the number of bytes of the listing in the output, and frame, presets and table are those of the running
-// frame. Where it is refused, `end` is the line at fault, and nothing changes, but for 5, which leaves the head and the presets that were read.
+// frame, with 0 for its reserved numbers. Where it is refused, `end` is the line at fault, and nothing changes, but for 5, which leaves the head and the presets
+// that were read.
 #[no_mangle]
 pub extern "C" fn planner_run_text(
     text: &[u8],
@@ -49,13 +49,13 @@ pub extern "C" fn planner_run_text(
     ensures claim { λ r. ⌜ TextPromise (now (text .entry)) (now (frame .entry)) (now (presets .entry)) (now (table .entry)) (now (out .entry)) (now (frame .exit)) (now (presets .exit)) (now (table .exit)) r ⌝ }
 {
     *end = 0;
-    if 32768 < text.len() {
+    if TEXT_BYTES < text.len() {
         return TEXT_TOO_LONG;
     }
-    if frame.len() < FRAME {
+    if frame.len() < FRAME_NUMBERS {
         return TOO_SHORT;
     }
-    if presets.len() < PRESETS {
+    if presets.len() < PRESETS_BYTES {
         return TOO_SHORT;
     }
     let head = head_of(frame);
@@ -64,13 +64,13 @@ pub extern "C" fn planner_run_text(
     let ended = run.ended;
     let found = run.head;
     let records = run.presets;
-    save_frame(frame, found, run.clock);
+    save_run(frame, ended, found, run.clock);
     save_presets(presets, records);
     *end = end_place(ended);
     end_number(ended)
 }
 
-// One event line, its byte 10 included, on the running frame: 8 for a frame below 12 numbers, presets below 128 bytes or a table below 512 cells, 2 for a head that no
+// One event line, its byte 10 included, on the running frame: 8 for a frame below 16 numbers, presets below 128 bytes or a table below 512 cells, 2 for a head that no
 // text yields, 11, then the causes of the line, of its clock or of its call. `number` is the new clock or how many cells were evicted, and 0 with a refusal, which changes
 // nothing else.
 #[no_mangle]
@@ -85,10 +85,10 @@ pub extern "C" fn planner_event(
     ensures claim { λ r. ⌜ EventPromise (now (frame .entry)) (now (presets .entry)) (now (table .entry)) (now (line .entry)) (now (frame .exit)) (now (table .exit)) r ⌝ }
 {
     *number = 0;
-    if frame.len() < FRAME {
+    if frame.len() < FRAME_NUMBERS {
         return TOO_SHORT;
     }
-    if presets.len() < PRESETS {
+    if presets.len() < PRESETS_BYTES {
         return TOO_SHORT;
     }
     let head = head_of(frame);
@@ -100,7 +100,7 @@ pub extern "C" fn planner_event(
     answer_number(answer)
 }
 
-// Plans a fresh frame: 8 for a frame below 12 numbers, presets below 128 bytes, grants below 32 bytes or a table below 512 cells, 2 for a head that no text yields, 5
+// Plans a fresh frame: 8 for a frame below 16 numbers, presets below 128 bytes, grants below 32 bytes or a table below 512 cells, 2 for a head that no text yields, 5
 // where the mandatory slots do not fit. The grants of the presets stand at the start of `grants` in file order, with 0 past the last preset up to 32; bytes past
 // those stay. The clock of the frame is not looked at. A refusal changes nothing.
 #[no_mangle]
@@ -113,13 +113,13 @@ pub extern "C" fn planner_plan(
     ensures done { λ r. ⌜ PlanLeaves (planOn (now (frame .entry)) (now (presets .entry)) (now (table .entry)) (now (grants .entry))) (now (grants .entry)) (now (table .exit)) (now (grants .exit)) r ⌝ }
     ensures claim { λ r. ⌜ PlanPromise (now (frame .entry)) (now (presets .entry)) (now (table .entry)) (now (table .exit)) r ⌝ }
 {
-    if frame.len() < FRAME {
+    if frame.len() < FRAME_NUMBERS {
         return TOO_SHORT;
     }
-    if presets.len() < PRESETS {
+    if presets.len() < PRESETS_BYTES {
         return TOO_SHORT;
     }
-    if grants.len() < 32 {
+    if grants.len() < PRESETS {
         return TOO_SHORT;
     }
     let head = head_of(frame);

@@ -1,10 +1,13 @@
-// The frame that a caller lends as twelve numbers: its head and its clock out of them by value, and back. Past the end of the numbers zeros are read and nothing is
-// written, so that each function takes every slice.
+// The frame that a caller lends as sixteen numbers: its head and its clock out of them by value, and back. The last four are reserved: they are not read, and 0 is all
+// that is written there. Past the end of the numbers zeros are read and nothing is written, so that each function takes every slice.
+use frame::text::Ended;
 use station::types::Head;
 ghost use mathlib.Core.Path.{_≡_};
 ghost use lib.ListN.{getD, set};
 ghost use lib.Seq.{sets};
-ghost use Rattle.planner.specs.Layout.{headOfNumbers, clockOfNumbers, numbersOver, clockOver};
+ghost use Rattle.frame.specs.TextDone.{endIn};
+ghost use Rattle.planner.specs.Layout.{headOfNumbers, clockOfNumbers, headOver, reservedCleared, clockOver};
+ghost use Rattle.planner.specs.Exports.{frameLeft};
 
 // The number at a place; 0 past the end.
 fn number_at(numbers: &[u64], i: usize) -> u64
@@ -73,8 +76,8 @@ fn save_masks(frame: &mut [u64], busy: [u64; 8])
 }
 
 // Writes a head and a clock over the first twelve numbers.
-pub fn save_frame(frame: &mut [u64], head: Head, clock: usize)
-    ensures { λ _. ⌜ now (frame .exit) ≡ numbersOver head clock (now (frame .entry)) ⌝ }
+fn save_head(frame: &mut [u64], head: Head, clock: usize)
+    ensures { λ _. ⌜ now (frame .exit) ≡ headOver head clock (now (frame .entry)) ⌝ }
 {
     let busy = head.busy;
     set_number(frame, 0, head.slots as u64);
@@ -82,4 +85,25 @@ pub fn save_frame(frame: &mut [u64], head: Head, clock: usize)
     set_number(frame, 2, head.count as u64);
     set_number(frame, 3, clock as u64);
     save_masks(frame, busy);
+}
+
+// Writes 0 to the four reserved places.
+fn clear_reserved(frame: &mut [u64])
+    ensures { λ _. ⌜ now (frame .exit) ≡ reservedCleared (now (frame .entry)) ⌝ }
+{
+    set_number(frame, 12, 0);
+    set_number(frame, 13, 0);
+    set_number(frame, 14, 0);
+    set_number(frame, 15, 0);
+}
+
+// Writes the head and the clock that a text leaves, and 0 to the reserved places where it ran. A refusal leaves those as they are, so that one which leaves the head
+// and the clock too changes nothing.
+pub fn save_run(frame: &mut [u64], ended: Ended, head: Head, clock: usize)
+    ensures { λ _. ⌜ now (frame .exit) ≡ frameLeft (endIn ended) head clock (now (frame .entry)) ⌝ }
+{
+    save_head(frame, head, clock);
+    if let Ended::Ran(_) = ended {
+        clear_reserved(frame);
+    }
 }

@@ -1,5 +1,6 @@
 // The preset records that a caller lends as bytes, four bytes a record: out of them by value, and back. Past the end of the bytes zeros are read and nothing is
 // written, so that each function takes every slice.
+use crate::sizes::PRESETS;
 use station::types::NO_RECORD;
 use station::types::Preset;
 ghost use mathlib.Core.Path.{_≡_};
@@ -43,12 +44,12 @@ fn preset_at(presets: &[u8], i: usize) -> Preset
 }
 
 // The 32 records of the first 128 bytes.
-pub fn load_presets(presets: &[u8]) -> [Preset; 32]
+pub fn load_presets(presets: &[u8]) -> [Preset; PRESETS]
     ensures { λ r. ⌜ r ≡ recordsIn (now (presets .entry)) ⌝ }
 {
-    let mut bank = [NO_RECORD; 32];
+    let mut bank = [NO_RECORD; PRESETS];
     let mut i = 0;
-    while i < 32 {
+    while i < PRESETS {
         bank[i] = preset_at(presets, i);
         i += 1;
     }
@@ -68,11 +69,11 @@ fn set_preset(presets: &mut [u8], i: usize, given: Preset)
 }
 
 // Writes 32 records over the first 128 bytes.
-pub fn save_presets(presets: &mut [u8], bank: [Preset; 32])
+pub fn save_presets(presets: &mut [u8], bank: [Preset; PRESETS])
     ensures { λ _. ⌜ now (presets .exit) ≡ bytesOver bank (now (presets .entry)) ⌝ }
 {
     let mut i = 0;
-    while i < 32 {
+    while i < PRESETS {
         let given = bank[i];
         set_preset(presets, i, given);
         i += 1;

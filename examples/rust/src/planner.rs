@@ -1,9 +1,9 @@
 //! The planner over slices: include/planner.h in Rust. Everything unsafe is here.
 
 /// The version of the layout: stored beside a frame, so that no frame of another one is restored.
-pub const VERSION: u8 = 1;
+pub const VERSION: u8 = 2;
 
-const FRAME_NUMBERS: usize = 12;
+const FRAME_NUMBERS: usize = 16;
 const PRESETS_BYTES: usize = 128;
 const TABLE_CELLS: usize = 512;
 const GRANTS_BYTES: usize = 32;

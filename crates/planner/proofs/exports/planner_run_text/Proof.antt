@@ -34,8 +34,8 @@ clock-of-requires c κs = search needs
 run-text-by-value-requires : tie.Need-run-text-by-value-requires
 run-text-by-value-requires c κs = search needs
 
-save-frame-requires : tie.Need-save-frame-requires
-save-frame-requires c κs = search needs
+save-run-requires : tie.Need-save-run-requires
+save-run-requires c κs = search needs
 
 save-presets-requires : tie.Need-save-presets-requires
 save-presets-requires c κs = search needs
@@ -72,7 +72,7 @@ returns-4 c =
     let a = few .before .before .before .before .before .before .before .args in
     text-handed (a .text .now) (a .frame .now) (a .presets .now) (a .table .now) (a .out .now) (head .head-of .result) (bank .load-presets .result) (clock .clock-of .result)
     (ran .run-text-by-value .result) (few .if2 .left) (enough .if3 .left) (head .head-of .ensures) (bank .load-presets .ensures) (clock .clock-of .ensures)
-    (ran .run-text-by-value .ensures .0) (numbers .save-frame .ensures) (records .save-presets .ensures) (place .end-place .ensures) (c .end-number .ensures)
+    (ran .run-text-by-value .ensures .0) (numbers .save-run .ensures) (records .save-presets .ensures) (place .end-place .ensures) (c .end-number .ensures)
 
 pub planner-run-text-spec : {M : Type 1} → statement M
 planner-run-text-spec =
@@ -85,7 +85,7 @@ planner-run-text-spec =
     load-presets-requires
     clock-of-requires
     run-text-by-value-requires
-    save-frame-requires
+    save-run-requires
     save-presets-requires
     end-place-requires
     end-number-requires
