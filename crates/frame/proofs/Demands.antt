@@ -23,7 +23,7 @@ use Rattle.station.proofs.Theorems.{read-means, read-valid, read-written, writt
 use Rattle.placing.specs.Table.{cell, cells, Each, holding, hasJob, callCell}
 use Rattle.placing.specs.Valid.{ValidCall, usable, jobAt, lost, lostUpTo}
 use Rattle.placing.specs.Plan.{planFreeCount, freeCount, needs, planned}
-use Rattle.placing.specs.Call.{lengths, callFree, called}
+use Rattle.placing.specs.Call.{lengths, callFreeCount, called}
 use Rattle.placing.specs.Outcomes.{PlanAnswer, planOf, CallAnswer, callOf}
 use Rattle.placing.specs.Claims.{Running, CallClaim, beforeSeven}
 use Rattle.placing.proofs.Theorems.{cells-ext, cell-written, length-lengths, needs-long, grants-rule}
@@ -115,7 +115,7 @@ demand-2 h t = record {
       (chosen-rule (length (needs h)) (at (left (needs h) x s)) (x s));
   cells = λ g q. rw (plan-granted h t g q .4) (cell-written h (planned h) t);
   call-slots = λ clock jobs s.
-      let x = freeCount (h .bridges) (callFree h clock jobs (cell h t)) in
+      let x = callFreeCount h clock jobs (cell h t) in
       subst (λ (k : ℕ). SlotRule k (at (left (lengths jobs) x s)) (x s) (λ i. lrtf (lengths jobs) x i s))
       (length-lengths jobs) (chosen-rule (length (lengths jobs)) (at (left (lengths jobs) x s)) (x s));
   call-cells = λ clock jobs n q. call-claim h clock jobs t .rule n q;

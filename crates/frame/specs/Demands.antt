@@ -18,8 +18,8 @@ use Rattle.station.specs.Writing.{formsOf, textOf}
 use Rattle.station.specs.Reading.{Reading, Means, headOf}
 use Rattle.placing.specs.Table.{Cells, cell, cells, Each, presetCount, holding, isBusy, isMandatory, isOptional, isCall, callCell}
 use Rattle.placing.specs.Valid.{ValidPlan, ValidCall, usable, jobAt, lost, lostUpTo, optionalCount}
-use Rattle.placing.specs.Plan.{GrantRule, planFreeCount, freeCount, needs, planned}
-use Rattle.placing.specs.Call.{emptyCount, evictionOrder, InEvictionOrder, slotsOf, lengths, evictedSet, callFree, called}
+use Rattle.placing.specs.Plan.{GrantRule, planFreeCount, needs, planned}
+use Rattle.placing.specs.Call.{emptyCount, evictionOrder, InEvictionOrder, slotsOf, lengths, evictedSet, called, callFreeCount}
 use Rattle.placing.specs.Outcomes.{written, PlanAnswer, planOf, CallAnswer, callOf}
 use Rattle.placing.specs.Claims.{Running, SamePast, Fits, beforeSeven}
 use Rattle.frame.specs.Event.{Event, line, setClock, place, asked, Answer, now, taken, refused, State, Outcome, Run, eventCauses, runOf}
@@ -92,8 +92,8 @@ pub record Demand2 (h : Head) (t : List ℕ) : Type 0 where
   pub cells : (g : List ℕ) → planOf h t .answer ≡ PlanAnswer.granted g → Each h (λ s b. cell h (planOf h t .table) s b ≡ planned h s b)
   -- "Jobs are then placed by the rule above over the empty and lost cells, in the call's order."
   pub call-slots : (clock : ℕ) (jobs : List Job) (s : ℕ)
-      → SlotRule (length jobs) (at (left (lengths jobs) (freeCount (h .bridges) (callFree h clock jobs (cell h t))) s))
-      (freeCount (h .bridges) (callFree h clock jobs (cell h t)) s) (λ i. lrtf (lengths jobs) (freeCount (h .bridges) (callFree h clock jobs (cell h t))) i s)
+      → SlotRule (length jobs) (at (left (lengths jobs) (callFreeCount h clock jobs (cell h t)) s))
+      (callFreeCount h clock jobs (cell h t) s) (λ i. lrtf (lengths jobs) (callFreeCount h clock jobs (cell h t)) i s)
   pub call-cells : (clock : ℕ) (jobs : List Job) (n : ℕ) → callOf h clock jobs t .answer ≡ CallAnswer.taken n
       → Each h (λ s b. cell h (callOf h clock jobs t .table) s b ≡ called h clock jobs (cell h t) s b)
 

@@ -32,12 +32,12 @@ use Rattle.placing.specs.Table.{Cells, Each, WellFormed, cells, holding,
 use Rattle.placing.specs.Table.{isBusy, isMandatory, isOptional, isCall, numberAt, hasPreset, hasJob, isUsed, jobCount}
 use Rattle.placing.specs.Valid.{Change, same, filled, evicted, ValidCall, usable, jobAt, lost, lostUpTo, optionalCount, priorityOf}
 use Rattle.placing.specs.Plan.{placing, freeCount}
-use Rattle.placing.specs.Call.{Place, evictionOrder, slotsOf, inSet, emptyFree, emptyCount, lengths, callExcess, evictedSet, callFits, callFree}
+use Rattle.placing.specs.Call.{Place, evictionOrder, slotsOf, inSet, emptyFree, emptyCount, lengths, callExcess, evictedSet, callFits, callFree, callFreeCount}
 use Rattle.placing.specs.Call.{called}
 use Rattle.placing.proofs.CountedCells.{cells-pos, cells-ext, cells-imp, cells-split, kindOf-call, numberIn-call, isOptional-call, isCall-call}
 use Rattle.placing.proofs.CountedCells.{lost-was, lost-now, is-lost, numberAt-lt}
 use Rattle.placing.proofs.NewJobs.{Good, length-lengths, at-lengths, hasJob-of, fresh-number}
-use Rattle.placing.proofs.Placing.{PlacedCell, kept, unused, written, placing-cases, placing-job}
+use Rattle.placing.proofs.Placing.{PlacedCell, kept, unused, written, lrtf-within, placing-cases, placing-job}
 use Rattle.placing.proofs.EvictionOrder.{in-set-evictable, set-size, set-in-slot}
 
 -- ---- one change
@@ -340,21 +340,18 @@ module _ (h : Head) (clock : ℕ) (jobs : List Job) (t : Cells) where
   abbrev pub isEvicted : ℕ → ℕ → Bool
   isEvicted s b = inSet (evictionOrder h clock t) (evictedSet h clock jobs t) s b
 
-  -- how many free cells the jobs find in a slot, and whether job i goes into slot s
-  abbrev pub callFreeCount : ℕ → ℕ
-  callFreeCount = freeCount (h .bridges) (callFree h clock jobs t)
-
+  -- whether job i goes into slot s
   abbrev pub isPlaced : ℕ → ℕ → Bool
-  isPlaced i s = lrtf (lengths jobs) callFreeCount i s
+  isPlaced i s = lrtf (lengths jobs) (callFreeCount h clock jobs t) i s
 
   -- what a cell then holds
   abbrev CalledCell : ℕ → ℕ → Type 0
   CalledCell s b =
-      PlacedCell (h .bridges) (callFree h clock jobs t) (lengths jobs) (λ i r. callCell (jobAt jobs i .number)) t s b (called h clock jobs t s b)
+      PlacedCell (length (lengths jobs)) (callFree h clock jobs t) (λ i r. isPlaced i r) (λ i r. callCell (jobAt jobs i .number)) t s b (called h clock jobs t s b)
 
   called-cases : (s b : ℕ) → CalledCell s b
   unfolding called placing
-  called-cases s b = placing-cases (h .bridges) (callFree h clock jobs t) (lengths jobs) (λ i r. callCell (jobAt jobs i .number)) t s b
+  called-cases s b = placing-cases (length (lengths jobs)) (callFree h clock jobs t) (λ i r. isPlaced i r) (λ i r. callCell (jobAt jobs i .number)) t s b
 
   -- an evicted cell was optional, a free one empty or optional, in a slot from the clock on
   evicted-was : (s b : ℕ) → isEvicted s b ≡ true → (usable clock s ≡ true) × (isOptional (t s b) ≡ true)
@@ -467,7 +464,8 @@ module _ (h : Head) (clock : ℕ) (jobs : List Job) (t : Cells) (valid : Valid h
       → count (h .bridges) (λ b. eqb (called h clock jobs t s b) (callCell (jobAt jobs i .number))) ≡ bit (isPlaced h clock jobs t i s)
   unfolding called placing
   called-in-slot i k s l =
-      placing-job (h .bridges) (callFree h clock jobs t) (lengths jobs) (λ j r. callCell (jobAt jobs j .number)) t s (λ w. eqb w (callCell n))
+      placing-job (length (lengths jobs)) (callFree h clock jobs t) (λ j r. isPlaced h clock jobs t j r) (λ j r. callCell (jobAt jobs j .number)) t s (h .bridges)
+      (lrtf-within (lengths jobs) (callFreeCount h clock jobs t) s) (λ w. eqb w (callCell n))
       (eqb-no 0 (callCell n) (λ e. omega arith)) i (rw (length-lengths jobs) k)
       (λ j m ne. eqb-no (callCell (jobAt jobs j .number)) (callCell n)
       (λ e. ne (injective-below (length jobs) (λ x. jobAt jobs x .number) (good .distinct) j i (rw (length-lengths jobs) at m) k (omega arith))))

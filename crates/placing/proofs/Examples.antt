@@ -2,15 +2,18 @@
 -- placement.
 --
 -- In order: what computes; a plan's ties and bridges (`three-planned`); the clock's own slot (`clock-slot`); the worst priority is evicted
--- (`worst-evicted`); free 3, 1, 1, 1: no placement in the empty cells (`no-empty-placement`), one cell must go and one goes (`one-must-go`,
--- `one-goes`).
+-- (`worst-evicted`); what every valid placement of a call that is taken loses (`must-go`, `goes`); free 3, 1, 1, 1: no placement in the empty cells
+-- (`no-empty-placement`), one cell must go and one goes (`one-must-go`, `one-goes`). Then what holds the definitions to document 01 from two sides, each a
+-- list of cases and one fact: each clause of a sound table broken alone (`sound-broken`); the limits of a call and of the lent table and clock at both edges,
+-- and the causes of plan and call two at a time in the listed order (`plans-answered`, `calls-answered`); the records of a head and of a list at their edges
+-- (`records-answered`, `plan-list`, `call-list`); the order of loss (`losses`).
 -- (The starred frames of document 01, as texts, are in the frame crate's proofs/Starred.antt.)
 -- Assumes nothing.
-use Prim.Native.Nat.{ℕ, _≤_}
+use Prim.Native.Nat.{ℕ, zero, suc, _+_, _≤_}
 use native.Mathlib.Omega.{arith}
 use mathlib.Core.Path.{_≡_, refl, sym}
 use mathlib.Core.Bool.{Bool}
-use mathlib.Core.List.{List, [], _∷_}
+use mathlib.Core.List.{List, [], _∷_, _++_, map}
 use lib.ListN.{take, replicate}
 use Rattle.laws.specs.Sums.{sum, greatest, every}
 use Rattle.laws.specs.Lists.{at, tabulate}
@@ -19,12 +22,23 @@ use Rattle.laws.specs.Grants.{granted, turn, most}
 use Rattle.laws.specs.Eviction.{added, searched, ones}
 use Rattle.laws.proofs.Placement.{placed-fits}
 use Rattle.station.specs.Head.{Head, Preset, Job, valid, hasNumber, allInLimits, allDistinct, masksIn}
-use Rattle.station.specs.Refusal.{callNotFeasible, firstOf}
+use Rattle.station.specs.Refusal.{Refusal, firstOf, outOfLimits, numberUsed, mandatoryNotFeasible, callNotFeasible, tooShort, tooMany, notWellFormed}
+use Rattle.station.specs.declared.types.Preset as record-of-preset
+use Rattle.station.specs.declared.types.Head as record-of-head
+use Rattle.station.specs.declared.types.Job as record-of-job
+use Rattle.station.specs.declared.types.Refusal.the-variants.{TooShort}
 use Rattle.placing.specs.Table.{cell, cells, wellFormed}
 use Rattle.placing.specs.Valid.{ValidCall, lost}
 use Rattle.placing.specs.Plan.{needs, grants, planned, placing}
 use Rattle.placing.specs.Call.{emptyCount, called, evictedSet, evictionOrder, downward, inSet, callFits}
-use Rattle.placing.specs.Outcomes.{written, planOf, CallAnswer, CallOutcome, PlanOutcome, callOf}
+use Rattle.placing.specs.Outcomes.{written, planOf, CallAnswer, CallOutcome, PlanAnswer, PlanOutcome, callOf}
+use Rattle.placing.specs.Causes.{callJobs}
+use Rattle.placing.specs.PlanDone.{PlanDone, planMeant}
+use Rattle.placing.specs.CallDone.{CallDone, callMeant}
+use Rattle.placing.specs.Entries.{planTooShort, PlanEntered, CallEntered}
+use Rattle.placing.specs.declared.plan.Planned.{Planned}
+use Rattle.placing.specs.declared.call.CallAnswer as reply
+use Rattle.placing.specs.declared.call.CallAnswer.the-variants as call-answer
 use Rattle.placing.proofs.ClaimsHold.{call-claim}
 
 -- ---- what computes: `unfolding plans` opens all that a plan needs, `unfolding calls` all that a call needs
@@ -81,6 +95,25 @@ pub worst-evicted : take 4 (callOf lastSlot 1 (job 7 1 ∷ []) (256 ∷ 256 ∷ 
 unfolding calls
 worst-evicted = refl
 
+-- ---- a call that is taken, with n cells lost
+
+module _ (h : Head) (clock : ℕ) (jobs : List Job) (t : List ℕ) (n : ℕ) (taken : callOf h clock jobs t .answer ≡ CallAnswer.taken n) where
+  -- every valid placement loses n cells or more
+  pub must-go : (u : List ℕ) → ValidCall h clock jobs (cell h t) (cell h u) → n ≤ cells h (λ s b. lost (cell h t) (cell h u) s b)
+  must-go u v =
+      let c = call-claim h clock jobs t in
+      omega (
+        arith,
+        c .reported n taken,
+        c .nine n taken (callOf h clock jobs t .table),
+        c .nine n taken u,
+        c .least n taken u v 9,
+      )
+
+  -- and there is one that loses n
+  pub goes : (u : List ℕ) × ValidCall h clock jobs (cell h t) (cell h u) × (cells h (λ s b. lost (cell h t) (cell h u) s b) ≡ n)
+  goes = let c = call-claim h clock jobs t in (callOf h clock jobs t .table, c .valid n taken, sym (c .reported n taken))
+
 -- ---- free 3, 1, 1, 1 and one optional cell in slot 2, a call of 3 and 3
 
 abbrev frame3111 : Head
@@ -121,18 +154,264 @@ takes-one = refl
 -- Exactly one cell must go: every valid placement loses one or more, and the one that the call leaves loses one.
 pub one-must-go : (u : List ℕ) → ValidCall frame3111 1 threeAndThree (cell frame3111 table3111) (cell frame3111 u)
     → 1 ≤ cells frame3111 (λ s b. lost (cell frame3111 table3111) (cell frame3111 u) s b)
-one-must-go u v =
-    let c = call-claim frame3111 1 threeAndThree table3111 in
-    omega (
-      arith,
-      c .reported 1 takes-one,
-      c .nine 1 takes-one (callOf frame3111 1 threeAndThree table3111 .table),
-      c .nine 1 takes-one u,
-      c .least 1 takes-one u v 9,
-    )
+one-must-go = must-go frame3111 1 threeAndThree table3111 1 takes-one
 
 pub one-goes : (u : List ℕ) × ValidCall frame3111 1 threeAndThree (cell frame3111 table3111) (cell frame3111 u)
     × (cells frame3111 (λ s b. lost (cell frame3111 table3111) (cell frame3111 u) s b) ≡ 1)
-one-goes =
-    let c = call-claim frame3111 1 threeAndThree table3111 in
-    (callOf frame3111 1 threeAndThree table3111 .table, c .valid 1 takes-one, sym (c .reported 1 takes-one))
+one-goes = goes frame3111 1 threeAndThree table3111 1 takes-one
+
+-- ---- held from two sides: the tables, heads and jobs of the cases below
+
+-- a lent table of 512 cells that begins so
+abbrev lent : List ℕ → List ℕ
+lent l = take 512 (l ++ replicate 512 0)
+
+-- k call cells, numbered n + 1 to n + k
+unfoldable pub jobCells : ℕ → ℕ → List ℕ
+jobCells zero n = []
+jobCells (suc k) n = (1025 + n) ∷ jobCells k (suc n)
+
+-- k jobs of one slot, numbered n + 1 to n + k
+unfoldable pub jobsFrom : ℕ → ℕ → List Job
+jobsFrom zero n = []
+jobsFrom (suc k) n = job (suc n) 1 ∷ jobsFrom k (suc n)
+
+-- a frame with nothing busy and no presets; the same with one slot and one bridge, and presets
+abbrev bare : ℕ → ℕ → Head
+bare s b = record { slots = s; bridges = b; busy = noBusy; presets = [] }
+
+abbrev holds : List Preset → Head
+holds ps = record { slots = 1; bridges = 1; busy = noBusy; presets = ps }
+
+-- ---- "A sound table has only the five kinds, ..": each clause broken alone
+
+-- Bridge 2 is busy in slot 2; preset 1 has m 1 and o 2, preset 2 has m 0 and o 1.
+abbrev fourSlots : Head
+fourSlots = record { slots = 4; bridges = 2; busy = 0 ∷ 2 ∷ replicate 6 0; presets = preset 1 0 1 2 ∷ preset 2 0 0 1 ∷ [] }
+
+-- slot 1: m1 o2; slot 2: o1 -; slot 3: o1 c9; slot 4: c9 0
+abbrev soundTable : List ℕ
+soundTable = 513 ∷ 770 ∷ 769 ∷ 256 ∷ 769 ∷ 1033 ∷ 1033 ∷ 0 ∷ []
+
+-- the same with v in the last cell
+abbrev endsIn : ℕ → List ℕ
+endsIn v = 513 ∷ 770 ∷ 769 ∷ 256 ∷ 769 ∷ 1033 ∷ 1033 ∷ v ∷ []
+
+abbrev brokenTables : List (List ℕ)
+brokenTables =
+    -- "only the five kinds": kind 5
+    endsIn 1280
+    ∷ endsIn 1287
+    -- "0 empty, 1 busy (both with number 0)"
+    ∷ endsIn 7
+    ∷ endsIn 263
+    -- "busy cells just as the head says": one too many; one that lacks
+    ∷ endsIn 256
+    ∷ (513 ∷ 770 ∷ 769 ∷ 0 ∷ 769 ∷ 1033 ∷ 1033 ∷ 0 ∷ [])
+    -- "in required and refinement cells only numbers of the head's presets"
+    ∷ endsIn 519
+    ∷ endsIn 775
+    ∷ endsIn 512
+    ∷ endsIn 768
+    -- "in call cells only 1 to 255"
+    ∷ endsIn 1024
+    -- "no number twice in a slot": a job's; a preset's
+    ∷ endsIn 1033
+    ∷ (513 ∷ 770 ∷ 0 ∷ 256 ∷ 769 ∷ 769 ∷ 1033 ∷ 0 ∷ [])
+    -- "exactly m required cells of each preset": too few; too many
+    ∷ (0 ∷ 770 ∷ 0 ∷ 256 ∷ 0 ∷ 1033 ∷ 1033 ∷ 0 ∷ [])
+    ∷ (513 ∷ 770 ∷ 513 ∷ 256 ∷ 0 ∷ 1033 ∷ 1033 ∷ 0 ∷ [])
+    -- "all in slots before its refinement cells"
+    ∷ (0 ∷ 770 ∷ 769 ∷ 256 ∷ 513 ∷ 1033 ∷ 1033 ∷ 0 ∷ [])
+    -- "at most o refinement cells of each preset"
+    ∷ endsIn 770
+    -- "none of them a preset's"
+    ∷ endsIn 1025
+    ∷ []
+
+-- A call on a sound table is taken, and on each of the others refused for 11; "at most 64 job numbers" is in `calls-answered`.
+pub sound-broken : map (λ t. callOf fourSlots 1 (job 20 1 ∷ []) (lent t) .answer) (soundTable ∷ brokenTables)
+    ≡ CallAnswer.taken 0 ∷ replicate 18 (CallAnswer.refused notWellFormed)
+unfolding calls
+sound-broken = refl
+
+-- ---- a plan: the limits of a head record and of the lent table, and the causes two at a time, in the order 8, 2, 5
+
+record PlanCase : Type 0 where
+  head : Head
+  cellsLent : ℕ
+  said : PlanAnswer
+
+abbrev grants-all : Head → ℕ → List ℕ → PlanCase
+grants-all h n g = record { head = h; cellsLent = n; said = PlanAnswer.granted g }
+
+abbrev stops-plan : Head → ℕ → Refusal → PlanCase
+stops-plan h n r = record { head = h; cellsLent = n; said = PlanAnswer.refused r }
+
+abbrev planCases : List PlanCase
+planCases =
+    -- "lent table below 512 cells .. the frame's size regardless"
+    grants-all (bare 1 1) 512 []
+    ∷ stops-plan (bare 1 1) 511 tooShort
+    -- S from 1 to 64, B from 1 to 8
+    ∷ stops-plan (bare 0 1) 512 outOfLimits
+    ∷ grants-all (bare 64 1) 512 []
+    ∷ stops-plan (bare 65 1) 512 outOfLimits
+    ∷ stops-plan (bare 1 0) 512 outOfLimits
+    ∷ grants-all (bare 1 8) 512 []
+    ∷ stops-plan (bare 1 9) 512 outOfLimits
+    -- busy cells inside the frame only
+    ∷ grants-all (record { slots = 1; bridges = 1; busy = 1 ∷ replicate 7 0; presets = [] }) 512 []
+    ∷ stops-plan (record { slots = 1; bridges = 1; busy = 2 ∷ replicate 7 0; presets = [] }) 512 outOfLimits
+    ∷ stops-plan (record { slots = 1; bridges = 1; busy = 0 ∷ 1 ∷ replicate 6 0; presets = [] }) 512 outOfLimits
+    -- a preset's number from 1 to 255, its priority from 0 to 9, m and o from 0 to 64, and no number twice
+    ∷ stops-plan (holds (preset 0 0 0 0 ∷ [])) 512 outOfLimits
+    ∷ grants-all (holds (preset 1 0 0 0 ∷ [])) 512 (0 ∷ [])
+    ∷ grants-all (holds (preset 255 9 0 64 ∷ [])) 512 (1 ∷ [])
+    ∷ stops-plan (holds (preset 256 0 0 0 ∷ [])) 512 outOfLimits
+    ∷ stops-plan (holds (preset 1 10 0 0 ∷ [])) 512 outOfLimits
+    ∷ stops-plan (holds (preset 1 0 64 0 ∷ [])) 512 mandatoryNotFeasible
+    ∷ stops-plan (holds (preset 1 0 65 0 ∷ [])) 512 outOfLimits
+    ∷ stops-plan (holds (preset 1 0 0 65 ∷ [])) 512 outOfLimits
+    ∷ stops-plan (holds (preset 1 0 0 0 ∷ preset 1 0 0 0 ∷ [])) 512 outOfLimits
+    -- 8 before 2 and before 5, 2 before 5
+    ∷ stops-plan (bare 0 1) 511 tooShort
+    ∷ stops-plan (holds (preset 1 0 2 0 ∷ [])) 511 tooShort
+    ∷ stops-plan (holds (preset 1 0 2 0 ∷ preset 1 0 0 0 ∷ [])) 512 outOfLimits
+    ∷ []
+
+pub plans-answered : map (λ c. planOf (c .head) (replicate (c .cellsLent) 0) .answer) planCases ≡ map (λ c. c .said) planCases
+unfolding plans
+plans-answered = refl
+
+-- ---- a call: its limits, those of the lent table and clock, and the causes two at a time, in the order 8, 2 of the head record, 11, 2, 4, 9, 7
+
+record CallCase : Type 0 where
+  head : Head
+  clock : ℕ
+  jobs : List Job
+  table : List ℕ
+  said : CallAnswer
+
+abbrev takes : Head → ℕ → List Job → List ℕ → CallCase
+takes h clock jobs t = record { head = h; clock = clock; jobs = jobs; table = t; said = CallAnswer.taken 0 }
+
+abbrev stops : Refusal → Head → ℕ → List Job → List ℕ → CallCase
+stops r h clock jobs t = record { head = h; clock = clock; jobs = jobs; table = t; said = CallAnswer.refused r }
+
+abbrev callCases : List CallCase
+callCases =
+    -- "lent table below 512 cells"
+    takes (bare 1 1) 1 (job 5 1 ∷ []) (replicate 512 0)
+    ∷ stops tooShort (bare 1 1) 1 (job 5 1 ∷ []) (replicate 511 0)
+    -- "a clock outside 1 to S + 1"; at S + 1 no slot is left
+    ∷ stops notWellFormed (bare 1 1) 0 (job 5 1 ∷ []) (lent [])
+    ∷ stops callNotFeasible (bare 1 1) 2 (job 5 1 ∷ []) (lent [])
+    ∷ stops notWellFormed (bare 1 1) 3 (job 5 1 ∷ []) (lent [])
+    -- "jobs in a call" from 1 to 8: "a ninth job in a call, or no job outside a text"
+    ∷ stops outOfLimits (bare 1 8) 1 [] (lent [])
+    ∷ takes (bare 1 8) 1 (jobsFrom 8 0) (lent [])
+    ∷ stops outOfLimits (bare 1 8) 1 (jobsFrom 9 0) (lent [])
+    -- a job's number from 1 to 255
+    ∷ stops outOfLimits (bare 1 1) 1 (job 0 1 ∷ []) (lent [])
+    ∷ takes (bare 1 1) 1 (job 1 1 ∷ []) (lent [])
+    ∷ takes (bare 1 1) 1 (job 255 1 ∷ []) (lent [])
+    ∷ stops outOfLimits (bare 1 1) 1 (job 256 1 ∷ []) (lent [])
+    -- c from 1 to 64; it may exceed S
+    ∷ stops outOfLimits (bare 1 1) 1 (job 5 0 ∷ []) (lent [])
+    ∷ stops callNotFeasible (bare 1 1) 1 (job 5 64 ∷ []) (lent [])
+    ∷ stops outOfLimits (bare 1 1) 1 (job 5 65 ∷ []) (lent [])
+    -- "a number already used, or twice in a call": a preset's, a job's, a job's of the same call
+    ∷ stops numberUsed fourSlots 1 (job 1 1 ∷ []) (lent soundTable)
+    ∷ stops numberUsed fourSlots 1 (job 9 1 ∷ []) (lent soundTable)
+    ∷ stops numberUsed (bare 2 1) 1 (job 5 1 ∷ job 5 1 ∷ []) (lent [])
+    -- "jobs in a frame" from 0 to 64: the 64th job is taken, the 65th is 9; a table with 65 job numbers is not sound
+    ∷ takes (bare 8 8) 1 (job 64 1 ∷ []) (lent (jobCells 63 0))
+    ∷ stops tooMany (bare 8 8) 1 (job 64 1 ∷ job 65 1 ∷ []) (lent (jobCells 63 0))
+    ∷ stops notWellFormed (bare 13 5) 1 (job 200 1 ∷ []) (lent (jobCells 65 0))
+    -- 8 before the head record's 2 and before 11, that 2 before 11, both before the call's own
+    ∷ stops tooShort (bare 0 1) 1 (job 5 1 ∷ []) (replicate 511 0)
+    ∷ stops tooShort (bare 1 1) 3 (job 5 1 ∷ []) (replicate 511 0)
+    ∷ stops outOfLimits (bare 1 9) 12 (job 5 1 ∷ []) (lent (7 ∷ []))
+    ∷ stops outOfLimits (bare 0 1) 1 [] (lent [])
+    ∷ stops notWellFormed (bare 1 1) 3 [] (lent [])
+    ∷ stops notWellFormed (bare 1 1) 1 (job 5 1 ∷ job 5 1 ∷ []) (lent (7 ∷ []))
+    -- 2 before 4, before 9 and before 7
+    ∷ stops outOfLimits (bare 1 1) 1 (job 5 1 ∷ job 5 65 ∷ []) (lent [])
+    ∷ stops outOfLimits (bare 8 8) 1 (job 65 0 ∷ []) (lent (jobCells 64 0))
+    ∷ stops outOfLimits (bare 1 1) 1 (job 5 64 ∷ job 6 0 ∷ []) (lent [])
+    -- 4 before 9 and before 7
+    ∷ stops numberUsed (bare 8 8) 1 (job 64 1 ∷ []) (lent (jobCells 64 0))
+    ∷ stops numberUsed (bare 1 1) 1 (job 5 64 ∷ job 5 64 ∷ []) (lent [])
+    -- 9 before 7: no cell is left
+    ∷ stops tooMany (bare 8 8) 1 (job 65 1 ∷ []) (lent (jobCells 64 0))
+    ∷ []
+
+pub calls-answered : map (λ c. callOf (c .head) (c .clock) (c .jobs) (c .table) .answer) callCases ≡ map (λ c. c .said) callCases
+unfolding calls jobCells jobsFrom
+calls-answered = refl
+
+-- ---- the head record and the list: "presets" from 0 to 32, and "preset list below 32 records"
+
+-- a head record that counts so many presets, and n records with the numbers n down to 1
+abbrev counting : ℕ → record-of-head.Head
+counting n = record { slots = 1; bridges = 1; busy = noBusy; count = n }
+
+unfoldable pub recordsTo : ℕ → List record-of-preset.Preset
+recordsTo zero = []
+recordsTo (suc n) = record { number = suc n; priority = 0; mandatory = 0; optional = 0 } ∷ recordsTo n
+
+-- nine job records with the numbers 9 down to 1
+unfoldable pub jobRecordsTo : ℕ → List record-of-job.Job
+jobRecordsTo zero = []
+jobRecordsTo (suc n) = record { number = 100 + n; slots = 1 } ∷ jobRecordsTo n
+
+-- A record that counts 32 presets has a plan; one that counts 33 is one "that no text yields", after 8 and before a call's own 2, 4 and 7; a ninth job record is no job.
+pub records-answered : (planMeant (counting 32) (recordsTo 32) (lent []) .answer ≡ PlanAnswer.granted (replicate 32 0))
+    × (planMeant (counting 33) (recordsTo 33) (lent []) .answer ≡ PlanAnswer.refused outOfLimits)
+    × (planMeant (counting 33) (recordsTo 33) (replicate 511 0) .answer ≡ PlanAnswer.refused tooShort)
+    × (callMeant (counting 33) (recordsTo 33) 3 (job 40 2 ∷ []) (lent (7 ∷ [])) .answer ≡ CallAnswer.refused outOfLimits)
+    × (callMeant (counting 33) (recordsTo 33) 1 [] (replicate 511 0) .answer ≡ CallAnswer.refused tooShort)
+    × (callMeant (counting 0) [] 1 (callJobs 8 (jobRecordsTo 8)) (lent []) .answer ≡ CallAnswer.refused callNotFeasible)
+    × (callMeant (counting 0) [] 1 (callJobs 9 (jobRecordsTo 8)) (lent []) .answer ≡ CallAnswer.refused outOfLimits)
+unfolding planMeant callMeant plans calls recordsTo jobRecordsTo callJobs
+records-answered = (refl, refl, refl, refl, refl, refl, refl)
+
+-- A list of 31 records is 8, whatever else is at fault; one of 32 is as the records say.
+pub plan-list : (head : record-of-head.Head) (ps : List record-of-preset.Preset) (t u : List ℕ) (r : Planned)
+    → (PlanEntered 31 head ps t u r → (r ≡ planTooShort) × (u ≡ t)) × (PlanEntered 32 head ps t u r → PlanDone head ps t u r)
+plan-list head ps t u r = (λ e. e .short (omega arith), λ e. e .done (omega arith))
+
+pub call-list : (head : record-of-head.Head) (ps : List record-of-preset.Preset) (clock : ℕ) (jobs : List Job) (t u : List ℕ) (r : reply.CallAnswer)
+    → (CallEntered 31 head ps clock jobs t u r → (r ≡ call-answer.Refused TooShort) × (u ≡ t))
+    × (CallEntered 32 head ps clock jobs t u r → CallDone head ps clock jobs t u r)
+call-list head ps clock jobs t u r = (λ e. e .short (omega arith), λ e. e .done (omega arith))
+
+-- ---- "The order of loss: worst rank first; for one preset the latest slot first."
+
+record LossCase : Type 0 where
+  head : Head
+  before : List ℕ
+  after : List ℕ
+
+abbrev leaves : Head → List ℕ → List ℕ → LossCase
+leaves h t u = record { head = h; before = t; after = u }
+
+abbrev lossCases : List LossCase
+lossCases =
+    -- one preset in two slots: the latest slot goes
+    leaves (record { slots = 2; bridges = 1; busy = noBusy; presets = preset 1 0 0 2 ∷ [] }) (769 ∷ 769 ∷ []) (769 ∷ 1029 ∷ [])
+    -- two presets of one priority: the later line is the worse one, though its cell stands in the earlier slot, and on either bridge
+    ∷ leaves (record { slots = 2; bridges = 1; busy = noBusy; presets = preset 1 0 0 1 ∷ preset 2 0 0 1 ∷ [] }) (770 ∷ 769 ∷ []) (1029 ∷ 769 ∷ [])
+    ∷ leaves (record { slots = 1; bridges = 2; busy = noBusy; presets = preset 1 0 0 1 ∷ preset 2 0 0 1 ∷ [] }) (769 ∷ 770 ∷ []) (769 ∷ 1029 ∷ [])
+    ∷ leaves (record { slots = 1; bridges = 2; busy = noBusy; presets = preset 1 0 0 1 ∷ preset 2 0 0 1 ∷ [] }) (770 ∷ 769 ∷ []) (1029 ∷ 769 ∷ [])
+    -- not by the number: the later line has the smaller one
+    ∷ leaves (record { slots = 2; bridges = 1; busy = noBusy; presets = preset 2 0 0 1 ∷ preset 1 0 0 1 ∷ [] }) (769 ∷ 770 ∷ []) (1029 ∷ 770 ∷ [])
+    -- the worse priority goes before the later line and before the later slot
+    ∷ leaves (record { slots = 2; bridges = 1; busy = noBusy; presets = preset 1 1 0 1 ∷ preset 2 0 0 1 ∷ [] }) (769 ∷ 770 ∷ []) (1029 ∷ 770 ∷ [])
+    ∷ []
+
+-- A one-slot call takes the cell that document 01 says.
+pub losses : map (λ c. callOf (c .head) 1 (job 5 1 ∷ []) (lent (c .before)) .table) lossCases ≡ map (λ c. lent (c .after)) lossCases
+unfolding calls
+losses = refl

@@ -1,7 +1,7 @@
--- Laws of `placing`, the way jobs get their cells, for plans and calls alike.
+-- Laws of `placing`, the way jobs get their cells, for plans and calls alike, whoever has a cell in which slot.
 --
--- In order: what a cell can hold (`PlacedCell`); how many cells of a slot pass a test (`placing-count`), what a cell holds (`placing-cases`), and the
--- cells of one job (`placing-job`).
+-- In order: what a cell can hold (`PlacedCell`, `placing-cases`); where a slot's jobs are at most its free cells, how many cells of the slot pass a test (`placing-count`), and the
+-- cells of one job (`placing-job`); by largest remaining time first they are (`lrtf-within`).
 -- Assumes nothing.
 use Prim.Native.Nat.{ℕ, _+_, _≤_, _<_}
 use native.Mathlib.Omega.{arith}
@@ -22,66 +22,61 @@ use Rattle.laws.proofs.Cells.{takes-one-job, slot-holding}
 use Rattle.placing.specs.Table.{Cells}
 use Rattle.placing.specs.Plan.{placing, freeCount}
 
--- ---- placing
+-- What the cell of slot s, bridge b holds after jobs were placed: what it held where it was not free; else nothing, or what a job writes that has a cell in the slot.
+pub data PlacedCell (k : ℕ) (f a : ℕ → ℕ → Bool) (v : ℕ → ℕ → ℕ) (t : Cells) (s b w : ℕ) : Type 0 where
+  kept : f s b ≡ false → w ≡ t s b → PlacedCell k f a v t s b w
+  unused : f s b ≡ true → w ≡ 0 → PlacedCell k f a v t s b w
+  written : f s b ≡ true → (i : ℕ) → i < k → a i s ≡ true → w ≡ v i s → PlacedCell k f a v t s b w
 
--- What the cell of slot s, bridge b holds after jobs were placed: what it held where it was not free; else nothing, or what a job writes that
--- LRTF places in the slot.
-pub data PlacedCell (bridges : ℕ) (f : ℕ → ℕ → Bool) (c : List ℕ) (v : ℕ → ℕ → ℕ) (t : Cells) (s b w : ℕ) : Type 0 where
-  kept : f s b ≡ false → w ≡ t s b → PlacedCell bridges f c v t s b w
-  unused : f s b ≡ true → w ≡ 0 → PlacedCell bridges f c v t s b w
-  written : f s b ≡ true → (i : ℕ) → i < length c → lrtf c (freeCount bridges f) i s ≡ true → w ≡ v i s → PlacedCell bridges f c v t s b w
+-- in a slot LRTF places no more jobs than it has free cells
+pub lrtf-within : (c : List ℕ) (x : ℕ → ℕ) (s : ℕ) → count (length c) (λ i. lrtf c x i s) ≤ x s
+lrtf-within c x s = chosen-count (length c) (at (left c x s)) (x s)
 
-module _ (bridges : ℕ) (f : ℕ → ℕ → Bool) (c : List ℕ) (v : ℕ → ℕ → ℕ) (t : Cells) (s : ℕ) where
-  -- how many cells of the slot pass a test: the jobs placed there whose value does, and the cells that were not free
-  pub placing-count : (q : ℕ → Bool) → q 0 ≡ false
-      → count bridges (λ b. q (placing bridges f c v t s b))
-      ≡ count (length c) (λ i. lrtf c (freeCount bridges f) i s && q (v i s)) + count bridges (λ b. not (f s b) && q (t s b))
+module _ (k : ℕ) (f a : ℕ → ℕ → Bool) (v : ℕ → ℕ → ℕ) (t : Cells) (s : ℕ) where
+  pub placing-cases : (b : ℕ) → PlacedCell k f a v t s b (placing k f a v t s b)
   unfolding placing
-  placing-count q z =
-      slot-holding (length c) bridges (λ i. lrtf c (freeCount bridges f) i s) (λ b. f s b) (λ i. v i s) (λ b. t s b) q z
-      (chosen-count (length c) (at (left c (freeCount bridges f) s)) (freeCount bridges f s))
-
-  pub placing-cases : (b : ℕ) → PlacedCell bridges f c v t s b (placing bridges f c v t s b)
-  unfolding placing
-  placing-cases b = go (is (f s b)) (one-selected (length c) taker (λ i. v i s) one)
+  placing-cases b = go (is (f s b)) (one-selected k taker (λ i. v i s) one)
     where
       job : ℕ → Bool
-      job i = lrtf c (freeCount bridges f) i s
+      job i = a i s
 
       taker : ℕ → Bool
-      taker i = takes job (λ a. f s a) i b
+      taker i = takes job (λ d. f s d) i b
 
-      one : count (length c) taker ≤ 1
-      one = omega (arith, takes-one-job (length c) job (λ a. f s a) b, bit-le (f s b))
+      one : count k taker ≤ 1
+      one = omega (arith, takes-one-job k job (λ d. f s d) b, bit-le (f s b))
 
       value : ℕ
-      value = sum (length c) (λ i. only (taker i) (v i s))
+      value = sum k (λ i. only (taker i) (v i s))
 
       of-free : f s b ≡ true → cond (f s b) value (t s b) ≡ value
       of-free e = ap (λ (x : Bool). cond x value (t s b)) e
 
-      go : Is (f s b) → (value ≡ 0) ⊎ ((i : ℕ) × (i < length c) × (taker i ≡ true) × (value ≡ v i s))
-          → PlacedCell bridges f c v t s b (cond (f s b) value (t s b))
+      go : Is (f s b) → (value ≡ 0) ⊎ ((i : ℕ) × (i < k) × (taker i ≡ true) × (value ≡ v i s)) → PlacedCell k f a v t s b (cond (f s b) value (t s b))
       go (is-false e) w = kept e (ap (λ (x : Bool). cond x value (t s b)) e)
       go (is-true e) (inl w) = unused e (of-free e ∙ w)
       go (is-true e) (inr (i, l, d, w)) = written e i l (right-of (f s b) (job i) (left-of (f s b && job i) _ d)) (of-free e ∙ w)
 
-  -- the cells of one job, by a test that only its value passes
-  pub placing-job : (q : ℕ → Bool) → q 0 ≡ false → (i : ℕ) → i < length c
-      → ((j : ℕ) → j < length c → (j ≡ i → ⊥) → q (v j s) ≡ false)
-      → ((b : ℕ) → b < bridges → f s b ≡ false → q (t s b) ≡ false)
-      → count bridges (λ b. q (placing bridges f c v t s b)) ≡ bit (lrtf c (freeCount bridges f) i s && q (v i s))
-  placing-job q z i l others away =
-      omega (
-        arith,
-        placing-count q z,
-        sum-point (length c) (λ j. bit (job j && q (v j s))) i l (λ j m ne. ap bit (never-both (job j) (q (v j s)) (λ e. others j m ne))),
-        count-none bridges (λ b. not (f s b) && q (t s b)) (λ b m. rest b m (is (f s b))),
-      )
-    where
-      job : ℕ → Bool
-      job j = lrtf c (freeCount bridges f) j s
+  module _ (bridges : ℕ) (within : count k (λ i. a i s) ≤ freeCount bridges f s) where
+    -- how many cells of the slot pass a test: the jobs placed there whose value does, and the cells that were not free
+    pub placing-count : (q : ℕ → Bool) → q 0 ≡ false
+        → count bridges (λ b. q (placing k f a v t s b)) ≡ count k (λ i. a i s && q (v i s)) + count bridges (λ b. not (f s b) && q (t s b))
+    unfolding placing
+    placing-count q z = slot-holding k bridges (λ i. a i s) (λ b. f s b) (λ i. v i s) (λ b. t s b) q z within
 
-      rest : (b : ℕ) → b < bridges → Is (f s b) → (not (f s b) && q (t s b)) ≡ false
-      rest b m (is-true e) = rw e
-      rest b m (is-false e) = rw e (away b m e)
+    -- the cells of one job, by a test that only its value passes
+    pub placing-job : (q : ℕ → Bool) → q 0 ≡ false → (i : ℕ) → i < k
+        → ((j : ℕ) → j < k → (j ≡ i → ⊥) → q (v j s) ≡ false)
+        → ((b : ℕ) → b < bridges → f s b ≡ false → q (t s b) ≡ false)
+        → count bridges (λ b. q (placing k f a v t s b)) ≡ bit (a i s && q (v i s))
+    placing-job q z i l others away =
+        omega (
+          arith,
+          placing-count q z,
+          sum-point k (λ j. bit (a j s && q (v j s))) i l (λ j m ne. ap bit (never-both (a j s) (q (v j s)) (λ e. others j m ne))),
+          count-none bridges (λ b. not (f s b) && q (t s b)) (λ b m. rest b m (is (f s b))),
+        )
+      where
+        rest : (b : ℕ) → b < bridges → Is (f s b) → (not (f s b) && q (t s b)) ≡ false
+        rest b m (is-true e) = rw e
+        rest b m (is-false e) = rw e (away b m e)

@@ -38,7 +38,7 @@ use Rattle.placing.specs.Plan.{rank, mandatories, optionals, planFree, p
 use Rattle.placing.specs.Plan.{needs, grants, planCell, planned}
 use Rattle.placing.proofs.CountedCells.{cells-none, isBusy-no, numberIn-mandatory, numberIn-optional, hasPreset-of, numberAt-low, numberAt-lt}
 use Rattle.placing.proofs.CountedCells.{index-unique}
-use Rattle.placing.proofs.Placing.{PlacedCell, kept, unused, written, placing-cases, placing-job}
+use Rattle.placing.proofs.Placing.{PlacedCell, kept, unused, written, lrtf-within, placing-cases, placing-job}
 
 -- ---- when needs fit
 
@@ -241,9 +241,9 @@ module _ (h : Head) (valid : Valid h) (start : planFits h (mandatories h) ≡ tr
 
   planned-cases : (s b : ℕ) → PlannedCell h s b (planned h s b)
   unfolding planned
-  planned-cases s b = go (placing-cases (h .bridges) (planFree h) (needs h) (planCell h (needs h)) (λ s b. busyCell) s b)
+  planned-cases s b = go (placing-cases (length (needs h)) (planFree h) (λ i r. had h i r) (planCell h (needs h)) (λ s b. busyCell) s b)
     where
-      go : {w : ℕ} → PlacedCell (h .bridges) (planFree h) (needs h) (planCell h (needs h)) (λ s b. busyCell) s b w → PlannedCell h s b w
+      go : {w : ℕ} → PlacedCell (length (needs h)) (planFree h) (λ i r. had h i r) (planCell h (needs h)) (λ s b. busyCell) s b w → PlannedCell h s b w
       go (kept e q) = busy (true-of-not (busyAt h s b) e) q
       go (unused e q) = empty (false-of-not (busyAt h s b) e) q
       go (written e i l d q) = preset (false-of-not (busyAt h s b) e) i (omega (arith, needs-long)) d (q ∙ planCell-is h i s)
@@ -298,7 +298,8 @@ module _ (h : Head) (valid : Valid h) (start : planFits h (mandatories h) ≡ tr
       → count (h .bridges) (λ b. q (planned h s b)) ≡ bit (had h i s && q (presetCell h i (early h i s)))
   unfolding planned
   planned-count i s l q only-own =
-      placing-job (h .bridges) (planFree h) (needs h) (planCell h (needs h)) (λ s b. busyCell) s q
+      placing-job (length (needs h)) (planFree h) (λ j r. had h j r) (planCell h (needs h)) (λ s b. busyCell) s (h .bridges)
+      (lrtf-within (needs h) (planFreeCount h) s) q
       (plain 0 refl) i (omega (arith, needs-long)) (λ j m. others j (omega (arith, needs-long)))
       (λ b m e. plain busyCell refl)
       ∙ ap (λ (w : ℕ). bit (had h i s && q w)) (planCell-is h i s)

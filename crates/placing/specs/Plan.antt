@@ -14,14 +14,15 @@ use Rattle.laws.specs.Grants.{granted}
 use Rattle.station.specs.Head.{Head, Preset, busyAt, presetAt}
 use Rattle.placing.specs.Table.{Cells, presetCount, numberAt, mandatoryCell, optionalCell, busyCell}
 
--- Jobs with the needs c go by LRTF into the free cells f, slot by slot; in a slot the chosen ones, in their order, take the free bridges in ascending
--- order. A free cell that nobody takes is empty, and one that is not free keeps what stands there. `v i s` is what job i writes in slot s.
+-- how many of a slot's bridges pass a test
 abbrev pub freeCount : ℕ → (ℕ → ℕ → Bool) → ℕ → ℕ
 freeCount bridges f s = count bridges (λ b. f s b)
 
-unfoldable pub placing : ℕ → (ℕ → ℕ → Bool) → List ℕ → (ℕ → ℕ → ℕ) → Cells → Cells
-placing bridges f c v t s b =
-    slotCell (length c) (λ i. lrtf c (freeCount bridges f) i s) (λ a. f s a) (λ i. v i s) (λ a. t s a) b
+-- The table after k jobs got their cells among the free cells f, where `a i s` says that job i has one in slot s: "The chosen, in file order, take the free bridges in ascending
+-- order." A free cell that nobody takes is empty, and one that is not free keeps what stands there. `v i s` is what job i writes in slot s. Who has a cell in which slot is
+-- for the caller to say; by the rule it is `lrtf`.
+unfoldable pub placing : ℕ → (ℕ → ℕ → Bool) → (ℕ → ℕ → Bool) → (ℕ → ℕ → ℕ) → Cells → Cells
+placing k f a v t s b = slotCell k (λ i. a i s) (λ d. f s d) (λ i. v i s) (λ d. t s d) b
 
 -- "Rank: better priority first, then the earlier line." How many presets come before the one of line i.
 abbrev pub rank : Head → ℕ → ℕ
@@ -79,7 +80,7 @@ planCell h c i s =
     (mandatoryCell (numberAt h i))
     (optionalCell (numberAt h i))
 
--- the table of the plan
+-- The table of the plan: "Placing, slot by slot from the first: as many presets as there are free bridges, those with the most slots still to get, never one with none left."
 unfoldable pub planned : Head → Cells
 unfolding placing
-planned h = placing (h .bridges) (planFree h) (needs h) (planCell h (needs h)) (λ s b. busyCell)
+planned h = placing (length (needs h)) (planFree h) (λ i s. lrtf (needs h) (planFreeCount h) i s) (planCell h (needs h)) (λ s b. busyCell)

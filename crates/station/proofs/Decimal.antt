@@ -1,8 +1,8 @@
 -- Laws of decimal numbers: printing and reading are inverse to one another.
 --
 -- In order: bytes that are digits (`digit-low`, `digit-high`, `is-digit`, `all-digits`); the steps of `digits` (`digits-small`, `digits-step`); the
--- two inverses, `value-digits` and `digits-value`, and `digits-injective`; the digits at the front of a text (`digits-count`, `count-at`,
--- `digits-bytes`, `plain-digits`, `digits-nonempty`); a number read (`number-digits`, `number-had`); how many digits (`digits-length`).
+-- two inverses, `value-digits` and `digits-value`; the digits at the front of a text (`digits-count`, `plain-digits`); a number read (`number-digits`, `number-had`);
+-- how many digits (`digits-length`).
 -- Assumes nothing.
 use Prim.Native.Nat.{ℕ, zero, suc, _+_, _-_, _*_, _/_, _%_, _^_, _≤_, _<_}
 use native.Mathlib.Nat.{le-refl}
@@ -11,7 +11,7 @@ use mathlib.Core.Path.{_≡_, refl, sym, _∙_, ap}
 use mathlib.Core.Bool.{Bool, true, not, _||_}
 use mathlib.Core.Option.{Option, some}
 use mathlib.Core.List.{List, [], _∷_, _++_, append-assoc, append-nil}
-use lib.ListN.{length, take, drop, getD, length-append, take-append-drop}
+use lib.ListN.{length, take, drop, length-append, take-append-drop}
 use lib.Seq.{take-at, drop-at, length-take-le}
 use lib.Dec.{eqb, ltb, leb}
 use Rattle.laws.proofs.Tests.{Is, is-true, is-false, is, clash, both, left-of, right-of, none-some}
@@ -133,10 +133,6 @@ digits-value (b ∷ l) p e = go (left-of (isDigit b) single p) (right-of (isDigi
         digits-valueFrom (0 * 10 + (b - 48)) l (omega arith) (counted)
         ∙ ap (λ (x : List ℕ). x ++ l) (ap digits v ∙ digits-small (b - 48) (omega arith) ∙ ap (λ (x : ℕ). x ∷ []) w)
 
--- one number for the same digits
-pub digits-injective : (m n : ℕ) → digits m ≡ digits n → m ≡ n
-digits-injective m n e = sym (value-digits m) ∙ ap value e ∙ value-digits n
-
 -- ---- the digits at the front of a text
 
 digitCount-append : (a r : List ℕ) → digitCount a ≡ length a → digitCount (a ++ r) ≡ length a + digitCount r
@@ -167,17 +163,6 @@ pub digits-count : (n : ℕ) → digitCount (digits n) ≡ length (digits n)
 unfolding digits
 digits-count n = digitsIn-count (suc n) n
 
--- each byte of a list that is digits throughout
-pub count-at : (l : List ℕ) → digitCount l ≡ length l → (i : ℕ) → i < length l → isDigit (getD l i 0) ≡ true
-unfolding digitCount
-count-at [] e i h = absurd (omega arith)
-count-at (b ∷ l) e zero h = all-digits b l e .0
-count-at (b ∷ l) e (suc i) h = count-at l (all-digits b l e .1) i (omega arith)
-
--- each byte of a number is one of 48 to 57
-pub digits-bytes : (n i : ℕ) → i < length (digits n) → isDigit (getD (digits n) i 0) ≡ true
-digits-bytes n i h = count-at (digits n) (digits-count n) i h
-
 -- a number that is not 0 begins with a digit that is not 0
 digitsIn-first : (k n : ℕ) (r : List ℕ) → n < k → 0 < n → plain (digitsIn k n ++ r) ≡ true
 unfolding digitsIn plain
@@ -197,14 +182,6 @@ pub plain-digits : (n : ℕ) (r : List ℕ) → digitCount r ≡ 0 → plain (di
 unfolding digits digitsIn plain
 plain-digits zero r e = rw (eqb-yes (digitCount r) 0 e) refl
 plain-digits (suc n) r e = digitsIn-first (suc (suc n)) (suc n) r (omega arith) (omega arith)
-
-pub digits-nonempty : (n : ℕ) → 0 < length (digits n)
-unfolding plain
-digits-nonempty n = go (digits n) (rw append-nil at (plain-digits n [] (unfold digitCount in refl)))
-  where
-    go : (l : List ℕ) → plain l ≡ true → 0 < length l
-    go [] p = absurd (clash (sym p))
-    go (b ∷ l) p = omega arith
 
 digitCount-le : (l : List ℕ) → digitCount l ≤ length l
 unfolding digitCount

@@ -2,23 +2,33 @@
 --
 -- In order: what computes (`recognises`, `reads`, `writes`, for `unfolding` lines); the cases, and that each text reads as its case says
 -- (`cases-read`); the head of the listing, written (`listing-written`) and tested (`listing-valid`); the 33rd preset (`presets-32`,
--- `presets-33`); a number above 2 ^ 64 (`long-number`); the longest text (`too-long`, `longest`).
+-- `presets-33`); a number above 2 ^ 64 (`long-number`); the longest text (`too-long`, `longest`). Then what holds the definitions to document 01 from two
+-- sides, each a list of cases and one fact: the causes' numbers (`cause-numbers`); the limits of a head's lines at both edges, and the causes of a line two at
+-- a time in the listed order (`edges-read`, `used-before-33`, `outside-before-33`); head records at the edges (`edges-valid`, `record-32`, `record-33`); what
+-- the entries over a list of records try (`entries-read`, `entries-written`).
 -- Assumes nothing.
 use Prim.Native.Nat.{ℕ, zero, suc}
 use Prim.Native.String.{String}
 use mathlib.Core.Path.{_≡_, refl}
-use mathlib.Core.Bool.{true}
+use mathlib.Core.Bool.{Bool, true, false}
 use mathlib.Core.Option.{Option}
-use mathlib.Core.List.{List, [], _∷_, map}
+use mathlib.Core.List.{List, [], _∷_, _++_, map}
 use lib.ListN.{replicate}
 use Rattle.station.specs.Head.{Head, Preset, valid, hasNumber, allInLimits, allDistinct, masksIn}
-use Rattle.station.specs.Refusal.{firstOf, noForm, outOfLimits, outOfPlace, numberUsed, tooMany, textTooLong}
+use Rattle.station.specs.Refusal.{numberOf, firstOf, noForm, outOfLimits, outOfPlace, numberUsed, mandatoryNotFeasible, clockBack}
+use Rattle.station.specs.Refusal.{callNotFeasible, tooShort, tooMany, textTooLong, notWellFormed}
 use Rattle.station.specs.Text.{bytes, lines}
 use Rattle.station.specs.Decimal.{digits, digitsIn, digitCount, plain, valueFrom}
 use Rattle.station.specs.Form.{Form, form, print, brackets, starts, word, number, bracketsIn, readBrackets, frameIn, busyIn, presetIn, clockIn}
 use Rattle.station.specs.Form.{callIn}
 use Rattle.station.specs.Writing.{maskOf, ordered, stretches, busyLines, formsOf, textOf}
 use Rattle.station.specs.Reading.{Reading, accepted, refused, headOf, presetOf, readFrom, more, misplaced, outside, used, full}
+use Rattle.station.specs.declared.types.Preset as record-of-preset
+use Rattle.station.specs.declared.types.Head as record-of-head
+use Rattle.station.specs.declared.types.Refusal.the-variants as code
+use Rattle.station.specs.Types.{refusalIn, validRecord}
+use Rattle.station.specs.WriteHead as write
+use Rattle.station.specs.Entries.{entryReading, entryAnswer}
 
 -- ---- what computes: `unfolding reads` opens all that reading a text needs, and so the others
 
@@ -147,3 +157,133 @@ too-long = refl
 pub longest : headOf (replicate 32768 10) ≡ refused 1 noForm
 unfolding reads
 longest = refl
+
+-- ---- held from two sides: the numbers
+
+-- "Number", row by row of the table of causes; and what the code answers goes by the same numbers
+pub cause-numbers : (map numberOf (noForm ∷ outOfLimits ∷ outOfPlace ∷ numberUsed ∷ mandatoryNotFeasible ∷ clockBack ∷ callNotFeasible ∷ tooShort
+    ∷ tooMany ∷ textTooLong ∷ notWellFormed ∷ []) ≡ 1 ∷ 2 ∷ 3 ∷ 4 ∷ 5 ∷ 6 ∷ 7 ∷ 8 ∷ 9 ∷ 10 ∷ 11 ∷ [])
+    × (map (λ r. numberOf (refusalIn r)) (code.NoForm ∷ code.OutOfLimits ∷ code.OutOfPlace ∷ code.NumberUsed ∷ code.MandatoryNotFeasible
+    ∷ code.ClockBack ∷ code.CallNotFeasible ∷ code.TooShort ∷ code.TooMany ∷ code.TextTooLong ∷ code.NotWellFormed ∷ [])
+    ≡ 1 ∷ 2 ∷ 3 ∷ 4 ∷ 5 ∷ 6 ∷ 7 ∷ 8 ∷ 9 ∷ 10 ∷ 11 ∷ [])
+cause-numbers = (refl, refl)
+
+-- ---- the limits of the lines of a head, accepted at the edge and refused one past it; the causes of a line two at a time
+
+-- so many slots and bridges, nothing busy, no presets; 4 slots and 2 bridges, some slots of bridge 1 busy
+abbrev bare : ℕ → ℕ → Head
+bare s b = record { slots = s; bridges = b; busy = replicate 8 0; presets = [] }
+
+abbrev busyOn : ℕ → ℕ → Head
+busyOn m n = record { slots = 4; bridges = 2; busy = m ∷ n ∷ replicate 6 0; presets = [] }
+
+abbrev edges : List Case
+edges =
+    -- S from 1 to 64, B from 1 to 8
+    says "(frame 0 1)\n" (refused 1 outOfLimits)
+    ∷ says "(frame 1 1)\n" (accepted (bare 1 1) 1)
+    ∷ says "(frame 64 8)\n" (accepted (bare 64 8) 1)
+    ∷ says "(frame 65 8)\n" (refused 1 outOfLimits)
+    ∷ says "(frame 64 9)\n" (refused 1 outOfLimits)
+    ∷ says "(frame 1 0)\n" (refused 1 outOfLimits)
+    -- b from 1 to B; f and t from 1 to S; f ≤ t; the next f at least 2 above t
+    ∷ says "(frame 4 2)\n(busy 0 (1 1))\n" (refused 2 outOfLimits)
+    ∷ says "(frame 4 2)\n(busy 1 (1 1))\n(busy 2 (4 4))\n" (accepted (busyOn 1 8) 3)
+    ∷ says "(frame 4 2)\n(busy 3 (1 1))\n" (refused 2 outOfLimits)
+    ∷ says "(frame 4 2)\n(busy 1 (0 4))\n" (refused 2 outOfLimits)
+    ∷ says "(frame 4 2)\n(busy 1 (1 4))\n" (accepted (busyOn 15 0) 2)
+    ∷ says "(frame 4 2)\n(busy 1 (1 5))\n" (refused 2 outOfLimits)
+    ∷ says "(frame 4 2)\n(busy 1 (2 1))\n" (refused 2 outOfLimits)
+    ∷ says "(frame 4 2)\n(busy 1 (1 2) (3 4))\n" (refused 2 outOfLimits)
+    ∷ says "(frame 4 2)\n(busy 1 (1 2) (4 4))\n" (accepted (busyOn 11 0) 2)
+    -- a preset's number from 1 to 255, its priority from 0 to 9, m and o from 0 to 64
+    ∷ says "(frame 1 1)\n(preset 0 0 0 0)\n" (refused 2 outOfLimits)
+    ∷ says "(frame 1 1)\n(preset 1 0 0 0)\n(preset 255 9 64 64)\n" (accepted (small (presetOf 1 0 0 0 ∷ presetOf 255 9 64 64 ∷ [])) 3)
+    ∷ says "(frame 1 1)\n(preset 256 9 64 64)\n" (refused 2 outOfLimits)
+    ∷ says "(frame 1 1)\n(preset 255 10 64 64)\n" (refused 2 outOfLimits)
+    ∷ says "(frame 1 1)\n(preset 255 9 65 64)\n" (refused 2 outOfLimits)
+    ∷ says "(frame 1 1)\n(preset 255 9 64 65)\n" (refused 2 outOfLimits)
+    -- 1 before 3: a line without a form where its form would be out of place
+    ∷ says "(busy 1)\n" (refused 1 noForm)
+    ∷ says "(frame 1 1)\n(frame 1)\n" (refused 2 noForm)
+    ∷ says "(frame 1 1)\n(preset 1 0 0 0)\n(busy 1)\n" (refused 3 noForm)
+    -- 3 before 2: a form out of its place with a value outside its limits
+    ∷ says "(preset 0 0 0 0)\n" (refused 1 outOfPlace)
+    ∷ says "(frame 1 1)\n(frame 0 0)\n" (refused 2 outOfPlace)
+    ∷ says "(frame 1 1)\n(preset 1 0 0 0)\n(busy 9 (3 2))\n" (refused 3 outOfPlace)
+    -- 2 before 4
+    ∷ says "(frame 1 1)\n(preset 7 0 0 0)\n(preset 7 10 0 0)\n" (refused 3 outOfLimits)
+    ∷ []
+
+pub edges-read : map (λ c. headOf (bytes (c .text))) edges ≡ map (λ c. c .said) edges
+unfolding reads
+edges-read = refl
+
+-- 4 and 2 before 9: the 33rd preset has a number already used, or a value outside its limits
+pub used-before-33 : headOf (textOf (withPresets 32 []) ++ bytes "(preset 32 0 0 0)\n") ≡ refused 34 numberUsed
+unfolding withPresets writes reads
+used-before-33 = refl
+
+pub outside-before-33 : headOf (textOf (withPresets 32 []) ++ bytes "(preset 33 10 0 0)\n") ≡ refused 34 outOfLimits
+unfolding withPresets writes reads
+outside-before-33 = refl
+
+-- ---- "a head record that no text yields"
+
+abbrev records : List (Head × Bool)
+records =
+    (bare 0 1, false) ∷ (bare 1 0, false) ∷ (bare 1 1, true) ∷ (bare 64 8, true) ∷ (bare 65 8, false) ∷ (bare 64 9, false)
+    -- a busy cell past the last slot, and one past the last bridge
+    ∷ (busyOn 15 15, true)
+    ∷ (busyOn 16 0, false)
+    ∷ (record { slots = 4; bridges = 2; busy = 0 ∷ 0 ∷ 1 ∷ replicate 5 0; presets = [] }, false)
+    -- a preset's values, and a number twice
+    ∷ (small (presetOf 1 0 0 0 ∷ presetOf 255 9 64 64 ∷ []), true)
+    ∷ (small (presetOf 0 0 0 0 ∷ []), false)
+    ∷ (small (presetOf 256 0 0 0 ∷ []), false)
+    ∷ (small (presetOf 1 10 0 0 ∷ []), false)
+    ∷ (small (presetOf 1 0 65 0 ∷ []), false)
+    ∷ (small (presetOf 1 0 0 65 ∷ []), false)
+    ∷ (small (presetOf 1 0 0 0 ∷ presetOf 1 0 0 0 ∷ []), false)
+    ∷ []
+
+pub edges-valid : map (λ p. valid (p .0)) records ≡ map (λ p. p .1) records
+unfolding valid hasNumber allInLimits allDistinct masksIn
+edges-valid = refl
+
+-- a head record of one slot and one bridge that counts so many presets; n preset records, numbered n down to 1
+abbrev counting : ℕ → record-of-head.Head
+counting n = record { slots = 1; bridges = 1; busy = replicate 8 0; count = n }
+
+unfoldable pub recordsTo : ℕ → List record-of-preset.Preset
+recordsTo zero = []
+recordsTo (suc n) = record { number = suc n; priority = 0; mandatory = 0; optional = 0 } ∷ recordsTo n
+
+pub record-32 : validRecord (counting 32) (recordsTo 33) ≡ true
+unfolding valid hasNumber allInLimits allDistinct masksIn recordsTo
+record-32 = refl
+
+pub record-33 : validRecord (counting 33) (recordsTo 33) ≡ false
+unfolding valid hasNumber allInLimits allDistinct masksIn recordsTo
+record-33 = refl
+
+-- ---- the entries over a list of records: 10, then 8 for a list below 32 records or an output below 8,192 bytes, then the rest
+
+pub entries-read : (entryReading 31 (replicate 32769 10) ≡ refused 0 textTooLong)
+    × (entryReading 31 (replicate 32768 10) ≡ refused 0 tooShort)
+    × (entryReading 32 (replicate 32768 10) ≡ refused 1 noForm)
+    × (entryReading 31 (bytes "(clock 1)\n") ≡ refused 0 tooShort)
+    × (entryReading 32 (bytes "(clock 1)\n") ≡ refused 1 outOfPlace)
+    × (entryReading 32 (bytes "(frame 64 8)\n") ≡ accepted (bare 64 8) 1)
+unfolding reads
+entries-read = (refl, refl, refl, refl, refl, refl)
+
+-- the text of a head with one slot and one bridge has 12 bytes; a record that counts 33 presets is refused after 8
+pub entries-written : (entryAnswer 32 (counting 0) [] (replicate 8192 0) ≡ write.written 12)
+    × (entryAnswer 31 (counting 0) [] (replicate 8192 0) ≡ write.refused tooShort)
+    × (entryAnswer 32 (counting 0) [] (replicate 8191 0) ≡ write.refused tooShort)
+    × (entryAnswer 32 (counting 33) [] (replicate 8192 0) ≡ write.refused outOfLimits)
+    × (entryAnswer 31 (counting 33) [] (replicate 8192 0) ≡ write.refused tooShort)
+    × (entryAnswer 32 (counting 33) [] (replicate 8191 0) ≡ write.refused tooShort)
+unfolding writes valid hasNumber allInLimits allDistinct masksIn firstOf
+entries-written = (refl, refl, refl, refl, refl, refl)

@@ -1,8 +1,8 @@
 -- Laws of the forms: recognising inverts printing, both ways.
 --
--- In order: a word read (`word-self`, `word-had`); what is left (`whole-had`, `or-had`); brackets (`brackets-self`, `brackets-had`, and their
--- recursion `brackets-step`); `form-self` and `form-had`, the two inverses, and `print-injective`; a printed form is one line (`print-line`),
--- so forms printed one after the other have these lines (`lines-prints`) and forms (`forms-prints`).
+-- In order: a word read (`word-had`); what is left (`whole-had`, `or-had`); brackets (`brackets-self`, `brackets-had`, and their recursion `brackets-step`);
+-- `form-self` and `form-had`, the two inverses, and `print-injective`; a printed form is one line (`print-line`), so forms printed one after the other have these
+-- lines (`lines-prints`).
 -- Assumes nothing.
 use Prim.Native.Nat.{ℕ, zero, suc, _≤_}
 use native.Mathlib.Omega.{arith}
@@ -11,10 +11,9 @@ use mathlib.Core.Bool.{true, false, cond, _&&_}
 use mathlib.Core.Option.{Option, none, some}
 use mathlib.Core.List.{List, [], _∷_, _++_, map}
 use lib.ListN.{length, take, drop, length-append, length-drop}
-use lib.Seq.{drop-append-seam}
 use lib.Dec.{eqb}
 use Rattle.laws.proofs.Tests.{Is, is-true, is-false, is, clash, left-of, right-of, none-some}
-use Rattle.laws.proofs.Comparisons.{eq-of, eqb-self, eqb-no}
+use Rattle.laws.proofs.Comparisons.{eq-of, eqb-no}
 use Rattle.station.specs.Text.{bytes, _then_, isLine, isRest, join, lines, Lines, no-lines, line-then}
 use Rattle.station.specs.Decimal.{digits, digitCount, isDigit, plain, value}
 use Rattle.station.specs.Form.{Pairs, last, next, Form, frameLine, busyLine, presetLine, clockLine, callLine, brackets, print, starts, word}
@@ -23,11 +22,6 @@ use Rattle.station.proofs.Decimal.{digit-low, all-digits, digits-count,
 use Rattle.station.proofs.Text.{isLine-cons, rest-line, lines-of-join}
 
 -- ---- a word read
-
-starts-append : (w r : List ℕ) → starts w (w ++ r) ≡ true
-unfolding starts
-starts-append [] r = refl
-starts-append (c ∷ w) r = rw (eqb-self c) (starts-append w r)
 
 starts-had : (w l : List ℕ) → starts w l ≡ true → l ≡ w ++ drop (length w) l
 unfolding starts
@@ -39,10 +33,6 @@ starts-had (c ∷ w) (b ∷ l) e =
     ap (λ (x : ℕ). x ∷ l) (sym here) ∙ ap (λ (x : List ℕ). c ∷ x) later
 
 module _ {A : Type 0} where
-  pub word-self : (w r : List ℕ) (k : List ℕ → Option A) → word w (w ++ r) k ≡ k r
-  unfolding word
-  word-self w r k = rw (starts-append w r, drop-append-seam w r) refl
-
   -- it read, so the text was the word and then the rest
   pub word-had : {G : Type 0} (w l : List ℕ) (k : List ℕ → Option A) (a : A) → word w l k ≡ some a
       → ((r : List ℕ) → l ≡ w ++ r → k r ≡ some a → G) → G
@@ -257,8 +247,3 @@ prints-shape (f ∷ fs) = line-then (print-line f) (prints-shape fs)
 -- the lines of forms printed one after the other
 pub lines-prints : (fs : List Form) → lines (join (map print fs)) ≡ map print fs
 lines-prints fs = lines-of-join (prints-shape fs)
-
--- and their forms
-pub forms-prints : (fs : List Form) → map form (map print fs) ≡ map some fs
-forms-prints [] = refl
-forms-prints (f ∷ fs) = rw (form-self f, forms-prints fs) refl

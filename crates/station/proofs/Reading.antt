@@ -1,6 +1,6 @@
 -- A text is accepted or refused for its listed cause, in the listed order, and for nothing else: `headOf` is what the papers say (`Means`).
 --
--- In order: a line without a cause (`no-cause`, `of-no-cause`); the first cause that holds, spelled out (`first-cause`, `of-first-cause`); the
+-- In order: a line without a cause (`NoCause`, `no-cause`, `of-no-cause`); the first cause that holds, spelled out (`FirstCause`, `first-cause`, `of-first-cause`); the
 -- frame line comes first; each text has its meaning (`headOf-means`, `read-means`), and only that one (`means-headOf`).
 -- Assumes nothing.
 use Prim.Native.Nat.{ℕ, suc, _+_, _≤_}

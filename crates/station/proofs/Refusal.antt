@@ -1,7 +1,8 @@
 -- The causes: their numbers, and the first that holds.
 --
--- In order: a cause's number has at most two digits and is not 0 (`number-small`, `number-some`); of `try` and `firstOf`: one cause at the front; two lists of causes
--- one after the other; a refusal that only the last cause gives.
+-- In order: a cause's number has at most two digits and is not 0 (`number-small`, `number-some`); of `try` and `firstOf`: no cause (`first-of-none`), one cause at the
+-- front (`passed`, `first-none`, `first-some`); two lists of causes one after the other (`append-none`, `append-some`, `append-left-none`); a refusal that only the last
+-- cause gives (`Never`, `last-cause`, `cause-last`, `never-first`).
 -- Assumes nothing.
 use Prim.Native.Nat.{_<_}
 use native.Mathlib.Omega.{arith}

@@ -1,4 +1,4 @@
-// Limits: whether a job is within them, and whether a head record is one that some text yields.
+// Limits: whether a job, a frame and a preset are within theirs, and whether a head record is one that some text yields.
 use crate::types::Head;
 use crate::types::Job;
 use crate::types::Preset;

@@ -11,7 +11,7 @@ mod brackets; // brackets.rt: the stretches of a busy line, the jobs of a call
 mod forms; // forms.rt: the five forms
 pub mod heads; // heads.rt: the head of a text, its preset records by value
 // Writing, from a head to bytes:
-pub mod check; // check.rt: limits: whether a job is within them, and whether a head record is one that some text yields
+pub mod check; // check.rt: whether a job is within its limits, and whether a head record is one that some text yields
 pub mod output; // output.rt: bytes, words and numbers into a borrowed output
 pub mod write; // write.rt: the one text of a head, its preset records by value
 // The borrowed list:

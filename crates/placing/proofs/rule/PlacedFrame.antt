@@ -23,7 +23,7 @@ use Rattle.station.specs.Head.{Head, Job, presetAt, taken}
 use Rattle.placing.specs.Table.{Cells, Each, cell, presetCount, numberAt, mandatoryCell, optionalCell, busyCell, callCell}
 use Rattle.placing.specs.Valid.{jobAt}
 use Rattle.placing.specs.Plan.{placing, freeCount, planFree, planFreeCount, planCell, needs, planned}
-use Rattle.placing.specs.Call.{callFree, lengths, called}
+use Rattle.placing.specs.Call.{callFree, lengths, called, callFreeCount}
 use Rattle.placing.specs.Outcomes.{written}
 use Rattle.placing.specs.method.Mask.{bridgeMask}
 use Rattle.placing.specs.method.Rule.{jobCell, freeIn, cellIn, placedIn}
@@ -40,47 +40,39 @@ unfolding tabulate
 tabulate-ext zero f g h = refl
 tabulate-ext (suc n) f g h = ap₂ _∷_ (h 0 (omega arith)) (tabulate-ext n (λ i. f (suc i)) (λ i. g (suc i)) (λ i l. h (suc i) (omega arith)))
 
--- Of n slots and B bridges: free bridges, what the jobs write, and what the bridges that are not free hold.
-module _ (n B : ℕ) (c : List ℕ) (f g : ℕ → ℕ → Bool) (v w : ℕ → ℕ → ℕ) (t u : Cells)
+-- Of n slots and B bridges: free bridges, who has a cell in which slot, what the jobs write, and what the bridges that are not free hold.
+module _ (n B k : ℕ) (f g a a′ : ℕ → ℕ → Bool) (v w : ℕ → ℕ → ℕ) (t u : Cells)
     (free : (s b : ℕ) → s < n → b < B → f s b ≡ g s b)
-    (writes : (i s : ℕ) → i < length c → s < n → v i s ≡ w i s)
+    (has : (i s : ℕ) → s < n → a i s ≡ a′ i s)
+    (writes : (i s : ℕ) → i < k → s < n → v i s ≡ w i s)
     (holds : (s b : ℕ) → s < n → b < B → g s b ≡ false → t s b ≡ u s b) where
-  counts : (s b : ℕ) → s < n → b ≤ B → count b (λ a. f s a) ≡ count b (λ a. g s a)
-  counts s b l m = count-ext b (λ a. f s a) (λ a. g s a) (λ a h. free s a l (omega arith))
-
-  lrtf-same : (i s : ℕ) → s < n → lrtf c (freeCount B f) i s ≡ lrtf c (freeCount B g) i s
-  lrtf-same i s l =
-      ap₂ (λ (r : List ℕ) (d : ℕ). chosen (length c) (at r) d i)
-      (left-ext c (freeCount B f) (freeCount B g) n (λ r m. counts r B m (le-refl B)) s (omega arith))
-      (counts s B l (le-refl B))
-
-  pub placing-ext : (s b : ℕ) → s < n → b < B → placing B f c v t s b ≡ placing B g c w u s b
+  pub placing-ext : (s b : ℕ) → s < n → b < B → placing k f a v t s b ≡ placing k g a′ w u s b
   unfolding placing
-  placing-ext s b l m = ap (λ (x : Bool). cond x (sum (length c) taken-by-f) (t s b)) (free s b l m) ∙ go (is (g s b))
+  placing-ext s b l m = ap (λ (x : Bool). cond x (sum k taken-by-f) (t s b)) (free s b l m) ∙ go (is (g s b))
     where
-      a : ℕ → Bool
-      a i = lrtf c (freeCount B f) i s
-
-      a′ : ℕ → Bool
-      a′ i = lrtf c (freeCount B g) i s
-
       taken-by-f : ℕ → ℕ
-      taken-by-f i = only (takes a (λ d. f s d) i b) (v i s)
+      taken-by-f i = only (takes (λ j. a j s) (λ d. f s d) i b) (v i s)
 
       taken-by-g : ℕ → ℕ
-      taken-by-g i = only (takes a′ (λ d. g s d) i b) (w i s)
+      taken-by-g i = only (takes (λ j. a′ j s) (λ d. g s d) i b) (w i s)
 
-      one : (i : ℕ) → i < length c → taken-by-f i ≡ taken-by-g i
+      one : (i : ℕ) → i < k → taken-by-f i ≡ taken-by-g i
       one i h =
           ap₂ only
           (ap₂ (λ (x : Bool) (y : Bool). x && y)
-          (ap₂ (λ (x : Bool) (y : Bool). x && y) (free s b l m) (lrtf-same i s l))
-          (ap₂ eqb (count-ext i a a′ (λ j q. lrtf-same j s l)) (counts s b l (omega arith))))
+          (ap₂ (λ (x : Bool) (y : Bool). x && y) (free s b l m) (has i s l))
+          (ap₂ eqb (count-ext i (λ j. a j s) (λ j. a′ j s) (λ j q. has j s l))
+          (count-ext b (λ d. f s d) (λ d. g s d) (λ d q. free s d l (omega arith)))))
           (writes i s h l)
 
-      go : Is (g s b) → cond (g s b) (sum (length c) taken-by-f) (t s b) ≡ cond (g s b) (sum (length c) taken-by-g) (u s b)
-      go (is-true e) = rw e (sum-ext (length c) taken-by-f taken-by-g one)
+      go : Is (g s b) → cond (g s b) (sum k taken-by-f) (t s b) ≡ cond (g s b) (sum k taken-by-g) (u s b)
+      go (is-true e) = rw e (sum-ext k taken-by-f taken-by-g one)
       go (is-false e) = rw e (holds s b l m e)
+
+-- LRTF goes by the free cells of the slots up to the one that it places
+lrtf-same : (c : List ℕ) (n : ℕ) (x y : ℕ → ℕ) → ((s : ℕ) → s < n → x s ≡ y s) → (i s : ℕ) → s < n → lrtf c x i s ≡ lrtf c y i s
+lrtf-same c n x y same i s l =
+    ap₂ (λ (r : List ℕ) (d : ℕ). chosen (length c) (at r) d i) (left-ext c x y n same s (omega arith)) (same s l)
 
 -- The table that `place` leaves, of a head's frame, where the masks are those of the free bridges f: job i writes v i s in slot s, and where a bridge is not
 -- free the lent table holds what u does.
@@ -88,7 +80,7 @@ pub placed-written : (h : Head) (masks c first early late t : List ℕ) (f : ℕ
     → ((s : ℕ) → s < h .slots → at masks s ≡ bridgeMask (h .bridges) (λ b. f s b))
     → ((i s : ℕ) → i < length c → s < h .slots → cellIn c (freeCount (h .bridges) f) first early late i s ≡ v i s)
     → Each h (λ s b. f s b ≡ false → cell h t s b ≡ u s b)
-    → placedIn (h .slots) (h .bridges) masks c first early late t ≡ written h (placing (h .bridges) f c v u) t
+    → placedIn (h .slots) (h .bridges) masks c first early late t ≡ written h (placing (length c) f (λ i s. lrtf c (freeCount (h .bridges) f) i s) v u) t
 unfolding placedIn written
 placed-written h masks c first early late t f v u masked writes holds =
     ap (λ (l : List ℕ). l ++ drop (h .slots * B) t) (tabulate-ext (h .slots * B) _ _ one)
@@ -99,19 +91,23 @@ placed-written h masks c first early late t f v u masked writes holds =
     free : (s b : ℕ) → s < h .slots → b < B → freeIn masks s b ≡ f s b
     free s b l m = ap (λ (n : ℕ). taken n b) (masked s l) ∙ taken-mask B (λ a. f s a) b m
 
+    counts : (s : ℕ) → s < h .slots → freeCount B (freeIn masks) s ≡ freeCount B f s
+    counts s m = count-ext B (λ b. freeIn masks s b) (λ b. f s b) (λ b k. free s b m k)
+
     wrote : (i s : ℕ) → i < length c → s < h .slots → cellIn c (freeCount B (freeIn masks)) first early late i s ≡ v i s
     wrote i s j l =
         ap (λ (r : List ℕ). jobCell (at c i) (at r i) (at first i) (at early i) (at late i))
-        (left-ext c (freeCount B (freeIn masks)) (freeCount B f) (h .slots)
-        (λ r m. count-ext B (λ b. freeIn masks r b) (λ b. f r b) (λ b k. free r b m k)) s (omega arith))
+        (left-ext c (freeCount B (freeIn masks)) (freeCount B f) (h .slots) counts s (omega arith))
         ∙ writes i s j l
 
     one : (i : ℕ) → i < h .slots * B
-        → placing B (freeIn masks) c (cellIn c (freeCount B (freeIn masks)) first early late) (cell h t) (i / B) (i % B)
-        ≡ placing B f c v u (i / B) (i % B)
+        → placing (length c) (freeIn masks) (λ j s. lrtf c (freeCount B (freeIn masks)) j s) (cellIn c (freeCount B (freeIn masks)) first early late) (cell h t) (i / B) (i % B)
+        ≡ placing (length c) f (λ j s. lrtf c (freeCount B f) j s) v u (i / B) (i % B)
     one i l =
         let p = place-of (h .slots) B i l in
-        placing-ext (h .slots) B c (freeIn masks) f (cellIn c (freeCount B (freeIn masks)) first early late) v (cell h t) u free wrote holds
+        placing-ext (h .slots) B (length c) (freeIn masks) f (λ j s. lrtf c (freeCount B (freeIn masks)) j s) (λ j s. lrtf c (freeCount B f) j s)
+        (cellIn c (freeCount B (freeIn masks)) first early late) v (cell h t) u free
+        (λ j s m. lrtf-same c (h .slots) (freeCount B (freeIn masks)) (freeCount B f) counts j s m) wrote holds
         (i / B) (i % B) (p .0) (p .1)
 
 -- the table of a plan, where busy cells stand in the lent table already
@@ -143,7 +139,7 @@ placed-called h clock jobs masks first early late t masked never late-cell =
     masked writes (λ s b l m e. refl)
   where
     x : ℕ → ℕ
-    x = freeCount (h .bridges) (callFree h clock jobs (cell h t))
+    x = callFreeCount h clock jobs (cell h t)
 
     writes : (i s : ℕ) → i < length (lengths jobs) → s < h .slots
         → cellIn (lengths jobs) x first early late i s ≡ callCell (jobAt jobs i .number)

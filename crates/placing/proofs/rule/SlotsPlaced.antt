@@ -37,7 +37,7 @@ use Rattle.placing.proofs.rule.row.RowWritten.{due-cell, row-as-it-was,
 -- what cell b of slot s is to hold
 abbrev pub cellOf : ℕ → List ℕ → List ℕ → List ℕ → List ℕ → List ℕ → List ℕ → ℕ → ℕ → ℕ
 cellOf B masks c first early late t s b =
-    placing B (freeIn masks) c (cellIn c (freeCount B (freeIn masks)) first early late) (cellsIn B t) s b
+    placing (length c) (freeIn masks) (λ i r. lrtf c (freeCount B (freeIn masks)) i r) (cellIn c (freeCount B (freeIn masks)) first early late) (cellsIn B t) s b
 
 -- the slot and the bridge of a cell of n slots and B bridges
 pub place-of : (n B i : ℕ) → i < n * B → (i / B < n) × (i % B < B)

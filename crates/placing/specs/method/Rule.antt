@@ -9,7 +9,7 @@ use lib.Bits.{bitAnd, bitXor}
 use lib.Dec.{ltb, eqb}
 use Rattle.laws.specs.Sums.{bit, count}
 use Rattle.laws.specs.Lists.{at, tabulate}
-use Rattle.laws.specs.Placement.{chosen, left}
+use Rattle.laws.specs.Placement.{chosen, left, lrtf}
 use Rattle.station.specs.Head.{taken}
 use Rattle.placing.specs.method.Limits.{inLimits}
 use Rattle.placing.specs.Table.{Cells}
@@ -78,7 +78,8 @@ CleanFrom clean slots bridges masks t = (s : ℕ) → clean ≤ s → s < slots 
 unfoldable pub placedIn : ℕ → ℕ → List ℕ → List ℕ → List ℕ → List ℕ → List ℕ → List ℕ → List ℕ
 placedIn slots bridges masks c first early late t =
     tabulate (slots * bridges) (λ i.
-    placing bridges (freeIn masks) c (cellIn c (freeCount bridges (freeIn masks)) first early late) (cellsIn bridges t) (i / bridges) (i % bridges))
+    placing (length c) (freeIn masks) (λ j s. lrtf c (freeCount bridges (freeIn masks)) j s) (cellIn c (freeCount bridges (freeIn masks)) first early late)
+    (cellsIn bridges t) (i / bridges) (i % bridges))
     ++ drop (slots * bridges) t
 
 -- The lent table after `place`, for the first k needs of an array: beyond the limits it is as it was.

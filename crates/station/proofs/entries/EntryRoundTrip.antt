@@ -1,6 +1,6 @@
 -- The round trips of demand 2 as consequences of the entries' contracts: `read_head` and `write_head`, whose preset records stand in a borrowed list, are inverse.
 --
--- In order: a head read and written has the same bytes; a head written and read is the same head.
+-- In order: a head read and written has the same bytes (`read-then-written`); a head written and read is the same head (`written-then-read`).
 -- Assumes nothing.
 use Prim.Native.Nat.{ℕ, _≤_}
 use native.Mathlib.Omega.{arith}

@@ -1,8 +1,8 @@
 -- Laws of the entries read_head and write_head.
 --
 -- In order: of writing, fewer than 32 records (`write-few`), enough of them (`write-enough`, and back, `enough-written`), and what was written of the first 32 records by
--- value is what the list has (`write-list`); of reading, a text that is too long (`read-long`), fewer than 32 records (`read-few`), enough of them (`read-enough`), and what
--- is left of the first 32 by value, written back, is what the list is to be (`read-list`).
+-- value is what the list has (`write-list`); of reading, a text that is too long (`read-long`), fewer than 32 records (`read-few`), enough of them (`reading-enough`,
+-- `read-enough`), a head that was accepted (`entry-accepted`), and what is left of the first 32 by value, written back, is what the list is to be (`read-list`).
 -- Assumes nothing.
 use Prim.Native.Nat.{ℕ, _≤_, _<_}
 use native.Mathlib.Omega.{arith}

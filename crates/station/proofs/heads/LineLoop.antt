@@ -1,7 +1,8 @@
 -- The loop over the lines of a head: what holds between two lines, and what the reading answers at each way out.
 --
 -- In order: lines that were read; between two lines (`AtLine`, `at-start`), and at a line (`LineRead`, `line-inside`, `line-bytes`, `at-next`); the
--- ways out (`out-long`, `out-ends`, `out-fails`, `out-whole`, `out-empty`); what a caller learns (`read-accepted`, `read-refused`).
+-- ways out (`out-long`, `out-ends`, `out-fails`, `out-whole`, `out-empty`); what a caller learns (`ReadAccepted`, `ReadRefused`): a head and its record
+-- (`head-back`), `read-accepted`, `read-refused`.
 -- Assumes nothing.
 use Prim.Native.Nat.{ℕ, zero, suc, _+_, _≤_, _<_, min}
 use native.Mathlib.Omega.{arith}

@@ -2,7 +2,8 @@
 --
 -- In order: numbers as they are read (`seen-ltb`, `seen-small`); the steps, a law for each way out of a function (`frame-refused`, `frame-goes`;
 -- `busy-late`, `busy-back`, `busy-refused`, `busy-goes`, `busy-from-one`; `preset-refused`, `preset-used`, `preset-many`, `preset-goes`); the numbers
--- in use from a record on (`used-here`, `used-further`, `used-past`); records and presets are each other's (`records-back`, `presets-back`). What a step means for the reading is in heads/StepMeaning.antt, the loop over the lines in heads/LineLoop.antt.
+-- in use from a record on (`used-here`, `used-further`, `used-past`); records and presets are each other's (`records-back`, `presets-back`).
+-- What a step means for the reading is in heads/StepMeaning.antt, the loop over the lines in heads/LineLoop.antt.
 -- Assumes nothing.
 use Prim.Native.Nat.{ℕ, suc, _≤_, _<_, min}
 use native.Mathlib.Omega.{arith}

@@ -1,6 +1,6 @@
 -- The round trips of demand 2 as consequences of the two contracts, so that they speak of the code: `read_head_by_value` and `write_head_by_value` are inverse.
 --
--- In order: what writing a valid record leaves; a head read and written has the same bytes; a head written and read is the same head.
+-- In order: what writing a valid record leaves; a head read and written has the same bytes (`read-then-written`); a head written and read is the same head (`written-then-read`).
 -- Assumes nothing.
 use Prim.Native.Nat.{ℕ, _≤_}
 use native.Mathlib.Omega.{arith}

@@ -1,7 +1,8 @@
 -- Laws of the records that are read into the bank and written back.
 --
--- In order: one more element of a list's front replaced by another's (`front-more`); the bank as a loop fills it (`loading`): before the first turn, after
--- one more, after 32; the list as a loop writes it, which is `saved` at the number of turns: its length, before the first turn, after one more, after the last.
+-- In order: one more element of a list's front replaced by another's (`front-more`); the bank as a loop fills it (`loading`): after one more turn
+-- (`loading-more`), after 32 (`loading-all`); the list as a loop writes it, which is `saved` at the number of turns: before the first turn (`saved-none`), its length
+-- (`length-saved`), after one more turn (`saved-more`), after the last (`saved-all`).
 -- Then for callers: a list of 32 records or more, read (`loaded-whole`); records that were read and are written back (`saved-loaded`); records written over
 -- the first of those read (`saved-over`).
 -- Assumes nothing.

@@ -1,5 +1,7 @@
--- What a walk of an entry that has its presets in a borrowed slice does first: the records of a borrowed slice are counted and copied out, each by a call at the borrow's own lifetime and share.
--- For each call: the callee's contract, what its triple binds outside, and that whoever holds the token and the slice has what it asks.
+-- What the walk of an entry over a borrowed slice of preset records does first: they are counted and copied out, each by a call at the lifetime and share of a `&`.
+--
+-- In order: the callees' contracts (`Counts`, `Loads`); the slice's machine value and what it owns (`slice-val`, `Records`); for each call what its triple binds outside
+-- (`to-count`, `to-load`), and that whoever holds the token and the slice has what it asks (`goes-count`, `goes-load`).
 -- Assumes nothing.
 use mathlib.Core.List.{List, [], _∷_}
 use lib.ListN.{length}

@@ -1,12 +1,11 @@
 -- Laws of a head's text, line by line, as the writer's loops meet it.
 --
 -- In order: the busy lines from one bridge on (`busy-lines-step`); the preset lines from one record on (`preset-lines-step`); the
--- whole text (`head-text`); the entry's answer and output (`too-short`, `out-of-limits`, `head-written`), and that the answer is fixed
--- (`answer-one`).
+-- whole text (`head-text`); the answer and output, by the cause that holds (`too-short`, `out-of-limits`, `head-written`).
 -- Assumes nothing.
 use Prim.Native.Nat.{ℕ, suc, _≤_, _<_}
 use native.Mathlib.Omega.{arith}
-use mathlib.Core.Path.{_≡_, refl, sym, _∙_, ap}
+use mathlib.Core.Path.{_≡_, refl, _∙_, ap}
 use mathlib.Core.Bool.{true, false}
 use mathlib.Core.List.{List, _++_, map, map-append}
 use lib.ListN.{length, take, drop, getD}
@@ -14,7 +13,6 @@ use lib.Seq.{drop-cons}
 use Rattle.laws.proofs.Comparisons.{ltb-yes, ltb-no}
 use Rattle.station.specs.declared.types.Preset.{Preset}
 use Rattle.station.specs.declared.types.Head.{Head as Record}
-use Rattle.station.specs.declared.write.Writing.{Writing}
 use Rattle.station.specs.declared.write.Writing.the-variants.{Written, Refused}
 use Rattle.station.specs.declared.types.Refusal.the-variants.{TooShort, OutOfLimits}
 use Rattle.station.specs.Head.{Head}
@@ -22,10 +20,10 @@ use Rattle.station.specs.Refusal.{firstOf}
 use Rattle.station.specs.Text.{join}
 use Rattle.station.specs.Form.{Form, frameLine, print}
 use Rattle.station.specs.Writing.{stretches, busyLineOf, busyLines, presetLineOf, formsOf, textOf}
-use Rattle.station.specs.Types.{refusalOf, presetIn, noRecord, headIn, validRecord}
+use Rattle.station.specs.Types.{presetIn, noRecord, headIn, validRecord}
 use Rattle.station.specs.Wrote.{Wrote}
-use Rattle.station.specs.WriteHead.{Answer, written, refused, answerIn, writeAnswer, writeOutput, WroteHead}
-use Rattle.station.proofs.CodeRecords.{records-step, refusal-in}
+use Rattle.station.specs.WriteHead.{written, writeAnswer, writeOutput, WroteHead}
+use Rattle.station.proofs.CodeRecords.{records-step}
 use Rattle.station.proofs.output.Runs.{join-append, wrote-fits}
 use Rattle.station.proofs.TextSize.{text-fits}
 use Rattle.station.proofs.check.ValidRecord.{valid-head}
@@ -74,18 +72,3 @@ module _ (h : Record) (ps : List Preset) (out : List ℕ) where
       let fits : length (textOf (headIn h ps)) ≤ length out = omega (arith, text-fits (headIn h ps) (valid-head h ps v)) in
       let both = wrote-fits w fits in
       record { answer = rw (q, v) (ap written (both .1)); output = rw (q, v) (both .0) }
-
--- ---- the answer that the contract's equation fixes
-
-answerOut : Answer → Writing
-answerOut (written n) = Written n
-answerOut (refused r) = Refused (refusalOf r)
-
-out-in-answer : (w : Writing) → answerOut (answerIn w) ≡ w
-unfolding answerOut
-out-in-answer (Written n) = refl
-out-in-answer (Refused r) = ap Refused (refusal-in r)
-
--- two answers that stand for one are one
-pub answer-one : (v w : Writing) → answerIn v ≡ answerIn w → v ≡ w
-answer-one v w e = sym (out-in-answer v) ∙ ap answerOut e ∙ out-in-answer w

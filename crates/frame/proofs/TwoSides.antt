@@ -1,0 +1,181 @@
+-- What holds the definitions of this layer to document 01 from two sides, each a list of cases and one fact, by computing. (The numbers of the causes, the lines of a head
+-- and head records are in the station crate's proofs/Examples.antt, sound tables, plans and calls in the placing crate's.)
+--
+-- In order: texts: lines after an event, the limits of a clock and of a call at both edges, the causes of a head and of an event two at a time, the order of
+-- loss (`texts-list`); events on a lent table, by the listed order 8, 2, 11, 1, 3, 2, 4, 9, 6, 7 (`events-answered`), and with preset records
+-- (`records-answered`); a text beside short lent things (`texts-end`); the entries that write lines (`lines-answered`).
+-- Assumes nothing.
+use Prim.Native.Nat.{ℕ}
+use mathlib.Core.Path.{_≡_, refl}
+use mathlib.Core.List.{List, [], _∷_, _++_, map}
+use lib.ListN.{take, replicate}
+use Rattle.station.specs.Head.{Head, Job}
+use Rattle.station.specs.Refusal.{noForm, outOfLimits, outOfPlace, numberUsed, clockBack, callNotFeasible, tooShort, tooMany, textTooLong, notWellFormed}
+use Rattle.station.specs.Text.{bytes}
+use Rattle.station.specs.Wrote.{moved}
+use Rattle.station.specs.WriteHead as write
+use Rattle.station.specs.declared.types.Head as record-of-head
+use Rattle.placing.proofs.Examples.{jobCells, recordsTo}
+use Rattle.frame.specs.Event.{Event, line, clock, call, Answer, now, taken, refused, State, eventOf}
+use Rattle.frame.specs.EventDone.{stateOf, eventMeant}
+use Rattle.frame.specs.EventEntry.{eventListed}
+use Rattle.frame.specs.Text.{notRead, wholeOf}
+use Rattle.frame.specs.TextDone.{wholeBeside}
+use Rattle.frame.specs.TextEntry.{wholeListed}
+use Rattle.frame.specs.Listing.{listingOf}
+use Rattle.frame.specs.declared.types.Answer.the-variants as reply
+use Rattle.frame.specs.WriteListing.{listingCause, listingMeant}
+use Rattle.frame.specs.WroteLine.{lineWritten, answerWritten, grantWritten, slotWritten}
+use Rattle.frame.proofs.Starred.{Case, shows, blank, lists}
+
+-- ---- texts
+
+abbrev texts : List Case
+texts =
+    -- "A head line after an event is out of place", whatever its values: 3 before 2; without its form it is 1, before 3
+    shows "(frame 2 1)\n(clock 1)\n(frame 2 1)\n(frame 99 9)\n(busy 1 (1 1))\n(busy 9 (3 2))\n(preset 1 0 0 0)\n(preset 0 99 99 99)\n"
+    "(now 1)\n(refused 3 3)\n(refused 4 3)\n(refused 5 3)\n(refused 6 3)\n(refused 7 3)\n(refused 8 3)\n(slot 1 0)\n(slot 2 0)\n"
+    ∷ shows "(frame 2 1)\n(call (5 1))\n(frame 2)\n(busy 1)\n(preset 1 0 0)\n(clock)\n(call)\n(clock 01)\n\n(slot 1)\n(preset 1 0 0 0) \n(clock 2)"
+    "(taken 0)\n(refused 3 1)\n(refused 4 1)\n(refused 5 1)\n(refused 6 1)\n(refused 7 1)\n(refused 8 1)\n(refused 9 1)\n(refused 10 1)\n(refused 11 1)\n(refused 12 1)\n(slot 1 c5)\n(slot 2 0)\n"
+    -- t from 1 to S + 1; a clock below the present one; 2 before 6
+    ∷ shows "(frame 2 1)\n(clock 0)\n(clock 1)\n(clock 4)\n(clock 3)\n(clock 3)\n(clock 2)\n(clock 0)\n"
+    "(refused 2 2)\n(now 1)\n(refused 4 2)\n(now 3)\n(now 3)\n(refused 7 6)\n(refused 8 2)\n(slot 1 0)\n(slot 2 0)\n"
+    -- jobs in a call: eight, and a ninth
+    ∷ shows "(frame 1 8)\n(call (1 1) (2 1) (3 1) (4 1) (5 1) (6 1) (7 1) (8 1) (9 1))\n(call (1 1) (2 1) (3 1) (4 1) (5 1) (6 1) (7 1) (8 1))\n"
+    "(refused 2 2)\n(taken 0)\n(slot 1 c1 c2 c3 c4 c5 c6 c7 c8)\n"
+    -- a job's number from 1 to 255; c from 1 to 64, also above S
+    ∷ shows "(frame 1 2)\n(call (0 1))\n(call (256 1))\n(call (1 1))\n(call (255 1))\n(call (7 0))\n(call (7 65))\n(call (7 64))\n"
+    "(refused 2 2)\n(refused 3 2)\n(taken 0)\n(taken 0)\n(refused 6 2)\n(refused 7 2)\n(refused 8 7)\n(slot 1 c1 c255)\n"
+    -- a number used by a preset, by a job, twice in a call; 2 before 4, 4 before 7
+    ∷ shows "(frame 1 3)\n(preset 1 0 0 1)\n(call (2 1))\n(call (1 1))\n(call (2 1))\n(call (5 1) (5 1))\n(call (1 65))\n(call (5 1) (5 0))\n(call (2 64))\n"
+    "(granted 1 1)\n(taken 0)\n(refused 4 4)\n(refused 5 4)\n(refused 6 4)\n(refused 7 2)\n(refused 8 2)\n(refused 9 4)\n(slot 1 o1 c2 0)\n"
+    -- the required slots do not fit, at the last head line; a fault of the head before that
+    ∷ shows "(frame 1 1)\n(preset 1 0 2 0)\n(preset 2 0 0 0)\n(clock 1)\n" "(refused 3 5)\n"
+    ∷ shows "(frame 1 1)\n(preset 1 0 2 0)\n(preset 1 0 0 0)\n" "(refused 3 4)\n"
+    -- "for one preset the latest slot first"
+    ∷ shows "(frame 2 1)\n(preset 1 0 0 2)\n(call (5 1))\n" "(granted 1 2)\n(taken 1)\n(slot 1 o1)\n(slot 2 c5)\n"
+    -- "worst rank first": of two presets of one priority the later line, though its slot comes first
+    ∷ shows "(frame 2 2)\n(busy 2 (2 2))\n(preset 1 0 0 2)\n(preset 2 0 0 1)\n(call (5 1))\n"
+    "(granted 1 2)\n(granted 2 1)\n(taken 1)\n(slot 1 o1 c5)\n(slot 2 o1 -)\n"
+    ∷ []
+
+pub texts-list : map (λ c. listingOf (wholeOf (bytes (c .text)) blank)) texts ≡ map (λ c. c .listing) texts
+unfolding lists
+texts-list = refl
+
+-- ---- events on a lent table
+
+record EventCase : Type 0 where
+  head : Head
+  state : State
+  event : Event
+  said : Answer
+
+abbrev answers : Answer → Head → List ℕ → ℕ → Event → EventCase
+answers a h t c e = record { head = h; state = stateOf t c; event = e; said = a }
+
+abbrev lent : List ℕ → List ℕ
+lent l = take 512 (l ++ replicate 512 0)
+
+-- a frame with nothing busy and no presets
+abbrev bare : ℕ → ℕ → Head
+bare s b = record { slots = s; bridges = b; busy = replicate 8 0; presets = [] }
+
+abbrev job : ℕ → ℕ → Job
+job n c = record { number = n; slots = c }
+
+abbrev events : List EventCase
+events =
+    -- 8: "lent table below 512 cells", before the head record's 2, before 11, before the line's 1 and 3
+    answers (now 1) (bare 1 1) (lent []) 1 (line (bytes "(clock 1)\n"))
+    ∷ answers (refused tooShort) (bare 1 1) (replicate 511 0) 1 (line (bytes "(clock 1)\n"))
+    ∷ answers (refused tooShort) (bare 0 1) (replicate 511 0) 1 (line (bytes "(clock 1)\n"))
+    ∷ answers (refused tooShort) (bare 1 1) (replicate 511 7) 1 (line (bytes "(clock 1)\n"))
+    ∷ answers (refused tooShort) (bare 1 1) (replicate 511 0) 1 (line [])
+    -- the head record's 2, before 11, before the line's 1 and 3
+    ∷ answers (refused outOfLimits) (bare 1 9) (lent (7 ∷ [])) 0 (line (bytes "(clock 1)\n"))
+    ∷ answers (refused outOfLimits) (bare 65 1) (lent []) 1 (line [])
+    ∷ answers (refused outOfLimits) (bare 1 0) (lent []) 1 (line (bytes "(frame 1 1)\n"))
+    -- 11: "a table that is not sound, or a clock outside 1 to S + 1", before 1, 3, 2, 4, 6 and 7
+    ∷ answers (refused notWellFormed) (bare 1 1) (lent (7 ∷ [])) 1 (line [])
+    ∷ answers (refused notWellFormed) (bare 1 1) (lent []) 0 (line (bytes "(frame 1 1)\n"))
+    ∷ answers (refused notWellFormed) (bare 1 1) (lent []) 3 (clock 0)
+    ∷ answers (refused notWellFormed) (bare 1 1) (lent []) 3 (clock 1)
+    ∷ answers (refused notWellFormed) (bare 1 1) (lent (7 ∷ [])) 1 (call [])
+    ∷ answers (refused notWellFormed) (bare 1 1) (lent (7 ∷ [])) 1 (call (job 5 1 ∷ job 5 1 ∷ []))
+    ∷ answers (refused notWellFormed) (bare 1 1) (lent []) 3 (call (job 5 1 ∷ []))
+    ∷ answers (refused notWellFormed) (bare 13 5) (lent (jobCells 65 0)) 1 (clock 1)
+    -- the clock's limits, and those of the lent one; 2 before 6
+    ∷ answers (now 2) (bare 1 1) (lent []) 2 (clock 2)
+    ∷ answers (refused outOfLimits) (bare 1 1) (lent []) 2 (clock 3)
+    ∷ answers (refused clockBack) (bare 1 1) (lent []) 2 (clock 1)
+    ∷ answers (refused outOfLimits) (bare 1 1) (lent []) 2 (clock 0)
+    -- "no job outside a text"; 2 before 4, 4 before 9, 9 before 7
+    ∷ answers (refused outOfLimits) (bare 1 1) (lent []) 1 (call [])
+    ∷ answers (refused outOfLimits) (bare 1 1) (lent []) 1 (call (job 5 1 ∷ job 5 65 ∷ []))
+    ∷ answers (refused numberUsed) (bare 8 8) (lent (jobCells 64 0)) 1 (call (job 64 1 ∷ []))
+    ∷ answers (refused tooMany) (bare 8 8) (lent (jobCells 64 0)) 1 (line (bytes "(call (65 1))\n"))
+    ∷ answers (taken 0) (bare 8 8) (lent (jobCells 63 0)) 1 (line (bytes "(call (64 1))\n"))
+    ∷ answers (refused callNotFeasible) (bare 1 1) (lent []) 2 (call (job 5 1 ∷ []))
+    ∷ []
+
+pub events-answered : map (λ c. eventOf (c .head) (c .state) (c .event) .answer) events ≡ map (λ c. c .said) events
+unfolding lists jobCells
+events-answered = refl
+
+-- ---- the same with preset records: a record that counts 33 presets is 2, a list of 31 records is 8
+
+-- a head record of one slot and one bridge that counts so many presets
+abbrev counting : ℕ → record-of-head.Head
+counting n = record { slots = 1; bridges = 1; busy = replicate 8 0; count = n }
+
+abbrev clockOne : Event
+clockOne = line (bytes "(clock 1)\n")
+
+pub records-answered : (eventMeant (counting 32) (recordsTo 32) (stateOf (lent []) 1) clockOne .answer ≡ now 1)
+    × (eventMeant (counting 33) (recordsTo 33) (stateOf (lent (7 ∷ [])) 0) (line []) .answer ≡ refused outOfLimits)
+    × (eventMeant (counting 33) (recordsTo 33) (stateOf (replicate 511 0) 1) clockOne .answer ≡ refused tooShort)
+    × (eventListed 32 (counting 0) [] (stateOf (lent []) 1) clockOne .answer ≡ now 1)
+    × (eventListed 31 (counting 0) [] (stateOf (lent []) 1) clockOne .answer ≡ refused tooShort)
+    × (eventListed 31 (counting 33) [] (stateOf (lent (7 ∷ [])) 0) (line []) .answer ≡ refused tooShort)
+unfolding lists eventMeant eventListed recordsTo
+records-answered = (refl, refl, refl, refl, refl, refl)
+
+-- ---- a text beside lent things that are too short: 10, then 8, then the head's
+
+pub texts-end : (wholeOf (replicate 32769 10) (replicate 511 0) ≡ notRead 0 textTooLong)
+    × (wholeOf (replicate 32768 10) (replicate 511 0) ≡ notRead 0 tooShort)
+    × (wholeOf (replicate 32768 10) (replicate 512 0) ≡ notRead 1 noForm)
+    × (wholeOf [] (replicate 511 0) ≡ notRead 0 tooShort)
+    × (wholeBeside (replicate 32769 10) [] (replicate 8191 0) ≡ notRead 0 textTooLong)
+    × (wholeBeside [] (replicate 512 0) (replicate 8191 0) ≡ notRead 0 tooShort)
+    × (wholeBeside [] (replicate 511 0) (replicate 8192 0) ≡ notRead 0 tooShort)
+    × (wholeBeside [] (replicate 512 0) (replicate 8192 0) ≡ notRead 1 outOfPlace)
+    × (wholeListed 31 (replicate 32769 10) [] [] ≡ notRead 0 textTooLong)
+    × (wholeListed 31 [] (replicate 512 0) (replicate 8192 0) ≡ notRead 0 tooShort)
+    × (wholeListed 32 [] (replicate 512 0) (replicate 8192 0) ≡ notRead 1 outOfPlace)
+unfolding lists wholeBeside wholeListed
+texts-end = (refl, refl, refl, refl, refl, refl, refl, refl, refl, refl, refl)
+
+-- ---- the entries that write lines
+
+-- `write_listing`: 10, then 8 for the output and for the table; the refused line of an empty text has 14 bytes
+pub lines-answered : (listingMeant (replicate 32769 10) [] [] .answer ≡ write.refused textTooLong)
+    × (listingMeant [] blank (replicate 8191 0) .answer ≡ write.refused tooShort)
+    × (listingMeant [] (replicate 511 0) (replicate 8192 0) .answer ≡ write.refused tooShort)
+    × (listingMeant [] blank (replicate 8192 0) .answer ≡ write.written 14)
+    -- the line of an answer and of a grant: 8 for the output
+    × (answerWritten 0 (reply.Now 1) (replicate 8192 0) .answer ≡ write.written 8)
+    × (answerWritten 0 (reply.Now 1) (replicate 8191 0) .answer ≡ write.refused tooShort)
+    × (grantWritten 1 2 (replicate 8192 0) .answer ≡ write.written 14)
+    × (grantWritten 1 2 (replicate 8191 0) .answer ≡ write.refused tooShort)
+    -- a slot's line: 8, the head record's 2, 11, then 2 for the slot, from 1 to S
+    × (slotWritten (counting 0) [] (lent []) 1 (replicate 8192 0) .answer ≡ write.written 11)
+    × (slotWritten (counting 33) [] (lent (7 ∷ [])) 0 (replicate 8191 0) .answer ≡ write.refused tooShort)
+    × (slotWritten (counting 33) [] (replicate 511 0) 0 (replicate 8192 0) .answer ≡ write.refused tooShort)
+    × (slotWritten (counting 33) [] (lent (7 ∷ [])) 1 (replicate 8192 0) .answer ≡ write.refused outOfLimits)
+    × (slotWritten (counting 0) [] (lent (7 ∷ [])) 0 (replicate 8192 0) .answer ≡ write.refused notWellFormed)
+    × (slotWritten (counting 0) [] (lent []) 0 (replicate 8192 0) .answer ≡ write.refused outOfLimits)
+    × (slotWritten (counting 0) [] (lent []) 2 (replicate 8192 0) .answer ≡ write.refused outOfLimits)
+unfolding lists moved listingCause listingMeant lineWritten
+lines-answered = (refl, refl, refl, refl, refl, refl, refl, refl, refl, refl, refl, refl, refl, refl, refl)
