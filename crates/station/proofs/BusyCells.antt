@@ -16,8 +16,8 @@ use lib.Pow.{pow-mono, shr-shr}
 use Rattle.laws.proofs.Tests.{Is, is-true, is-false, is}
 use Rattle.laws.proofs.Comparisons.{le-of, gt-of, eq-of, ne-of, leb-yes, leb-no, eqb-yes, eqb-no}
 use Rattle.station.specs.Head.{Head, Preset, Valid, taken, busyAt, within}
-use Rattle.station.specs.Form.{Pairs, last, next, Form}
-use Rattle.station.specs.Writing.{maskOf, ordered, firstSlot, startedAt, withSlot, stretches, busyLineOf, busyLines, presetLineOf, formsOf}
+use Rattle.station.specs.Form.{Pairs, last, next, Form, presetLine}
+use Rattle.station.specs.Writing.{maskOf, ordered, firstSlot, startedAt, withSlot, stretches, busyLineOf, busyLines, formsOf}
 use Rattle.station.specs.Writing.{covers, lineTakes, linesTake}
 use Rattle.station.proofs.Stretches.{first-stretch, rest-ordered, last-stretch, stretches-zero, Runs, runs, stretches-runs, stretches-mask, mask-lt}
 
@@ -138,7 +138,7 @@ linesTake-append [] c b x = refl
 linesTake-append (f ∷ a) c b x =
     ap (λ (k : Bool). lineTakes f b x || k) (linesTake-append a c b x) ∙ sym (or-assoc (lineTakes f b x) (linesTake a b x) (linesTake c b x))
 
-presets-take : (ps : List Preset) (b x : ℕ) → linesTake (map presetLineOf ps) b x ≡ false
+presets-take : (ps : List Preset) (b x : ℕ) → linesTake (map presetLine ps) b x ≡ false
 unfolding linesTake
 presets-take [] b x = refl
 presets-take (p ∷ ps) b x = presets-take ps b x
@@ -178,6 +178,6 @@ busy-cells h v s b l =
     sym (stretches-taken 64 1 m s (omega arith) l)
     ∙ sym (busyLines-take 1 (h .busy) b (1 + s))
     ∙ (rw (one-add b, one-add s)
-    (sym (linesTake-append (busyLines 1 (h .busy)) (map presetLineOf (h .presets)) (suc b) (suc s)
+    (sym (linesTake-append (busyLines 1 (h .busy)) (map presetLine (h .presets)) (suc b) (suc s)
     ∙ ap (λ (k : Bool). linesTake (busyLines 1 (h .busy)) (suc b) (suc s) || k) (presets-take (h .presets) (suc b) (suc s))
     ∙ or-false (linesTake (busyLines 1 (h .busy)) (suc b) (suc s)))))

@@ -14,15 +14,15 @@ use mathlib.Core.Bool.{Bool, true, false}
 use mathlib.Core.Option.{Option}
 use mathlib.Core.List.{List, [], _∷_, _++_, map}
 use lib.ListN.{replicate}
-use Rattle.station.specs.Head.{Head, Preset, valid, hasNumber, allInLimits, allDistinct, masksIn}
+use Rattle.station.specs.Head.{Head, Preset, presetOf, bareHead, withBusy, withPresets, valid, hasNumber, allInLimits, allDistinct, masksIn}
 use Rattle.station.specs.Refusal.{numberOf, firstOf, noForm, outOfLimits, outOfPlace, numberUsed, mandatoryNotFeasible, clockBack}
 use Rattle.station.specs.Refusal.{callNotFeasible, tooShort, tooMany, textTooLong, notWellFormed}
 use Rattle.station.specs.Text.{bytes, lines}
 use Rattle.station.specs.Decimal.{digits, digitsIn, digitCount, plain, valueFrom}
 use Rattle.station.specs.Form.{Form, form, print, brackets, starts, word, number, bracketsIn, readBrackets, frameIn, busyIn, presetIn, clockIn}
-use Rattle.station.specs.Form.{callIn}
+use Rattle.station.specs.Form.{jobListIn, readJobs, callIn}
 use Rattle.station.specs.Writing.{maskOf, ordered, stretches, busyLines, formsOf, textOf}
-use Rattle.station.specs.Reading.{Reading, accepted, refused, headOf, presetOf, readFrom, more, misplaced, outside, used, full}
+use Rattle.station.specs.Reading.{Reading, accepted, refused, headOf, readFrom, tried}
 use Rattle.station.specs.declared.types.Preset as record-of-preset
 use Rattle.station.specs.declared.types.Head as record-of-head
 use Rattle.station.specs.declared.types.Refusal.the-variants as code
@@ -33,11 +33,11 @@ use Rattle.station.specs.Entries.{entryReading, entryAnswer}
 -- ---- what computes: `unfolding reads` opens all that reading a text needs, and so the others
 
 unfoldable pub recognises : List ℕ → Option Form
-unfolding bytes plain digitCount valueFrom starts word number bracketsIn readBrackets frameIn busyIn presetIn clockIn callIn form
+unfolding bytes plain digitCount valueFrom starts word number bracketsIn readBrackets jobListIn readJobs frameIn busyIn presetIn clockIn callIn form
 recognises l = form l
 
 unfoldable pub reads : List ℕ → Reading
-unfolding recognises lines maskOf ordered hasNumber firstOf misplaced outside used full more readFrom headOf
+unfolding recognises lines maskOf ordered hasNumber firstOf tried readFrom headOf
 reads t = headOf t
 
 unfoldable pub writes : Head → List ℕ
@@ -56,11 +56,11 @@ says t r = record { text = t; said = r }
 
 -- the head of the listing of document 01
 abbrev listing : Head
-listing = record { slots = 4; bridges = 2; busy = 0 ∷ 6 ∷ 0 ∷ 0 ∷ 0 ∷ 0 ∷ 0 ∷ 0 ∷ []; presets = presetOf 1 0 2 1 ∷ presetOf 2 1 1 2 ∷ [] }
+listing = withPresets (withBusy (bareHead 4 2) (0 ∷ 6 ∷ replicate 6 0)) (presetOf 1 0 2 1 ∷ presetOf 2 1 1 2 ∷ [])
 
 -- one slot, one bridge
 abbrev small : List Preset → Head
-small ps = record { slots = 1; bridges = 1; busy = replicate 8 0; presets = ps }
+small ps = withPresets (bareHead 1 1) ps
 
 abbrev cases : List Case
 cases =
@@ -131,17 +131,17 @@ unfolding valid hasNumber allInLimits allDistinct masksIn
 listing-valid = refl
 
 -- a frame and n presets, numbered n down to 1
-unfoldable pub withPresets : ℕ → List Preset → Head
-withPresets zero ps = small ps
-withPresets (suc n) ps = withPresets n (presetOf (suc n) 0 1 0 ∷ ps)
+unfoldable pub presetsTo : ℕ → List Preset → Head
+presetsTo zero ps = small ps
+presetsTo (suc n) ps = presetsTo n (presetOf (suc n) 0 1 0 ∷ ps)
 
-pub presets-32 : headOf (textOf (withPresets 32 [])) ≡ accepted (withPresets 32 []) 33
-unfolding withPresets writes reads
+pub presets-32 : headOf (textOf (presetsTo 32 [])) ≡ accepted (presetsTo 32 []) 33
+unfolding presetsTo writes reads
 presets-32 = refl
 
 -- the 33rd preset returns its own line
-pub presets-33 : headOf (textOf (withPresets 33 [])) ≡ refused 34 tooMany
-unfolding withPresets writes reads
+pub presets-33 : headOf (textOf (presetsTo 33 [])) ≡ refused 34 tooMany
+unfolding presetsTo writes reads
 presets-33 = refl
 
 -- 2 ^ 64 + 2 as a number, printed and read
@@ -220,12 +220,12 @@ unfolding reads
 edges-read = refl
 
 -- 4 and 2 before 9: the 33rd preset has a number already used, or a value outside its limits
-pub used-before-33 : headOf (textOf (withPresets 32 []) ++ bytes "(preset 32 0 0 0)\n") ≡ refused 34 numberUsed
-unfolding withPresets writes reads
+pub used-before-33 : headOf (textOf (presetsTo 32 []) ++ bytes "(preset 32 0 0 0)\n") ≡ refused 34 numberUsed
+unfolding presetsTo writes reads
 used-before-33 = refl
 
-pub outside-before-33 : headOf (textOf (withPresets 32 []) ++ bytes "(preset 33 10 0 0)\n") ≡ refused 34 outOfLimits
-unfolding withPresets writes reads
+pub outside-before-33 : headOf (textOf (presetsTo 32 []) ++ bytes "(preset 33 10 0 0)\n") ≡ refused 34 outOfLimits
+unfolding presetsTo writes reads
 outside-before-33 = refl
 
 -- ---- "a head record that no text yields"
@@ -245,10 +245,13 @@ records =
     ∷ (small (presetOf 1 0 65 0 ∷ []), false)
     ∷ (small (presetOf 1 0 0 65 ∷ []), false)
     ∷ (small (presetOf 1 0 0 0 ∷ presetOf 1 0 0 0 ∷ []), false)
+    -- 32 presets, and 33
+    ∷ (presetsTo 32 [], true)
+    ∷ (presetsTo 33 [], false)
     ∷ []
 
 pub edges-valid : map (λ p. valid (p .0)) records ≡ map (λ p. p .1) records
-unfolding valid hasNumber allInLimits allDistinct masksIn
+unfolding presetsTo valid hasNumber allInLimits allDistinct masksIn
 edges-valid = refl
 
 -- a head record of one slot and one bridge that counts so many presets; n preset records, numbered n down to 1

@@ -1,6 +1,7 @@
 -- Laws of the forms: recognising inverts printing, both ways.
 --
--- In order: a word read (`word-had`); what is left (`whole-had`, `or-had`); brackets (`brackets-self`, `brackets-had`, and their recursion `brackets-step`);
+-- In order: a word read (`word-had`); what is left (`whole-had`, `or-had`); brackets (`brackets-self`, `brackets-had`, and their recursion `brackets-step`); jobs by the pairs that
+-- their brackets are (`asJobs`, `read-jobs`);
 -- `form-self` and `form-had`, the two inverses, and `print-injective`; a printed form is one line (`print-line`), so forms printed one after the other have these
 -- lines (`lines-prints`).
 -- Assumes nothing.
@@ -14,10 +15,12 @@ use lib.ListN.{length, take, drop, length-append, length-drop}
 use lib.Dec.{eqb}
 use Rattle.laws.proofs.Tests.{Is, is-true, is-false, is, clash, left-of, right-of, none-some}
 use Rattle.laws.proofs.Comparisons.{eq-of, eqb-no}
+use Rattle.station.specs.Head.{presetOf, jobOf}
 use Rattle.station.specs.Text.{bytes, _then_, isLine, isRest, join, lines, Lines, no-lines, line-then}
 use Rattle.station.specs.Decimal.{digits, digitCount, isDigit, plain, value}
 use Rattle.station.specs.Form.{Pairs, last, next, Form, frameLine, busyLine, presetLine, clockLine, callLine, brackets, print, starts, word}
 use Rattle.station.specs.Form.{number, whole, _orElse_, also, made, bracketsIn, readBrackets, frameIn, busyIn, presetIn, clockIn, callIn, form}
+use Rattle.station.specs.Form.{CallJobs, lastJob, nextJob, jobBrackets, alsoJob, jobListIn, readJobs}
 use Rattle.station.proofs.Decimal.{digit-low, all-digits, digits-count, number-digits, number-had}
 use Rattle.station.proofs.Text.{isLine-cons, rest-line, lines-of-join}
 
@@ -136,6 +139,83 @@ brackets-step (c ∷ l) =
     ap (λ (x : Option Pairs). word (bytes "))\n") l₄ (whole (last m n)) orElse x)
     (word-cong (bytes ") ") l₄ _ _ (λ l₅ h₅. ap (also m n) (bracketsIn-enough (length l) l₅ (omega arith))))))))
 
+-- ---- jobs: their brackets read as pairs of numbers, which the laws above speak of
+
+-- the jobs of brackets, and back
+abbrev pub asJobs : Pairs → CallJobs
+asJobs (last n c) = lastJob (jobOf n c)
+asJobs (next n c p) = nextJob (jobOf n c) (asJobs p)
+
+abbrev asPairs : CallJobs → Pairs
+asPairs (lastJob j) = last (j .number) (j .slots)
+asPairs (nextJob j js) = next (j .number) (j .slots) (asPairs js)
+
+jobs-back : (js : CallJobs) → asJobs (asPairs js) ≡ js
+jobs-back (lastJob j) = refl
+jobs-back (nextJob j js) = ap (nextJob j) (jobs-back js)
+
+pairs-text : (p : Pairs) → jobBrackets (asJobs p) ≡ brackets p
+unfolding jobBrackets brackets
+pairs-text (last n c) = refl
+pairs-text (next n c p) = ap (λ (l : List ℕ). bytes "(" then digits n then bytes " " then digits c then bytes ") " then l) (pairs-text p)
+
+jobs-text : (js : CallJobs) → jobBrackets js ≡ brackets (asPairs js)
+jobs-text js = ap jobBrackets (sym (jobs-back js)) ∙ pairs-text (asPairs js)
+
+module _ {A B : Type 0} (f : A → B) where
+  made-word : (w l : List ℕ) (j : List ℕ → Option A) (k : List ℕ → Option B) → ((r : List ℕ) → made f (j r) ≡ k r) → made f (word w l j) ≡ word w l k
+  unfolding word
+  made-word w l j k h = go (is (starts w l))
+    where
+      go : Is (starts w l) → made f (word w l j) ≡ word w l k
+      go (is-true e) = rw e (h (drop (length w) l))
+      go (is-false e) = rw e refl
+
+  made-number : (l : List ℕ) (j : ℕ → List ℕ → Option A) (k : ℕ → List ℕ → Option B) → ((n : ℕ) (r : List ℕ) → made f (j n r) ≡ k n r)
+      → made f (number l j) ≡ number l k
+  unfolding number
+  made-number l j k h = go (is (plain l))
+    where
+      go : Is (plain l) → made f (number l j) ≡ number l k
+      go (is-true e) = rw e (h (value (take (digitCount l) l)) (drop (digitCount l) l))
+      go (is-false e) = rw e refl
+
+  made-or : (x y : Option A) (v w : Option B) → made f x ≡ v → made f y ≡ w → made f (x orElse y) ≡ (v orElse w)
+  made-or none y v w e d = rw (← e) d
+  made-or (some a) y v w e d = rw (← e) refl
+
+  made-whole : (a : A) (l : List ℕ) → made f (whole a l) ≡ whole (f a) l
+  made-whole a [] = refl
+  made-whole a (b ∷ l) = refl
+
+pub made-also : (n c : ℕ) (o : Option Pairs) → made asJobs (also n c o) ≡ alsoJob (jobOf n c) (made asJobs o)
+made-also n c none = refl
+made-also n c (some p) = refl
+
+jobs-in : (k : ℕ) (l : List ℕ) → made asJobs (bracketsIn k l) ≡ jobListIn k l
+unfolding bracketsIn jobListIn
+jobs-in zero l = refl
+jobs-in (suc k) l =
+    made-word asJobs (bytes "(") l _ _ (λ l₁. made-number asJobs l₁ _ _ (λ n l₂. made-word asJobs (bytes " ") l₂ _ _ (λ l₃.
+    made-number asJobs l₃ _ _ (λ c l₄. made-or asJobs (word (bytes "))\n") l₄ (whole (last n c))) (word (bytes ") ") l₄ (λ l₅. also n c (bracketsIn k l₅))) _ _
+    (made-word asJobs (bytes "))\n") l₄ (whole (last n c)) (whole (lastJob (jobOf n c))) (made-whole asJobs (last n c)))
+    (made-word asJobs (bytes ") ") l₄ (λ l₅. also n c (bracketsIn k l₅)) (λ l₅. alsoJob (jobOf n c) (jobListIn k l₅))
+    (λ l₅. made-also n c (bracketsIn k l₅) ∙ ap (alsoJob (jobOf n c)) (jobs-in k l₅)))))))
+
+pub read-jobs : (l : List ℕ) → made asJobs (readBrackets l) ≡ readJobs l
+unfolding readBrackets readJobs
+read-jobs l = jobs-in (length l) l
+
+jobs-self : (js : CallJobs) → readJobs (jobBrackets js) ≡ some js
+jobs-self js =
+    sym (read-jobs (jobBrackets js))
+    ∙ ap (made asJobs) (ap readBrackets (jobs-text js) ∙ brackets-self (asPairs js))
+    ∙ ap (λ (x : CallJobs). some x) (jobs-back js)
+
+jobs-had : (l : List ℕ) (js : CallJobs) → readJobs l ≡ some js → l ≡ jobBrackets js
+jobs-had l js e =
+    made-had asJobs (readBrackets l) js (read-jobs l ∙ e) (λ p e₁ e₂. brackets-had l p e₁ ∙ sym (pairs-text p) ∙ ap jobBrackets e₂)
+
 -- ---- the two inverses
 
 -- a form printed is recognised
@@ -145,14 +225,14 @@ form-self (frameLine s b) =
     or-first _ _ (number-digits s (bytes " " then digits b then bytes ")\n") _ refl ∙ number-digits b (bytes ")\n") _ refl)
 form-self (busyLine b p) =
     or-first _ _ (number-digits b (bytes " " then brackets p) _ refl ∙ ap (made (busyLine b)) (brackets-self p))
-form-self (presetLine n p m o) =
+form-self (presetLine p) =
     or-first _ _
-    (number-digits n (bytes " " then digits p then bytes " " then digits m then bytes " " then digits o then bytes ")\n") _ refl
-    ∙ number-digits p (bytes " " then digits m then bytes " " then digits o then bytes ")\n") _ refl
-    ∙ number-digits m (bytes " " then digits o then bytes ")\n") _ refl
-    ∙ number-digits o (bytes ")\n") _ refl)
+    (number-digits (p .number) (bytes " " then digits (p .priority) then bytes " " then digits (p .mandatory) then bytes " " then digits (p .optional) then bytes ")\n") _ refl
+    ∙ number-digits (p .priority) (bytes " " then digits (p .mandatory) then bytes " " then digits (p .optional) then bytes ")\n") _ refl
+    ∙ number-digits (p .mandatory) (bytes " " then digits (p .optional) then bytes ")\n") _ refl
+    ∙ number-digits (p .optional) (bytes ")\n") _ refl)
 form-self (clockLine t) = or-first _ _ (number-digits t (bytes ")\n") _ refl)
-form-self (callLine p) = ap (made callLine) (brackets-self p)
+form-self (callLine js) = ap (made callLine) (jobs-self js)
 
 frame-had : (l : List ℕ) (f : Form) → frameIn l ≡ some f → l ≡ print f
 unfolding frameIn print bytes
@@ -173,7 +253,7 @@ preset-had l f e =
     word-had (bytes "(preset ") l _ f e (λ l₁ e₁ q₁. number-had l₁ _ f q₁ (λ n l₂ e₂ c₂ q₂. word-had (bytes " ") l₂ _ f q₂ (λ l₃ e₃ q₃.
     number-had l₃ _ f q₃ (λ p l₄ e₄ c₄ q₄. word-had (bytes " ") l₄ _ f q₄ (λ l₅ e₅ q₅. number-had l₅ _ f q₅ (λ m l₆ e₆ c₆ q₆.
     word-had (bytes " ") l₆ _ f q₆ (λ l₇ e₇ q₇. number-had l₇ _ f q₇ (λ o l₈ e₈ c₈ q₈. word-had (bytes ")\n") l₈ _ f q₈ (λ l₉ e₉ q₉.
-    whole-had (presetLine n p m o) l₉ f q₉ (λ e₀ e. rw (e₁, e₂, e₃, e₄, e₅, e₆, e₇, e₈, e₉, e₀, ← e) refl))))))))))
+    whole-had (presetLine (presetOf n p m o)) l₉ f q₉ (λ e₀ e. rw (e₁, e₂, e₃, e₄, e₅, e₆, e₇, e₈, e₉, e₀, ← e) refl))))))))))
 
 clock-had : (l : List ℕ) (f : Form) → clockIn l ≡ some f → l ≡ print f
 unfolding clockIn print bytes
@@ -184,7 +264,7 @@ clock-had l f e =
 call-had : (l : List ℕ) (f : Form) → callIn l ≡ some f → l ≡ print f
 unfolding callIn print
 call-had l f e =
-    word-had (bytes "(call ") l _ f e (λ l₁ e₁ q₁. made-had callLine (readBrackets l₁) f q₁ (λ p e₂ e₃. rw (e₁, brackets-had l₁ p e₂, ← e₃) refl))
+    word-had (bytes "(call ") l _ f e (λ l₁ e₁ q₁. made-had callLine (readJobs l₁) f q₁ (λ js e₂ e₃. rw (e₁, jobs-had l₁ js e₂, ← e₃) refl))
 
 -- a line that has a form is that form printed
 pub form-had : (l : List ℕ) (f : Form) → form l ≡ some f → l ≡ print f
@@ -234,11 +314,11 @@ unfolding print bytes isRest
 print-line (frameLine s b) =
     rest-line (bytes "(frame ") _ refl (digits-line s _ (rest-line (bytes " ") _ refl (digits-line b _ line-end)))
 print-line (busyLine b p) = rest-line (bytes "(busy ") _ refl (digits-line b _ (rest-line (bytes " ") _ refl (brackets-line p)))
-print-line (presetLine n p m o) =
-    rest-line (bytes "(preset ") _ refl (digits-line n _ (rest-line (bytes " ") _ refl (digits-line p _ (rest-line (bytes " ") _ refl
-    (digits-line m _ (rest-line (bytes " ") _ refl (digits-line o _ line-end)))))))
+print-line (presetLine p) =
+    rest-line (bytes "(preset ") _ refl (digits-line (p .number) _ (rest-line (bytes " ") _ refl (digits-line (p .priority) _ (rest-line (bytes " ") _ refl
+    (digits-line (p .mandatory) _ (rest-line (bytes " ") _ refl (digits-line (p .optional) _ line-end)))))))
 print-line (clockLine t) = rest-line (bytes "(clock ") _ refl (digits-line t _ line-end)
-print-line (callLine p) = rest-line (bytes "(call ") _ refl (brackets-line p)
+print-line (callLine js) = rest-line (bytes "(call ") _ refl (rw (jobs-text js) (brackets-line (asPairs js)))
 
 prints-shape : (fs : List Form) → Lines (map print fs)
 prints-shape [] = no-lines

@@ -16,7 +16,7 @@ use Rattle.laws.proofs.Comparisons.{lt-of, ge-of, ltb-yes, ltb-no}
 use Rattle.station.specs.Refusal.{Refusal, outOfLimits, outOfPlace, numberUsed, tooMany, try, firstOf}
 use Rattle.station.specs.Text.{lines, join}
 use Rattle.station.specs.Form.{Form, frameLine, busyLine, presetLine, clockLine, callLine, print, form}
-use Rattle.station.specs.Reading.{Reading, accepted, refused, SoFar, begin, misplaced, outside, used, full, causes, ends, more, readFrom}
+use Rattle.station.specs.Reading.{Reading, accepted, refused, begun, SoFar, begin, tried, causes, ends, more, readFrom}
 use Rattle.station.specs.Reading.{headOf, Passes, no-more, one-more, Stops, at-end, at-event, at-no-form, at-fault, Means, too-long, no-text}
 use Rattle.station.specs.Reading.{by-lines}
 use Rattle.station.proofs.Refusal.{first-none}
@@ -26,17 +26,17 @@ use Rattle.station.proofs.Form.{form-self, form-had}
 -- ---- a line without a cause
 
 pub record NoCause (r : SoFar) (f : Form) : Type 0 where
-  pub in-place : misplaced r f ≡ false
-  pub in-limits : outside r f ≡ false
-  pub unused : used r f ≡ false
-  pub fits : full r f ≡ false
+  pub in-place : tried r f .misplaced ≡ false
+  pub in-limits : tried r f .outside ≡ false
+  pub unused : tried r f .used ≡ false
+  pub fits : tried r f .full ≡ false
 
 pub no-cause : (r : SoFar) (f : Form) → firstOf (causes r f) ≡ none → NoCause r f
 no-cause r f e =
-    let three = first-none outOfPlace (misplaced r f) _ e in
-    let two = first-none outOfLimits (outside r f) _ (three .1) in
-    let four = first-none numberUsed (used r f) _ (two .1) in
-    let nine = first-none tooMany (full r f) [] (four .1) in
+    let three = first-none outOfPlace (tried r f .misplaced) _ e in
+    let two = first-none outOfLimits (tried r f .outside) _ (three .1) in
+    let four = first-none numberUsed (tried r f .used) _ (two .1) in
+    let nine = first-none tooMany (tried r f .full) [] (four .1) in
     record { in-place = three .0; in-limits = two .0; unused = four .0; fits = nine .0 }
 
 pub of-no-cause : (r : SoFar) (f : Form) → NoCause r f → firstOf (causes r f) ≡ none
@@ -46,17 +46,17 @@ of-no-cause r f c = rw (c .in-place, c .in-limits, c .unused, c .fits) refl
 -- ---- the first cause that holds, spelled out: "Tried in the order .. 3, 2, 4, 9"
 
 pub data FirstCause (r : SoFar) (f : Form) : Refusal → Type 0 where
-  by-place : misplaced r f ≡ true → FirstCause r f outOfPlace
-  by-limits : misplaced r f ≡ false → outside r f ≡ true → FirstCause r f outOfLimits
-  by-number : misplaced r f ≡ false → outside r f ≡ false → used r f ≡ true → FirstCause r f numberUsed
-  by-many : misplaced r f ≡ false → outside r f ≡ false → used r f ≡ false → full r f ≡ true → FirstCause r f tooMany
+  by-place : tried r f .misplaced ≡ true → FirstCause r f outOfPlace
+  by-limits : tried r f .misplaced ≡ false → tried r f .outside ≡ true → FirstCause r f outOfLimits
+  by-number : tried r f .misplaced ≡ false → tried r f .outside ≡ false → tried r f .used ≡ true → FirstCause r f numberUsed
+  by-many : tried r f .misplaced ≡ false → tried r f .outside ≡ false → tried r f .used ≡ false → tried r f .full ≡ true → FirstCause r f tooMany
 
 -- a line is refused only for a cause that holds, where none before it in the list does
 pub first-cause : (r : SoFar) (f : Form) (c : Refusal) → firstOf (causes r f) ≡ some c → FirstCause r f c
 unfolding firstOf
-first-cause r f c e = go (misplaced r f) (outside r f) (used r f) (full r f) refl refl refl refl e
+first-cause r f c e = go (tried r f .misplaced) (tried r f .outside) (tried r f .used) (tried r f .full) refl refl refl refl e
   where
-    go : (a b u d : Bool) → misplaced r f ≡ a → outside r f ≡ b → used r f ≡ u → full r f ≡ d
+    go : (a b u d : Bool) → tried r f .misplaced ≡ a → tried r f .outside ≡ b → tried r f .used ≡ u → tried r f .full ≡ d
         → firstOf (try outOfPlace a ∷ try outOfLimits b ∷ try numberUsed u ∷ try tooMany d ∷ []) ≡ some c → FirstCause r f c
     go true b u d p q v w h = let s : outOfPlace ≡ c = cc in subst (FirstCause r f) s (by-place p)
     go false true u d p q v w h = let s : outOfLimits ≡ c = cc in subst (FirstCause r f) s (by-limits p q)
@@ -74,20 +74,20 @@ of-first-cause (by-many p q v w) = rw (p, q, v, w) refl
 
 -- ---- the frame line comes first
 
-more-begun : (r : SoFar) (f : Form) → r .begun ≡ true → more r f .begun ≡ true
-unfolding more
+more-begun : (r : SoFar) (f : Form) → begun (r .stage) ≡ true → begun (more r f .stage) ≡ true
+unfolding tried
 more-begun r (frameLine s b) e = refl
-more-begun r (busyLine b p) e = e
-more-begun r (presetLine n p m o) e = e
+more-begun r (busyLine b p) e = refl
+more-begun r (presetLine p) e = refl
 more-begun r (clockLine t) e = e
 more-begun r (callLine p) e = e
 
 -- line 1 passes only if it is a frame
-frame-begins : (f : Form) → firstOf (causes begin f) ≡ none → more begin f .begun ≡ true
-unfolding more misplaced
+frame-begins : (f : Form) → firstOf (causes begin f) ≡ none → begun (more begin f .stage) ≡ true
+unfolding tried
 frame-begins (frameLine s b) e = refl
 frame-begins (busyLine b p) e = absurd (clash (no-cause begin (busyLine b p) e .in-place))
-frame-begins (presetLine n p m o) e = absurd (clash (no-cause begin (presetLine n p m o) e .in-place))
+frame-begins (presetLine p) e = absurd (clash (no-cause begin (presetLine p) e .in-place))
 frame-begins (clockLine t) e = absurd (clash (no-cause begin (clockLine t) e .in-place))
 frame-begins (callLine p) e = absurd (clash (no-cause begin (callLine p) e .in-place))
 
@@ -129,7 +129,7 @@ with-form n r l ls f e ih (is-true a) o c = rw a (stopped n r (l ∷ ls) _ (at-e
 with-form n r l ls f e ih (is-false a) none c = rw (a, c) (one-line n r l ls f _ e a c (ih c))
 with-form n r l ls f e ih (is-false a) (some k) c = rw (a, c) (stopped n r (l ∷ ls) _ (at-fault e a c))
 
-walk : (ls : List (List ℕ)) (n : ℕ) (r : SoFar) → r .begun ≡ true → Walk n r ls (readFrom n r (map form ls))
+walk : (ls : List (List ℕ)) (n : ℕ) (r : SoFar) → begun (r .stage) ≡ true → Walk n r ls (readFrom n r (map form ls))
 unfolding readFrom
 walk [] n r b =
     subst (λ (x : Bool). Walk n r [] (cond x (accepted (r .head) n) (refused 1 outOfPlace))) (sym b) (stopped n r [] _ (at-end b))

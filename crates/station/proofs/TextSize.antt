@@ -15,8 +15,8 @@ use Rattle.laws.proofs.Tests.{left-of, right-of}
 use Rattle.station.specs.Head.{Preset, Head, InLimits, Valid, inLimits, allInLimits}
 use Rattle.station.specs.Text.{bytes, _then_, join}
 use Rattle.station.specs.Decimal.{digits}
-use Rattle.station.specs.Form.{Pairs, last, next, Form, frameLine, busyLine, brackets, print}
-use Rattle.station.specs.Writing.{ordered, stretches, busyLineOf, busyLines, presetLineOf, formsOf, textOf}
+use Rattle.station.specs.Form.{Pairs, last, next, Form, frameLine, busyLine, brackets, presetLine, print}
+use Rattle.station.specs.Writing.{ordered, stretches, busyLineOf, busyLines, formsOf, textOf}
 use Rattle.station.proofs.Decimal.{digits-length}
 use Rattle.station.proofs.Stretches.{first-stretch, rest-ordered, last-stretch, stretches-ordered}
 use Rattle.station.proofs.ValidHead.{limits-of, parts-valid}
@@ -34,7 +34,7 @@ frame-size s b h l =
       digits-length 1 b (omega arith) l,
     )
 
-preset-size : (p : Preset) → InLimits p → length (print (presetLineOf p)) ≤ 21
+preset-size : (p : Preset) → InLimits p → length (print (presetLine p)) ≤ 21
 unfolding print bytes
 preset-size p l =
     let n = digits (p .number) in
@@ -104,13 +104,13 @@ busyLines-size c (m ∷ ms) h f = go (busyLines-size (suc c) ms (omega arith) (�
     go ih (some p) e =
         omega (arith, size-cons (busyLine c p) (busyLines (suc c) ms), busy-size c p (omega arith) (stretches-ordered 64 m p (le-refl 64) (f 0) e))
 
-presets-size : (ps : List Preset) → allInLimits ps ≡ true → size (map presetLineOf ps) ≤ 21 * length ps
+presets-size : (ps : List Preset) → allInLimits ps ≡ true → size (map presetLine ps) ≤ 21 * length ps
 unfolding allInLimits
 presets-size [] e = omega arith
 presets-size (p ∷ ps) e =
     omega (
       arith,
-      size-cons (presetLineOf p) (map presetLineOf ps),
+      size-cons (presetLine p) (map presetLine ps),
       preset-size p (limits-of p (left-of (inLimits p) (allInLimits ps) e)),
       presets-size ps (right-of (inLimits p) (allInLimits ps) e),
     )
@@ -125,8 +125,8 @@ text-fits h v =
     let below : (b : ℕ) → getD (h .busy) b 0 < 2 ^ 64 = λ b. omega (arith, v .in-frame b) in
     omega (
       arith,
-      size-cons (frameLine (h .slots) (h .bridges)) (busyLines 1 (h .busy) ++ map presetLineOf (h .presets)),
-      size-append (busyLines 1 (h .busy)) (map presetLineOf (h .presets)),
+      size-cons (frameLine (h .slots) (h .bridges)) (busyLines 1 (h .busy) ++ map presetLine (h .presets)),
+      size-append (busyLines 1 (h .busy)) (map presetLine (h .presets)),
       frame-size (h .slots) (h .bridges) (omega arith) (omega arith),
       busyLines-size 1 (h .busy) (omega arith) below,
       presets-size (h .presets) (parts-valid h v .limits),

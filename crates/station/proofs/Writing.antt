@@ -7,7 +7,7 @@ use Prim.Native.Nat.{ℕ, zero, suc, _+_, _-_, _^_, _≤_, _<_}
 use native.Mathlib.Nat.{add-zero}
 use native.Mathlib.Omega.{arith}
 use mathlib.Core.Path.{_≡_, refl, sym, _∙_, ap, subst}
-use mathlib.Core.Bool.{true, false, not, _&&_, _||_}
+use mathlib.Core.Bool.{true, false, not, _&&_}
 use mathlib.Core.Option.{none, some}
 use mathlib.Core.List.{List, [], _∷_, _++_, map, append-assoc, append-nil}
 use lib.ListN.{length, take, getD, set, replicate, length-append, length-set, length-map}
@@ -16,12 +16,12 @@ use lib.Dec.{eqb, ltb}
 use lib.Pow.{pow-pos}
 use Rattle.laws.proofs.Tests.{clash, both, left-of, right-of, false-of-not, true-of-not, neither-left, neither-right}
 use Rattle.laws.proofs.Comparisons.{ge-of, gt-of, ne-of, ltb-yes, eqb-no}
-use Rattle.station.specs.Head.{Preset, Head, Valid, within, inLimits, hasNumber, allInLimits, allDistinct, masksIn}
+use Rattle.station.specs.Head.{Preset, Head, bareHead, withBusy, withPresets, Valid, within, inLimits, hasNumber, allInLimits, allDistinct, masksIn}
 use Rattle.station.specs.Refusal.{firstOf}
 use Rattle.station.specs.Text.{lines, join}
 use Rattle.station.specs.Form.{Pairs, Form, frameLine, busyLine, presetLine, clockLine, callLine, isEvent, print}
-use Rattle.station.specs.Writing.{maskOf, ordered, stretches, busyLineOf, busyLines, presetLineOf, formsOf, textOf}
-use Rattle.station.specs.Reading.{Reading, accepted, refused, headOf, SoFar, begin, presetOf, ends, more, misplaced, outside, used, full}
+use Rattle.station.specs.Writing.{maskOf, ordered, stretches, busyLineOf, busyLines, formsOf, textOf}
+use Rattle.station.specs.Reading.{Reading, accepted, refused, headOf, atBusy, atPresets, begun, SoFar, begin, ends, more, tried}
 use Rattle.station.specs.Reading.{causes, Passes, no-more, one-more, Stops, at-end, at-event, at-no-form, at-fault, Means, too-long, no-text}
 use Rattle.station.specs.Reading.{by-lines}
 use Rattle.station.proofs.Stretches.{stretches-zero, stretches-mask, mask-lt}
@@ -93,8 +93,10 @@ busyLines-set c (x ∷ ms) (suc i) m p h z e =
 
 data Good : SoFar → List Form → Type 0 where
   at-start : Good begin []
-  under-way : {r : SoFar} {fs : List Form} → r .begun ≡ true → Parts (r .head) → ((b : ℕ) → r .from ≤ suc b → getD (r .head .busy) b 0 ≡ 0)
-      → formsOf (r .head) ≡ fs → Good r fs
+  -- no preset yet, and no mask from the next bridge on
+  before-presets : {least : ℕ} {h : Head} {fs : List Form} → Parts h → h .presets ≡ [] → ((b : ℕ) → least ≤ suc b → getD (h .busy) b 0 ≡ 0)
+      → formsOf h ≡ fs → Good (record { stage = atBusy least; head = h }) fs
+  in-presets : {h : Head} {fs : List Form} → Parts h → formsOf h ≡ fs → Good (record { stage = atPresets; head = h }) fs
 
 no-mask : (n b : ℕ) → getD {A = ℕ} (replicate n 0) b 0 ≡ 0
 no-mask zero b = refl
@@ -102,10 +104,10 @@ no-mask (suc n) zero = refl
 no-mask (suc n) (suc b) = no-mask n b
 
 good-frame : (s b : ℕ) → NoCause begin (frameLine s b) → Good (more begin (frameLine s b)) (frameLine s b ∷ [])
-unfolding more outside formsOf allInLimits allDistinct masksIn
+unfolding tried formsOf allInLimits allDistinct masksIn
 good-frame s b c =
     let ok : (within 1 64 s && within 1 8 b) ≡ true = true-of-not (within 1 64 s && within 1 8 b) (c .in-limits) in
-    under-way {r = more begin (frameLine s b)} refl
+    before-presets {least = 0} {h = bareHead s b}
     (record {
       slots = left-of (within 1 64 s) (within 1 8 b) ok;
       bridges = right-of (within 1 64 s) (within 1 8 b) ok;
@@ -115,16 +117,13 @@ good-frame s b c =
       limits = refl;
       distinct = refl;
     })
+    refl
     (λ i l. no-mask 8 i)
     (ap (λ (k : List Form). frameLine s b ∷ (k ++ [])) (busyLines-none 1 (replicate 8 0) (no-mask 8)))
 
-no-presets : (ps : List Preset) → length ps ≤ 0 → ps ≡ []
-no-presets [] h = refl
-no-presets (p ∷ ps) h = absurd (omega arith)
-
 forms-busy : (h : Head) (b : ℕ) (p : Pairs) → 1 ≤ b → b - 1 < length (h .busy) → h .presets ≡ []
     → ((j : ℕ) → b - 1 ≤ j → getD (h .busy) j 0 ≡ 0) → stretches 64 1 (maskOf p) ≡ some p
-    → formsOf (record { slots = h .slots; bridges = h .bridges; busy = set (h .busy) (b - 1) (maskOf p); presets = h .presets })
+    → formsOf (withBusy h (set (h .busy) (b - 1) (maskOf p)))
     ≡ formsOf h ++ (busyLine b p ∷ [])
 unfolding formsOf
 forms-busy h b p low inside-busy bare z e =
@@ -132,18 +131,17 @@ forms-busy h b p low inside-busy bare z e =
     let lines : busyLines 1 (set (h .busy) (b - 1) (maskOf p)) ≡ busyLines 1 (h .busy) ++ (busyLine b p ∷ []) =
     busyLines-set 1 (h .busy) (b - 1) (maskOf p) p inside-busy z e ∙ ap (λ (k : ℕ). busyLines 1 (h .busy) ++ (busyLine k p ∷ [])) at in
     ap (λ (k : List Form). frameLine (h .slots) (h .bridges) ∷ k)
-    (ap (λ (k : List Preset). busyLines 1 (set (h .busy) (b - 1) (maskOf p)) ++ map presetLineOf k) bare
+    (ap (λ (k : List Preset). busyLines 1 (set (h .busy) (b - 1) (maskOf p)) ++ map presetLine k) bare
     ∙ append-nil (busyLines 1 (set (h .busy) (b - 1) (maskOf p))) ∙ lines
     ∙ ap (λ (k : List Form). k ++ (busyLine b p ∷ [])) (sym (append-nil (busyLines 1 (h .busy)))
-    ∙ ap (λ (k : List Preset). busyLines 1 (h .busy) ++ map presetLineOf k) (sym bare)))
+    ∙ ap (λ (k : List Preset). busyLines 1 (h .busy) ++ map presetLine k) (sym bare)))
 
 -- the facts of a busy line that passes
-good-busy : (r : SoFar) (fs : List Form) (b : ℕ) (p : Pairs) → r .begun ≡ true → Parts (r .head)
-    → ((i : ℕ) → r .from ≤ suc i → getD (r .head .busy) i 0 ≡ 0) → formsOf (r .head) ≡ fs → NoCause r (busyLine b p)
-    → Good (more r (busyLine b p)) (fs ++ (busyLine b p ∷ []))
-unfolding more outside misplaced formsOf
-good-busy r fs b p g a z w c =
-    let h = r .head in
+good-busy : (least : ℕ) (h : Head) (fs : List Form) (b : ℕ) (p : Pairs) → Parts h → h .presets ≡ []
+    → ((i : ℕ) → least ≤ suc i → getD (h .busy) i 0 ≡ 0) → formsOf h ≡ fs → NoCause (record { stage = atBusy least; head = h }) (busyLine b p)
+    → Good (more (record { stage = atBusy least; head = h }) (busyLine b p)) (fs ++ (busyLine b p ∷ []))
+unfolding tried formsOf
+good-busy least h fs b p a bare z w c =
     let ok : (within 1 (h .bridges) b && ordered 1 (h .slots) p) ≡ true =
     true-of-not (within 1 (h .bridges) b && ordered 1 (h .slots) p) (c .in-limits) in
     let inside : within 1 (h .bridges) b ≡ true = left-of (within 1 (h .bridges) b) (ordered 1 (h .slots) p) ok in
@@ -152,12 +150,9 @@ good-busy r fs b p g a z w c =
     let b-high : b ≤ h .bridges = within-high 1 (h .bridges) b inside in
     let most : h .bridges ≤ 8 = within-high 1 8 (h .bridges) (a .bridges) in
     let all : h .slots ≤ 64 = within-high 1 64 (h .slots) (a .slots) in
-    let early : (not (r .begun) || ltb 0 (length (h .presets))) ≡ false =
-    neither-left (not (r .begun) || ltb 0 (length (h .presets))) (ltb b (r .from)) (c .in-place) in
-    let up : r .from ≤ b = ge-of b (r .from) (neither-right (not (r .begun) || ltb 0 (length (h .presets))) (ltb b (r .from)) (c .in-place)) in
-    let none-yet : length (h .presets) ≤ 0 = ge-of 0 (length (h .presets)) (neither-right (not (r .begun)) (ltb 0 (length (h .presets))) early) in
+    let up : least ≤ b = ge-of b least (c .in-place) in
     let inside-busy : b - 1 < length (h .busy) = omega (arith, a .masks) in
-    under-way {r = more r (busyLine b p)} g
+    before-presets {least = suc b} {h = withBusy h (set (h .busy) (b - 1) (maskOf p))}
     (record {
       slots = a .slots;
       bridges = a .bridges;
@@ -167,20 +162,19 @@ good-busy r fs b p g a z w c =
       limits = a .limits;
       distinct = a .distinct;
     })
+    bare
     (λ i l. getD-set-other (h .busy) (b - 1) i (maskOf p) 0 (λ q. omega arith) ∙ z i (omega arith))
-    (forms-busy h b p b-low inside-busy (no-presets (h .presets) none-yet) (λ j l. z j (omega arith)) (stretches-mask (h .slots) p all stretch)
+    (forms-busy h b p b-low inside-busy bare (λ j l. z j (omega arith)) (stretches-mask (h .slots) p all stretch)
     ∙ ap (λ (k : List Form). k ++ (busyLine b p ∷ [])) w)
 
 -- the facts of a preset line that passes
-good-preset : (r : SoFar) (fs : List Form) (n p m o : ℕ) → r .begun ≡ true → Parts (r .head)
-    → ((i : ℕ) → r .from ≤ suc i → getD (r .head .busy) i 0 ≡ 0) → formsOf (r .head) ≡ fs → NoCause r (presetLine n p m o)
-    → Good (more r (presetLine n p m o)) (fs ++ (presetLine n p m o ∷ []))
-unfolding more outside used full formsOf
-good-preset r fs n p m o g a z w c =
+good-preset : (r : SoFar) (fs : List Form) (x : Preset) → Parts (r .head) → formsOf (r .head) ≡ fs → NoCause r (presetLine x)
+    → Good (more r (presetLine x)) (fs ++ (presetLine x ∷ []))
+unfolding tried formsOf
+good-preset r fs x a w c =
     let h = r .head in
-    let x = presetOf n p m o in
     let small : length (h .presets) < 32 = gt-of 32 (length (h .presets)) (c .fits) in
-    under-way {r = more r (presetLine n p m o)} g
+    in-presets {h = withPresets h (h .presets ++ (x ∷ []))}
     (record {
       slots = a .slots;
       bridges = a .bridges;
@@ -190,24 +184,28 @@ good-preset r fs n p m o g a z w c =
       limits = limits-append (h .presets) x (a .limits) (true-of-not (inLimits x) (c .in-limits));
       distinct = distinct-append (h .presets) x (a .distinct) (c .unused);
     })
-    z
     (ap (λ (k : List Form). frameLine (h .slots) (h .bridges) ∷ k)
-    (ap (λ (k : List Form). busyLines 1 (h .busy) ++ k) (map-append presetLineOf (h .presets) (x ∷ []))
-    ∙ sym (append-assoc (busyLines 1 (h .busy)) (map presetLineOf (h .presets)) (presetLine n p m o ∷ [])))
-    ∙ ap (λ (k : List Form). k ++ (presetLine n p m o ∷ [])) w)
+    (ap (λ (k : List Form). busyLines 1 (h .busy) ++ k) (map-append presetLine (h .presets) (x ∷ []))
+    ∙ sym (append-assoc (busyLines 1 (h .busy)) (map presetLine (h .presets)) (presetLine x ∷ [])))
+    ∙ ap (λ (k : List Form). k ++ (presetLine x ∷ [])) w)
 
 good-more : {r : SoFar} {fs : List Form} (f : Form) → ends r f ≡ false → firstOf (causes r f) ≡ none → Good r fs → Good (more r f) (fs ++ (f ∷ []))
-unfolding misplaced
+unfolding tried
 good-more (frameLine s b) e c at-start = good-frame s b (no-cause begin (frameLine s b) c)
 good-more (busyLine b p) e c at-start = absurd (clash (no-cause begin (busyLine b p) c .in-place))
-good-more (presetLine n p m o) e c at-start = absurd (clash (no-cause begin (presetLine n p m o) c .in-place))
+good-more (presetLine p) e c at-start = absurd (clash (no-cause begin (presetLine p) c .in-place))
 good-more (clockLine t) e c at-start = absurd (clash (no-cause begin (clockLine t) c .in-place))
 good-more (callLine p) e c at-start = absurd (clash (no-cause begin (callLine p) c .in-place))
-good-more (frameLine s b) e c (under-way {r} g a z w) = absurd (clash (sym g ∙ no-cause r (frameLine s b) c .in-place))
-good-more (busyLine b p) e c (under-way {r} {fs} g a z w) = good-busy r fs b p g a z w (no-cause r (busyLine b p) c)
-good-more (presetLine n p m o) e c (under-way {r} {fs} g a z w) = good-preset r fs n p m o g a z w (no-cause r (presetLine n p m o) c)
-good-more (clockLine t) e c (under-way g a z w) = absurd (clash (sym g ∙ e))
-good-more (callLine p) e c (under-way g a z w) = absurd (clash (sym g ∙ e))
+good-more {r} (frameLine s b) e c (before-presets a bare z w) = absurd (clash (no-cause r (frameLine s b) c .in-place))
+good-more {r} {fs} (busyLine b p) e c (before-presets {least} {h} a bare z w) = good-busy least h fs b p a bare z w (no-cause r (busyLine b p) c)
+good-more {r} {fs} (presetLine p) e c (before-presets a bare z w) = good-preset r fs p a w (no-cause r (presetLine p) c)
+good-more (clockLine t) e c (before-presets a bare z w) = absurd (clash e)
+good-more (callLine p) e c (before-presets a bare z w) = absurd (clash e)
+good-more {r} (frameLine s b) e c (in-presets a w) = absurd (clash (no-cause r (frameLine s b) c .in-place))
+good-more {r} (busyLine b p) e c (in-presets a w) = absurd (clash (no-cause r (busyLine b p) c .in-place))
+good-more {r} {fs} (presetLine p) e c (in-presets a w) = good-preset r fs p a w (no-cause r (presetLine p) c)
+good-more (clockLine t) e c (in-presets a w) = absurd (clash e)
+good-more (callLine p) e c (in-presets a w) = absurd (clash e)
 
 good-passes : {r q : SoFar} {fs : List Form} (done : List Form) → Passes r fs q → Good r done → Good q (done ++ fs)
 good-passes done no-more g = rw append-nil g
@@ -220,23 +218,28 @@ Facts : List ℕ → Reading → Type 0
 Facts t (accepted h n) = Valid h × (textOf h ≡ join (take n (lines t))) × (n ≡ length (formsOf h))
 Facts t (refused n c) = Unit {0}
 
-ended : (t : List ℕ) (fs : List Form) (q : SoFar) (ls : List (List ℕ)) → lines t ≡ map print fs ++ ls → q .begun ≡ true → Good q fs
-    → Facts t (accepted (q .head) (length fs))
+written : (t : List ℕ) (fs : List Form) (h : Head) (ls : List (List ℕ)) → lines t ≡ map print fs ++ ls → Parts h → formsOf h ≡ fs
+    → Facts t (accepted h (length fs))
 unfolding Facts textOf
-ended t fs q ls e b at-start = absurd (clash (sym b))
-ended t fs q ls e b (under-way g a z w) = (
-  valid-parts (q .head) a,
+written t fs h ls e a w = (
+  valid-parts h a,
   ap (λ (k : List Form). join (map print k)) w
       ∙ ap join (sym (take-at (map print fs) ls (length fs) (length-map fs print)))
       ∙ ap (λ (k : List (List ℕ)). join (take (length fs) k)) (sym e),
   ap length (sym w),
 )
 
+ended : (t : List ℕ) (fs : List Form) (q : SoFar) (ls : List (List ℕ)) → lines t ≡ map print fs ++ ls → begun (q .stage) ≡ true → Good q fs
+    → Facts t (accepted (q .head) (length fs))
+ended t fs q ls e b at-start = absurd (clash (sym b))
+ended t fs q ls e b (before-presets a bare z w) = written t fs (q .head) ls e a w
+ended t fs q ls e b (in-presets a w) = written t fs (q .head) ls e a w
+
 facts-stops : (t : List ℕ) {fs : List Form} {q : SoFar} {ls : List (List ℕ)} {x : Reading}
     → lines t ≡ map print fs ++ ls → Good q fs → Stops (length fs) q ls x → Facts t x
 unfolding Facts
 facts-stops t {fs} {q} {ls} e g (at-end b) = ended t fs q [] e b g
-facts-stops t {fs} {q} {ls} e g (at-event {l} {ls = ms} {f} d a) = ended t fs q (l ∷ ms) e (right-of (isEvent f) (q .begun) a) g
+facts-stops t {fs} {q} {ls} e g (at-event {l} {ls = ms} {f} d a) = ended t fs q (l ∷ ms) e (right-of (isEvent f) (begun (q .stage)) a) g
 facts-stops t e g (at-no-form d) = tt
 facts-stops t e g (at-fault d a c) = tt
 

@@ -17,10 +17,10 @@ use lib.Dec.{eqb, ltb}
 use lib.Pow.{pow-mono}
 use Rattle.laws.proofs.Tests.{Is, is-true, is-false, is, left-of, right-of, false-of-not, neither-left, neither-right, none-some}
 use Rattle.laws.proofs.Comparisons.{lt-of, ge-of, ne-of, ltb-no, leb-no, eqb-no}
-use Rattle.station.specs.Head.{Preset, Head, Valid, inLimits, hasNumber, allInLimits, allDistinct}
-use Rattle.station.specs.Form.{Pairs, Form, frameLine, busyLine, print}
-use Rattle.station.specs.Writing.{maskOf, stretches, busyLineOf, busyLines, presetLineOf, formsOf, textOf}
-use Rattle.station.specs.Reading.{accepted, headOf, SoFar, begin, ends, misplaced, outside, used, full, more, Passes, no-more, one-more, at-end}
+use Rattle.station.specs.Head.{Preset, Head, bareHead, withBusy, withPresets, Valid, inLimits, hasNumber, allInLimits, allDistinct}
+use Rattle.station.specs.Form.{Pairs, Form, frameLine, busyLine, presetLine, print}
+use Rattle.station.specs.Writing.{maskOf, stretches, busyLineOf, busyLines, formsOf, textOf}
+use Rattle.station.specs.Reading.{accepted, headOf, Stage, atBusy, atPresets, begun, SoFar, begin, ends, tried, more, Passes, no-more, one-more, at-end}
 use Rattle.station.specs.Reading.{by-lines}
 use Rattle.station.proofs.Form.{lines-prints}
 use Rattle.station.proofs.Stretches.{stretches-zero, stretches-ordered, mask-stretches, no-stretches}
@@ -33,19 +33,19 @@ use Rattle.station.proofs.TextSize.{text-fits}
 record Reaches (r : SoFar) (fs : List Form) (h : Head) : Type 0 where
   so-far : SoFar
   passes : Passes r fs so-far
-  begun : so-far .begun ≡ true
+  begins : begun (so-far .stage) ≡ true
   head : so-far .head ≡ h
 
--- under way: the frame line was read
-abbrev under : ℕ → ℕ → ℕ → List ℕ → List Preset → SoFar
-under s b from busy ps = record { begun = true; from = from; head = record { slots = s; bridges = b; busy = busy; presets = ps } }
-
 abbrev headWith : ℕ → ℕ → List ℕ → List Preset → Head
-headWith s b busy ps = record { slots = s; bridges = b; busy = busy; presets = ps }
+headWith s b busy ps = withPresets (withBusy (bareHead s b) busy) ps
+
+-- under way: the frame line was read
+abbrev under : ℕ → ℕ → Stage → List ℕ → List Preset → SoFar
+under s b stage busy ps = record { stage = stage; head = headWith s b busy ps }
 
 then-reaches : {r : SoFar} {f : Form} {fs : List Form} {h : Head} → ends r f ≡ false → NoCause r f → Reaches (more r f) fs h → Reaches r (f ∷ fs) h
 then-reaches {r} {f} e c w =
-    record { so-far = w .so-far; passes = one-more e (of-no-cause r f c) (w .passes); begun = w .begun; head = w .head }
+    record { so-far = w .so-far; passes = one-more e (of-no-cause r f c) (w .passes); begins = w .begins; head = w .head }
 
 -- ---- presets
 
@@ -63,49 +63,49 @@ distinct-unused (x ∷ done) p ps e =
     other [] u q = ne-of (x .number) (p .number) (neither-left (eqb (x .number) (p .number)) (hasNumber (x .number) ps) u) q
     other (y ∷ l) u q = other l (neither-right (eqb (x .number) (y .number)) (hasNumber (x .number) (l ++ (p ∷ ps))) u) q
 
-presets-reach : (s b from : ℕ) (busy : List ℕ) (done ps : List Preset) → allInLimits ps ≡ true → allDistinct (done ++ ps) ≡ true
-    → length (done ++ ps) ≤ 32 → Reaches (under s b from busy done) (map presetLineOf ps) (headWith s b busy (done ++ ps))
-unfolding allInLimits more misplaced outside used full
-presets-reach s b from busy done [] l d n =
-    record { so-far = under s b from busy done; passes = no-more; begun = refl; head = rw append-nil refl }
-presets-reach s b from busy done (p ∷ ps) l d n =
+presets-reach : (s b : ℕ) (stage : Stage) (busy : List ℕ) (done ps : List Preset) → begun stage ≡ true → allInLimits ps ≡ true → allDistinct (done ++ ps) ≡ true
+    → length (done ++ ps) ≤ 32 → Reaches (under s b stage busy done) (map presetLine ps) (headWith s b busy (done ++ ps))
+unfolding allInLimits tried
+presets-reach s b stage busy done [] g l d n =
+    record { so-far = under s b stage busy done; passes = no-more; begins = g; head = rw append-nil refl }
+presets-reach s b stage busy done (p ∷ ps) g l d n =
     let snoc : done ++ (p ∷ []) ++ ps ≡ done ++ (p ∷ ps) = append-snoc done p ps in
     let few : length done < 32 = omega (arith, length-append done (p ∷ ps)) in
-    then-reaches {r = under s b from busy done} {f = presetLineOf p} refl
+    then-reaches {r = under s b stage busy done} {f = presetLine p} refl
     (record {
-      in-place = refl;
+      in-place = ap not g;
       in-limits = ap not (left-of (inLimits p) (allInLimits ps) l);
       unused = distinct-unused done p ps d;
       fits = leb-no 32 (length done) few;
     })
     (rw snoc at
-    (presets-reach s b from busy (done ++ (p ∷ [])) ps (right-of (inLimits p) (allInLimits ps) l) (rw snoc d) (rw snoc n)))
+    (presets-reach s b atPresets busy (done ++ (p ∷ [])) ps refl (right-of (inLimits p) (allInLimits ps) l) (rw snoc d) (rw snoc n)))
 
 -- ---- busy lines
 
 -- the line of one bridge, where the masks from it on are still to come
 busy-line : (s b from : ℕ) (done zs : List ℕ) (m : ℕ) (fs : List Form) (h : Head) → s ≤ 64 → from ≤ suc (length done) → m < 2 ^ s
     → (b ≤ length done → m ≡ 0)
-    → ((to : ℕ) → to ≤ suc (suc (length done)) → Reaches (under s b to (done ++ (m ∷ zs)) []) fs h)
-    → (o : Option Pairs) → stretches 64 1 m ≡ o → Reaches (under s b from (done ++ (0 ∷ zs)) []) (busyLineOf (suc (length done)) o ++ fs) h
-unfolding misplaced outside used full more
+    → ((to : ℕ) → to ≤ suc (suc (length done)) → Reaches (under s b (atBusy to) (done ++ (m ∷ zs)) []) fs h)
+    → (o : Option Pairs) → stretches 64 1 m ≡ o → Reaches (under s b (atBusy from) (done ++ (0 ∷ zs)) []) (busyLineOf (suc (length done)) o ++ fs) h
+unfolding tried
 busy-line s b from done zs m fs h top low below last-bridge go none e =
     let most : 2 ^ s ≤ 2 ^ 64 = pow-mono top in
     let zero : m ≡ 0 = no-stretches m (omega arith) e in
-    subst (λ (x : ℕ). Reaches (under s b from (done ++ (x ∷ zs)) []) fs h) zero (go from (omega arith))
+    subst (λ (x : ℕ). Reaches (under s b (atBusy from) (done ++ (x ∷ zs)) []) fs h) zero (go from (omega arith))
 busy-line s b from done zs m fs h top low below last-bridge go (some p) e =
     let i = length done in
     let at : i ≡ suc i - 1 = omega arith in
     let written : set (done ++ (0 ∷ zs)) (suc i - 1) (maskOf p) ≡ done ++ (m ∷ zs) =
     set-at done 0 zs (maskOf p) (suc i - 1) at ∙ ap (λ (x : ℕ). done ++ (x ∷ zs)) (mask-stretches s m p top below e) in
-    then-reaches {r = under s b from (done ++ (0 ∷ zs)) []} {f = busyLine (suc i) p} refl
+    then-reaches {r = under s b (atBusy from) (done ++ (0 ∷ zs)) []} {f = busyLine (suc i) p} refl
     (record {
       in-place = ltb-no (suc i) from low;
       in-limits = rw (of-within 1 b (suc i) (omega arith) (inside (is (ltb i b))), stretches-ordered s m p top below e) refl;
       unused = refl;
       fits = refl;
     })
-    (subst (λ (k : List ℕ). Reaches (under s b (suc (suc i)) k []) fs h) (sym written) (go (suc (suc i)) (le-refl (suc (suc i)))))
+    (subst (λ (k : List ℕ). Reaches (under s b (atBusy (suc (suc i))) k []) fs h) (sym written) (go (suc (suc i)) (le-refl (suc (suc i)))))
   where
     inside : Is (ltb (length done) b) → length done < b
     inside (is-true q) = lt-of (length done) b q
@@ -120,48 +120,48 @@ zeros ms = replicate (length ms) 0
 busy-cons : (s b m : ℕ) (ms done : List ℕ) (from : ℕ) (rest : List Form) (h : Head) → s ≤ 64 → from ≤ suc (length done) → m < 2 ^ s
     → (b ≤ length done → m ≡ 0)
     → ((to : ℕ) → to ≤ suc (suc (length done))
-    → Reaches (under s b to (done ++ (m ∷ zeros ms)) []) (busyLines (suc (suc (length done))) ms ++ rest) h)
-    → Reaches (under s b from (done ++ zeros (m ∷ ms)) []) (busyLines (suc (length done)) (m ∷ ms) ++ rest) h
+    → Reaches (under s b (atBusy to) (done ++ (m ∷ zeros ms)) []) (busyLines (suc (suc (length done))) ms ++ rest) h)
+    → Reaches (under s b (atBusy from) (done ++ zeros (m ∷ ms)) []) (busyLines (suc (length done)) (m ∷ ms) ++ rest) h
 unfolding busyLines zeros
 busy-cons s b m ms done from rest h top low below last-bridge later =
-    subst (λ (fs : List Form). Reaches (under s b from (done ++ (0 ∷ zeros ms)) []) fs h)
+    subst (λ (fs : List Form). Reaches (under s b (atBusy from) (done ++ (0 ∷ zeros ms)) []) fs h)
     (sym (append-assoc (busyLineOf (suc (length done)) (stretches 64 1 m)) (busyLines (suc (suc (length done))) ms) rest))
     (busy-line s b from done (zeros ms) m (busyLines (suc (suc (length done))) ms ++ rest) h top low below last-bridge later (stretches 64 1 m) refl)
 
 -- one mask more is done
 busy-moved : (s b m to : ℕ) (ms done : List ℕ) (rest : List Form) (h : Head)
-    → Reaches (under s b to (done ++ (m ∷ []) ++ zeros ms) []) (busyLines (suc (length (done ++ (m ∷ [])))) ms ++ rest) h
-    → Reaches (under s b to (done ++ (m ∷ zeros ms)) []) (busyLines (suc (suc (length done))) ms ++ rest) h
+    → Reaches (under s b (atBusy to) (done ++ (m ∷ []) ++ zeros ms) []) (busyLines (suc (length (done ++ (m ∷ [])))) ms ++ rest) h
+    → Reaches (under s b (atBusy to) (done ++ (m ∷ zeros ms)) []) (busyLines (suc (suc (length done))) ms ++ rest) h
 busy-moved s b m to ms done rest h w =
     let n : length (done ++ (m ∷ [])) ≡ suc (length done) = omega (arith, length-append done (m ∷ [])) in
-    subst (λ (k : ℕ). Reaches (under s b to (done ++ (m ∷ zeros ms)) []) (busyLines (suc k) ms ++ rest) h) n
-    (subst (λ (k : List ℕ). Reaches (under s b to k []) (busyLines (suc (length (done ++ (m ∷ [])))) ms ++ rest) h) (append-snoc done m (zeros ms)) w)
+    subst (λ (k : ℕ). Reaches (under s b (atBusy to) (done ++ (m ∷ zeros ms)) []) (busyLines (suc k) ms ++ rest) h) n
+    (subst (λ (k : List ℕ). Reaches (under s b (atBusy to) k []) (busyLines (suc (length (done ++ (m ∷ [])))) ms ++ rest) h) (append-snoc done m (zeros ms)) w)
 
 busy-reach : (s b : ℕ) (ms done : List ℕ) (from : ℕ) (rest : List Form) (h : Head) → s ≤ 64 → from ≤ suc (length done)
     → ((i : ℕ) → getD ms i 0 < 2 ^ s) → ((i : ℕ) → b ≤ length done + i → getD ms i 0 ≡ 0)
-    → ((to : ℕ) → Reaches (under s b to (done ++ ms) []) rest h)
-    → Reaches (under s b from (done ++ zeros ms) []) (busyLines (suc (length done)) ms ++ rest) h
+    → ((to : ℕ) → Reaches (under s b (atBusy to) (done ++ ms) []) rest h)
+    → Reaches (under s b (atBusy from) (done ++ zeros ms) []) (busyLines (suc (length done)) ms ++ rest) h
 busy-reach s b [] done from rest h top low f g k = unfold busyLines zeros in (k from)
 busy-reach s b (m ∷ ms) done from rest h top low f g k =
     busy-cons s b m ms done from rest h top low (f 0) (λ q. g 0 (omega arith))
     (λ to l. busy-moved s b m to ms done rest h
     (busy-reach s b ms (done ++ (m ∷ [])) to rest h top (omega (arith, length-append done (m ∷ []))) (λ i. f (suc i))
     (λ i q. g (suc i) (omega (arith, length-append done (m ∷ []))))
-    (λ x. subst (λ (k : List ℕ). Reaches (under s b x k []) rest h) (sym (append-snoc done m ms)) (k x))))
+    (λ x. subst (λ (k : List ℕ). Reaches (under s b (atBusy x) k []) rest h) (sym (append-snoc done m ms)) (k x))))
 
 -- ---- the whole head
 
 forms-reach : (h : Head) → Valid h → Reaches begin (formsOf h) h
-unfolding zeros formsOf more misplaced outside used full
+unfolding zeros formsOf tried
 forms-reach h v =
     let p = parts-valid h v in
     let none-yet : zeros (h .busy) ≡ replicate 8 0 = ap (λ (n : ℕ). replicate {A = ℕ} n 0) (v .masks) in
     then-reaches {r = begin} {f = frameLine (h .slots) (h .bridges)} refl
     (record { in-place = refl; in-limits = rw (p .slots, p .bridges) refl; unused = refl; fits = refl })
-    (subst (λ (k : List ℕ). Reaches (under (h .slots) (h .bridges) 0 k []) (busyLines 1 (h .busy) ++ map presetLineOf (h .presets)) h) none-yet
-    (busy-reach (h .slots) (h .bridges) (h .busy) [] 0 (map presetLineOf (h .presets)) h (v .slots-high) (omega arith) (v .in-frame)
+    (subst (λ (k : List ℕ). Reaches (under (h .slots) (h .bridges) (atBusy 0) k []) (busyLines 1 (h .busy) ++ map presetLine (h .presets)) h) none-yet
+    (busy-reach (h .slots) (h .bridges) (h .busy) [] 0 (map presetLine (h .presets)) h (v .slots-high) (omega arith) (v .in-frame)
     (λ i l. v .no-bridge i (omega arith))
-    (λ to. presets-reach (h .slots) (h .bridges) to (h .busy) [] (h .presets) (p .limits) (p .distinct) (p .number))))
+    (λ to. presets-reach (h .slots) (h .bridges) (atBusy to) (h .busy) [] (h .presets) refl (p .limits) (p .distinct) (p .number))))
 
 -- the text of a valid head reads to that head, and all its lines are the head's
 pub written-read : (h : Head) → Valid h → headOf (textOf h) ≡ accepted h (length (formsOf h))
@@ -169,7 +169,7 @@ unfolding textOf
 written-read h v =
     let w = forms-reach h v in
     let fits : length (textOf h) ≤ 8192 = text-fits h v in
-    means-headOf (by-lines (omega arith) (lines-prints (formsOf h) ∙ sym (append-nil (map print (formsOf h)))) (w .passes) (at-end (w .begun)))
+    means-headOf (by-lines (omega arith) (lines-prints (formsOf h) ∙ sym (append-nil (map print (formsOf h)))) (w .passes) (at-end (w .begins)))
     ∙ ap (λ (k : Head). accepted k (length (formsOf h))) (w .head)
 
 -- "The head has one text only": no two heads have the same

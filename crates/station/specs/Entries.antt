@@ -9,6 +9,7 @@ use mathlib.Core.Option.{Option}
 use mathlib.Core.List.{List, [], _∷_}
 use lib.ListN.{length}
 use lib.Dec.{ltb}
+use Rattle.station.specs.Limits.{mostBytes, leastRecords}
 use Rattle.station.specs.declared.types.Preset.{Preset}
 use Rattle.station.specs.declared.types.Head.{Head}
 use Rattle.station.specs.declared.types.Refusal as code
@@ -27,7 +28,7 @@ use Rattle.station.specs.WriteHead.{Answer, answerIn, writeCauses, answe
 
 -- "preset list below 32 records": 8; then the causes of writing a head
 abbrev pub entryCauses : ℕ → Head → List Preset → List ℕ → List (Option Refusal)
-entryCauses records h ps out = try tooShort (ltb records 32) ∷ writeCauses h ps out
+entryCauses records h ps out = try tooShort (ltb records leastRecords) ∷ writeCauses h ps out
 
 -- the answer for a list of so many records
 abbrev pub entryAnswer : ℕ → Head → List Preset → List ℕ → Answer
@@ -46,7 +47,7 @@ pub record WroteEntry (records : ℕ) (h : Head) (ps : List Preset) (out : List 
 
 -- How the head of a text reads where the list has so many records: "Tried in the order 10, 8, ..", both at line 0, and then the head's causes.
 abbrev pub entryReading : ℕ → List ℕ → Reading
-entryReading records t = unless (firstOf (try textTooLong (ltb 32768 (length t)) ∷ try tooShort (ltb records 32) ∷ [])) 0 (headOf t)
+entryReading records t = unless (firstOf (try textTooLong (ltb mostBytes (length t)) ∷ try tooShort (ltb records leastRecords) ∷ [])) 0 (headOf t)
 
 -- what reading a head answers and leaves of the head record and of the list
 abbrev pub entryRead : ℕ → List ℕ → Head → List Preset → HeadRead

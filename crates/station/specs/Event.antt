@@ -5,6 +5,7 @@ use mathlib.Core.Option.{Option, none, some}
 use mathlib.Core.List.{List}
 use lib.ListN.{length}
 use lib.Dec.{leb}
+use Rattle.station.specs.Limits.{mostJobs}
 use Rattle.station.specs.Head as meant
 use Rattle.station.specs.Form.{Form, frameLine, busyLine, presetLine, clockLine, callLine, jobsOf}
 use Rattle.station.specs.method.Numeral.{seen}
@@ -29,18 +30,18 @@ pickEvent false a b = b
 
 -- "jobs in a call: from 1 to 8", which a form has at least, and each within its limits; else "a value .. outside its limits", "a ninth job in a call"
 abbrev pub callInLimits : List meant.Job → Bool
-callInLimits l = leb (length l) 8 && jobsInLimits l
+callInLimits l = leb (length l) mostJobs && jobsInLimits l
 
 -- A call: its jobs first in the array and zeros after them, or its refusal.
 abbrev pub callMeant : List meant.Job → EventRead
-callMeant l = pickEvent (callInLimits l) (record { event = Place (length l); jobs = padded 8 l }) (fault refusal.OutOfLimits)
+callMeant l = pickEvent (callInLimits l) (record { event = Place (length l); jobs = padded mostJobs l }) (fault refusal.OutOfLimits)
 
 -- The event of a line: "a line that is not one of the five forms" is refused; "A head line after an event is out of place"; a clock; a call.
 abbrev pub eventIn : Option Form → EventRead
 eventIn none = fault refusal.NoForm
 eventIn (some (frameLine s b)) = fault refusal.OutOfPlace
 eventIn (some (busyLine b p)) = fault refusal.OutOfPlace
-eventIn (some (presetLine n p m o)) = fault refusal.OutOfPlace
+eventIn (some (presetLine p)) = fault refusal.OutOfPlace
 eventIn (some (clockLine t)) = record { event = SetClock (seen t); jobs = noJobs }
 eventIn (some (callLine p)) = callMeant (jobsOf p)
 
@@ -48,7 +49,7 @@ eventIn (some (callLine p)) = callMeant (jobsOf p)
 
 -- the jobs of a call that has its form
 abbrev pub callEvent : Jobs → EventRead
-callEvent j = pickEvent (leb (j .count) 8 && j .fit) (record { event = Place (j .count); jobs = j .jobs }) (fault refusal.OutOfLimits)
+callEvent j = pickEvent (leb (j .count) mostJobs && j .fit) (record { event = Place (j .count); jobs = j .jobs }) (fault refusal.OutOfLimits)
 
 -- any other line; no call is among them, so that it does not matter what is said of one
 abbrev pub lineEvent : Line → EventRead

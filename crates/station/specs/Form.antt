@@ -6,51 +6,62 @@ use mathlib.Core.Option.{Option, none, some}
 use mathlib.Core.List.{List, [], _∷_}
 use lib.ListN.{length, take, drop}
 use lib.Dec.{eqb}
-use Rattle.station.specs.Head.{Job}
+use Rattle.station.specs.Head.{Job, Preset, presetOf, jobOf}
 use Rattle.station.specs.Text.{bytes, _then_}
 use Rattle.station.specs.Decimal.{digits, digitCount, plain, value}
 
--- At least one bracket of two numbers: the stretches of a busy line, "at least one stretch", or the jobs of a call.
+-- the stretches of a busy line, each of two slots: "At least one stretch"
 pub data Pairs : Type 0 where
   last : ℕ → ℕ → Pairs
   next : ℕ → ℕ → Pairs → Pairs
+
+-- the jobs of a call: at least one, since "A call or busy line without any bracket in it lacks its form"
+pub data CallJobs : Type 0 where
+  lastJob : Job → CallJobs
+  nextJob : Job → CallJobs → CallJobs
 
 -- The five forms, with their numbers as they stand: whether a value is within its limits is not the form's matter.
 pub data Form : Type 0 where
   frameLine : ℕ → ℕ → Form  -- `(frame S B)`
   busyLine : ℕ → Pairs → Form  -- `(busy b (f t) (f t))`
-  presetLine : ℕ → ℕ → ℕ → ℕ → Form  -- `(preset n p m o)`
+  presetLine : Preset → Form  -- `(preset n p m o)`
   clockLine : ℕ → Form  -- `(clock t)`
-  callLine : Pairs → Form  -- `(call (n c) (n c))`
+  callLine : CallJobs → Form  -- `(call (n c) (n c))`
 
 -- "Events follow: `(clock t)` and `(call (n c) (n c))`."
 abbrev pub isEvent : Form → Bool
 isEvent (frameLine s b) = false
 isEvent (busyLine b p) = false
-isEvent (presetLine n p m o) = false
+isEvent (presetLine p) = false
 isEvent (clockLine t) = true
-isEvent (callLine p) = true
+isEvent (callLine js) = true
 
 -- "A call is a list of jobs, each with a number and a length c."
-unfoldable pub jobsOf : Pairs → List Job
-jobsOf (last n c) = record { number = n; slots = c } ∷ []
-jobsOf (next n c p) = record { number = n; slots = c } ∷ jobsOf p
+unfoldable pub jobsOf : CallJobs → List Job
+jobsOf (lastJob j) = j ∷ []
+jobsOf (nextJob j js) = j ∷ jobsOf js
 
 -- ---- the text of a form: "Nested brackets, one form a line, each line ended by byte 10. One blank parts two items."
 
--- the brackets of a line, and its end
+-- the stretches of a busy line, and its end
 unfoldable pub brackets : Pairs → List ℕ
 brackets (last m n) = bytes "(" then digits m then bytes " " then digits n then bytes "))\n"
 brackets (next m n p) = bytes "(" then digits m then bytes " " then digits n then bytes ") " then brackets p
+
+-- the jobs of a call, and its end
+unfoldable pub jobBrackets : CallJobs → List ℕ
+jobBrackets (lastJob j) = bytes "(" then digits (j .number) then bytes " " then digits (j .slots) then bytes "))\n"
+jobBrackets (nextJob j js) = bytes "(" then digits (j .number) then bytes " " then digits (j .slots) then bytes ") " then jobBrackets js
 
 -- the one text of a form, byte 10 included
 unfoldable pub print : Form → List ℕ
 print (frameLine s b) = bytes "(frame " then digits s then bytes " " then digits b then bytes ")\n"
 print (busyLine b p) = bytes "(busy " then digits b then bytes " " then brackets p
-print (presetLine n p m o) =
-    bytes "(preset " then digits n then bytes " " then digits p then bytes " " then digits m then bytes " " then digits o then bytes ")\n"
+print (presetLine p) =
+    bytes "(preset " then digits (p .number) then bytes " " then digits (p .priority) then bytes " " then digits (p .mandatory) then bytes " "
+    then digits (p .optional) then bytes ")\n"
 print (clockLine t) = bytes "(clock " then digits t then bytes ")\n"
-print (callLine p) = bytes "(call " then brackets p
+print (callLine js) = bytes "(call " then jobBrackets js
 
 -- ---- the recogniser: each reader hands on what is left
 
@@ -100,6 +111,22 @@ bracketsIn (suc k) l =
 unfoldable pub readBrackets : List ℕ → Option Pairs
 readBrackets l = bracketsIn (length l) l
 
+-- one more job before the others
+abbrev pub alsoJob : Job → Option CallJobs → Option CallJobs
+alsoJob j none = none
+alsoJob j (some js) = some (nextJob j js)
+
+-- k jobs at most, and the end of the line
+unfoldable pub jobListIn : ℕ → List ℕ → Option CallJobs
+jobListIn zero l = none
+jobListIn (suc k) l =
+    word (bytes "(") l (λ l₁. number l₁ (λ n l₂. word (bytes " ") l₂ (λ l₃. number l₃ (λ c l₄.
+    word (bytes "))\n") l₄ (whole (lastJob (jobOf n c))) orElse word (bytes ") ") l₄ (λ l₅. alsoJob (jobOf n c) (jobListIn k l₅))))))
+
+-- as for stretches
+unfoldable pub readJobs : List ℕ → Option CallJobs
+readJobs l = jobListIn (length l) l
+
 -- what f makes of what was read, if it was
 abbrev pub made : {A B : Type 0} → (A → B) → Option A → Option B
 made f none = none
@@ -118,7 +145,7 @@ busyIn l = word (bytes "(busy ") l (λ l₁. number l₁ (λ b l₂. word (bytes
 unfoldable pub presetIn : List ℕ → Option Form
 presetIn l =
     word (bytes "(preset ") l (λ l₁. number l₁ (λ n l₂. word (bytes " ") l₂ (λ l₃. number l₃ (λ p l₄. word (bytes " ") l₄ (λ l₅. number l₅ (λ m l₆.
-    word (bytes " ") l₆ (λ l₇. number l₇ (λ o l₈. word (bytes ")\n") l₈ (whole (presetLine n p m o))))))))))
+    word (bytes " ") l₆ (λ l₇. number l₇ (λ o l₈. word (bytes ")\n") l₈ (whole (presetLine (presetOf n p m o)))))))))))
 
 -- `(clock t)`
 unfoldable pub clockIn : List ℕ → Option Form
@@ -126,7 +153,7 @@ clockIn l = word (bytes "(clock ") l (λ l₁. number l₁ (λ t l₂. word (byt
 
 -- `(call (n c) (n c))`; "A call or busy line without any bracket in it lacks its form."
 unfoldable pub callIn : List ℕ → Option Form
-callIn l = word (bytes "(call ") l (λ l₁. made callLine (readBrackets l₁))
+callIn l = word (bytes "(call ") l (λ l₁. made callLine (readJobs l₁))
 
 -- The form of a line, byte 10 included; none is "a line that is not one of the five forms, or lacks its end".
 unfoldable pub form : List ℕ → Option Form

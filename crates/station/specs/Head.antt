@@ -5,8 +5,9 @@ use Prim.Native.Nat.{ℕ, zero, suc, _≤_, _<_, _/_, _%_, _^_}
 use mathlib.Core.Path.{_≡_}
 use mathlib.Core.Bool.{Bool, true, false, not, _&&_, _||_}
 use mathlib.Core.List.{List, [], _∷_}
-use lib.ListN.{length, getD}
+use lib.ListN.{length, getD, replicate}
 use lib.Dec.{eqb, ltb, leb}
+use Rattle.station.specs.Limits.{mostSlots, mostBridges, mostPresets, worstPriority, mostMandatory, mostOptional, mostNumber}
 
 -- "A preset has a number, a priority (0 is best), m required slots and o refinement slots."
 pub record Preset : Type 0 where
@@ -28,6 +29,10 @@ pub record Job : Type 0 where
   pub number : ℕ
   pub slots : ℕ
 
+-- "each with a number and a length c"
+abbrev pub jobOf : ℕ → ℕ → Job
+jobOf n c = record { number = n; slots = c }
+
 -- bit s of a mask
 abbrev pub taken : ℕ → ℕ → Bool
 taken mask s = eqb (mask / 2 ^ s % 2) 1
@@ -36,32 +41,52 @@ taken mask s = eqb (mask / 2 ^ s % 2) 1
 abbrev pub busyAt : Head → ℕ → ℕ → Bool
 busyAt h s b = taken (getD (h .busy) b 0) s
 
+-- "number, priority, required, refinement"
+abbrev pub presetOf : ℕ → ℕ → ℕ → ℕ → Preset
+presetOf n p m o = record { number = n; priority = p; mandatory = m; optional = o }
+
 -- what stands past the last preset: no preset at all
 abbrev pub noPreset : Preset
-noPreset = record { number = 0; priority = 0; mandatory = 0; optional = 0 }
+noPreset = presetOf 0 0 0 0
 
 -- the preset of line i, counted from 0
 abbrev pub presetAt : Head → ℕ → Preset
 presetAt h i = getD (h .presets) i noPreset
 
+-- ---- heads made from heads
+
+-- a frame with nothing busy and no presets
+abbrev pub bareHead : ℕ → ℕ → Head
+bareHead slots bridges = record { slots = slots; bridges = bridges; busy = replicate mostBridges 0; presets = [] }
+
+-- the head with other masks
+abbrev pub withBusy : Head → List ℕ → Head
+withBusy h busy = record { slots = h .slots; bridges = h .bridges; busy = busy; presets = h .presets }
+
+-- the head with other presets
+abbrev pub withPresets : Head → List Preset → Head
+withPresets h ps = record { slots = h .slots; bridges = h .bridges; busy = h .busy; presets = ps }
+
+-- ---- limits
+
 -- A preset within the limits of document 01's table.
 pub record InLimits (p : Preset) : Type 0 where
   pub number-low : 1 ≤ p .number
-  pub number-high : p .number ≤ 255
-  pub priority : p .priority ≤ 9
-  pub mandatory : p .mandatory ≤ 64
-  pub optional : p .optional ≤ 64
+  pub number-high : p .number ≤ mostNumber
+  pub priority : p .priority ≤ worstPriority
+  pub mandatory : p .mandatory ≤ mostMandatory
+  pub optional : p .optional ≤ mostOptional
 
 -- A head record that some text yields: within the limits, busy cells inside the frame only, no preset's number twice.
 pub record Valid (h : Head) : Type 0 where
   pub slots-low : 1 ≤ h .slots
-  pub slots-high : h .slots ≤ 64
+  pub slots-high : h .slots ≤ mostSlots
   pub bridges-low : 1 ≤ h .bridges
-  pub bridges-high : h .bridges ≤ 8
-  pub masks : length (h .busy) ≡ 8
+  pub bridges-high : h .bridges ≤ mostBridges
+  pub masks : length (h .busy) ≡ mostBridges
   pub in-frame : (b : ℕ) → getD (h .busy) b 0 < 2 ^ h .slots
   pub no-bridge : (b : ℕ) → h .bridges ≤ b → getD (h .busy) b 0 ≡ 0
-  pub number-of-presets : length (h .presets) ≤ 32
+  pub number-of-presets : length (h .presets) ≤ mostPresets
   pub limits : (i : ℕ) → i < length (h .presets) → InLimits (presetAt h i)
   pub distinct : (i j : ℕ) → j < i → i < length (h .presets) → presetAt h j .number ≡ presetAt h i .number → ⊥
 
@@ -71,9 +96,13 @@ pub record Valid (h : Head) : Type 0 where
 abbrev pub within : ℕ → ℕ → ℕ → Bool
 within lo hi n = leb lo n && leb n hi
 
+-- the numbers of slots and bridges of a frame
+abbrev pub frameInLimits : ℕ → ℕ → Bool
+frameInLimits slots bridges = within 1 mostSlots slots && within 1 mostBridges bridges
+
 -- `InLimits` as a test
 abbrev pub inLimits : Preset → Bool
-inLimits p = within 1 255 (p .number) && leb (p .priority) 9 && leb (p .mandatory) 64 && leb (p .optional) 64
+inLimits p = within 1 mostNumber (p .number) && leb (p .priority) worstPriority && leb (p .mandatory) mostMandatory && leb (p .optional) mostOptional
 
 -- some preset of the list has the number n
 unfoldable pub hasNumber : ℕ → List Preset → Bool
@@ -99,5 +128,5 @@ masksIn (suc k) w (m ∷ ms) = ltb m w && masksIn k w ms
 -- `Valid` as a test
 unfoldable pub valid : Head → Bool
 valid h =
-    within 1 64 (h .slots) && within 1 8 (h .bridges) && eqb (length (h .busy)) 8 && masksIn (h .bridges) (2 ^ h .slots) (h .busy)
-    && leb (length (h .presets)) 32 && allInLimits (h .presets) && allDistinct (h .presets)
+    within 1 mostSlots (h .slots) && within 1 mostBridges (h .bridges) && eqb (length (h .busy)) mostBridges && masksIn (h .bridges) (2 ^ h .slots) (h .busy)
+    && leb (length (h .presets)) mostPresets && allInLimits (h .presets) && allDistinct (h .presets)

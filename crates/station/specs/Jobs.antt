@@ -3,6 +3,7 @@
 use Prim.Native.Nat.{ℕ, zero, suc}
 use mathlib.Core.Bool.{Bool, true, _&&_}
 use mathlib.Core.List.{List, [], _∷_}
+use Rattle.station.specs.Limits.{mostJobs, mostLength, mostNumber}
 use Rattle.station.specs.Head as meant
 use Rattle.station.specs.Head.{within}
 use Rattle.station.specs.method.Numeral.{seen}
@@ -10,7 +11,7 @@ use Rattle.station.specs.declared.types.Job.{Job}
 
 -- "c: from 1 to 64; preset or job number: from 1 to 255"
 abbrev pub jobInLimits : meant.Job → Bool
-jobInLimits j = within 1 255 (j .number) && within 1 64 (j .slots)
+jobInLimits j = within 1 mostNumber (j .number) && within 1 mostLength (j .slots)
 
 -- every job is within its limits
 unfoldable pub jobsInLimits : List meant.Job → Bool
@@ -33,4 +34,4 @@ padded (suc k) (j ∷ l) = jobSeen j ∷ padded k l
 
 -- no job: eight times zeros
 abbrev pub noJobs : List Job
-noJobs = padded 8 []
+noJobs = padded mostJobs []

@@ -2,12 +2,13 @@
 -- Assumes nothing.
 use Prim.Native.Nat.{ℕ, suc, _-_, _≤_, _<_}
 use mathlib.Core.Path.{_≡_}
-use mathlib.Core.Bool.{Bool, true, false, cond, not, _&&_, _||_}
+use mathlib.Core.Bool.{Bool, true, false, cond, not, _&&_}
 use mathlib.Core.Option.{Option, none, some}
 use mathlib.Core.List.{List, [], _∷_, _++_, map}
-use lib.ListN.{length, set, replicate}
+use lib.ListN.{length, set}
 use lib.Dec.{ltb, leb}
-use Rattle.station.specs.Head.{Head, Preset, within, inLimits, hasNumber}
+use Rattle.station.specs.Limits.{mostPresets, mostBytes}
+use Rattle.station.specs.Head.{Head, bareHead, withBusy, withPresets, within, frameInLimits, inLimits, hasNumber}
 use Rattle.station.specs.Refusal.{Refusal, noForm, outOfLimits, outOfPlace, numberUsed, tooMany, textTooLong, try, firstOf}
 use Rattle.station.specs.Text.{lines}
 use Rattle.station.specs.Form.{Form, frameLine, busyLine, presetLine, clockLine, callLine, isEvent, print, form}
@@ -18,84 +19,86 @@ pub data Reading : Type 0 where
   accepted : Head → ℕ → Reading
   refused : ℕ → Refusal → Reading
 
--- What the lines read so far make: whether the frame line was read, the least bridge that a busy line may have here, the head.
+-- How far a head was read, "in this order": at the frame line; at the busy lines, the next with this bridge at the least; at the presets.
+pub data Stage : Type 0 where
+  atFrame : Stage
+  atBusy : ℕ → Stage
+  atPresets : Stage
+
+-- the frame line was read
+abbrev pub begun : Stage → Bool
+begun atFrame = false
+begun (atBusy b) = true
+begun atPresets = true
+
+-- What the lines read so far make: the stage, and the head.
 pub record SoFar : Type 0 where
-  pub begun : Bool
-  pub from : ℕ
+  pub stage : Stage
   pub head : Head
 
 -- before line 1: no frame yet, and nothing of a head
 abbrev pub begin : SoFar
-begin = record { begun = false; from = 0; head = record { slots = 0; bridges = 0; busy = []; presets = [] } }
+begin = record { stage = atFrame; head = bareHead 0 0 }
 
 -- ---- the causes of a line with a form, each from its row of the table
 
--- "a form out of its place; no frame on line 1": the frame "once, on line 1"; the busy lines before the presets, "Bridges ascend from line to
--- line; one that does not is out of its place"
-unfoldable pub misplaced : SoFar → Form → Bool
-misplaced r (frameLine s b) = r .begun
-misplaced r (busyLine b p) = not (r .begun) || ltb 0 (length (r .head .presets)) || ltb b (r .from)
-misplaced r (presetLine n p m o) = not (r .begun)
-misplaced r (clockLine t) = not (r .begun)
-misplaced r (callLine p) = not (r .begun)
+-- a busy line of bridge b: before the presets, and "Bridges ascend from line to line; one that does not is out of its place"
+abbrev pub busyMisplaced : Stage → ℕ → Bool
+busyMisplaced atFrame b = true
+busyMisplaced (atBusy least) b = ltb b least
+busyMisplaced atPresets b = true
 
--- "number, priority, required, refinement"
-abbrev pub presetOf : ℕ → ℕ → ℕ → ℕ → Preset
-presetOf n p m o = record { number = n; priority = p; mandatory = m; optional = o }
+-- What is tried of a line with a form after what was read so far, each from its row of the table, and what the lines make with it where no cause holds.
+pub record Tried : Type 0 where
+  pub misplaced : Bool  -- "a form out of its place; no frame on line 1"
+  pub outside : Bool  -- "a value or busy stretch outside its limits, the frame included for b, f and t (m, o and c may exceed S)"
+  pub used : Bool  -- "a number already used"
+  pub full : Bool  -- "33rd preset"
+  pub next : SoFar
 
--- "a value or busy stretch outside its limits, the frame included for b, f and t (m, o and c may exceed S)"
-unfoldable pub outside : SoFar → Form → Bool
-outside r (frameLine s b) = not (within 1 64 s && within 1 8 b)
-outside r (busyLine b p) = not (within 1 (r .head .bridges) b && ordered 1 (r .head .slots) p)
-outside r (presetLine n p m o) = not (inLimits (presetOf n p m o))
-outside r (clockLine t) = false
-outside r (callLine p) = false
-
--- "a number already used"
-unfoldable pub used : SoFar → Form → Bool
-used r (frameLine s b) = false
-used r (busyLine b p) = false
-used r (presetLine n p m o) = hasNumber n (r .head .presets)
-used r (clockLine t) = false
-used r (callLine p) = false
-
--- "33rd preset"
-unfoldable pub full : SoFar → Form → Bool
-full r (frameLine s b) = false
-full r (busyLine b p) = false
-full r (presetLine n p m o) = leb 32 (length (r .head .presets))
-full r (clockLine t) = false
-full r (callLine p) = false
+-- One clause for each form: the frame "once, on line 1"; a busy line is its bridge's mask; a preset comes last in file order; an event after the frame line
+-- ends the head, so that of the causes it can meet only the first.
+unfoldable pub tried : SoFar → Form → Tried
+tried r (frameLine s b) = record {
+  misplaced = begun (r .stage);
+  outside = not (frameInLimits s b);
+  used = false;
+  full = false;
+  next = record { stage = atBusy 0; head = bareHead s b };
+}
+tried r (busyLine b p) = record {
+  misplaced = busyMisplaced (r .stage) b;
+  outside = not (within 1 (r .head .bridges) b && ordered 1 (r .head .slots) p);
+  used = false;
+  full = false;
+  next = record { stage = atBusy (suc b); head = withBusy (r .head) (set (r .head .busy) (b - 1) (maskOf p)) };
+}
+tried r (presetLine p) = record {
+  misplaced = not (begun (r .stage));
+  outside = not (inLimits p);
+  used = hasNumber (p .number) (r .head .presets);
+  full = leb mostPresets (length (r .head .presets));
+  next = record { stage = atPresets; head = withPresets (r .head) (r .head .presets ++ (p ∷ [])) };
+}
+tried r (clockLine t) = record { misplaced = not (begun (r .stage)); outside = false; used = false; full = false; next = r }
+tried r (callLine p) = record { misplaced = not (begun (r .stage)); outside = false; used = false; full = false; next = r }
 
 -- ---- "Tried in the order 10, 8, 11, 1, 3, 2, 4, 9": the order within a line that has a form, once
 
 -- the causes of a line that has a form, in the listed order: 3, 2, 4, 9
 abbrev pub causes : SoFar → Form → List (Option Refusal)
-causes r f = try outOfPlace (misplaced r f) ∷ try outOfLimits (outside r f) ∷ try numberUsed (used r f) ∷ try tooMany (full r f) ∷ []
+causes r f =
+    try outOfPlace (tried r f .misplaced) ∷ try outOfLimits (tried r f .outside) ∷ try numberUsed (tried r f .used) ∷ try tooMany (tried r f .full) ∷ []
 
 -- ---- line by line
 
 -- "The head ends before the first line that has an event's form"; on line 1 such a line is out of its place
 abbrev pub ends : SoFar → Form → Bool
-ends r f = isEvent f && r .begun
+ends r f = isEvent f && begun (r .stage)
 
--- What the lines make with one more, for which no cause holds: a busy line is its bridge's mask, a preset comes last in file order.
-unfoldable pub more : SoFar → Form → SoFar
-more r (frameLine s b) = record { begun = true; from = 0; head = record { slots = s; bridges = b; busy = replicate 8 0; presets = [] } }
-more r (busyLine b p) = record {
-  begun = r .begun;
-  from = suc b;
-  head =
-      record { slots = r .head .slots; bridges = r .head .bridges; busy = set (r .head .busy) (b - 1) (maskOf p); presets = r .head .presets };
-}
-more r (presetLine n p m o) = record {
-  begun = r .begun;
-  from = r .from;
-  head =
-      record { slots = r .head .slots; bridges = r .head .bridges; busy = r .head .busy; presets = r .head .presets ++ (presetOf n p m o ∷ []) };
-}
-more r (clockLine t) = r
-more r (callLine p) = r
+-- what the lines make with one more, for which no cause holds
+abbrev pub more : SoFar → Form → SoFar
+more r f = tried r f .next
 
 -- the refusal of line n, or the reading without one
 abbrev pub unless : Option Refusal → ℕ → Reading → Reading
@@ -104,7 +107,7 @@ unless (some c) n x = refused n c
 
 -- n lines were read and make r: the reading of the lines that are left
 unfoldable pub readFrom : ℕ → SoFar → List (Option Form) → Reading
-readFrom n r [] = cond (r .begun) (accepted (r .head) n) (refused 1 outOfPlace)
+readFrom n r [] = cond (begun (r .stage)) (accepted (r .head) n) (refused 1 outOfPlace)
 readFrom n r (none ∷ ls) = refused (suc n) noForm
 readFrom n r (some f ∷ ls) =
     let rest = readFrom (suc n) (more r f) ls in
@@ -114,7 +117,7 @@ readFrom n r (some f ∷ ls) =
 unfoldable pub headOf : List ℕ → Reading
 headOf t =
     let rest = readFrom 0 begin (map form (lines t)) in
-    cond (ltb 32768 (length t)) (refused 0 textTooLong) rest
+    cond (ltb mostBytes (length t)) (refused 0 textTooLong) rest
 
 -- ---- the same in the paper's words, without a method: proofs/Reading.antt shows that `headOf` is just this
 
@@ -127,7 +130,7 @@ pub data Passes : SoFar → List Form → SoFar → Type 0 where
 -- The n lines before made q: what decides is the end of the text, or the line that comes next.
 pub data Stops (n : ℕ) (q : SoFar) : List (List ℕ) → Reading → Type 0 where
   -- "The head ends .. with the text"
-  at-end : q .begun ≡ true → Stops n q [] (accepted (q .head) n)
+  at-end : begun (q .stage) ≡ true → Stops n q [] (accepted (q .head) n)
   -- "The head ends before the first line that has an event's form"
   at-event : {l : List ℕ} {ls : List (List ℕ)} {f : Form} → form l ≡ some f → ends q f ≡ true → Stops n q (l ∷ ls) (accepted (q .head) n)
   -- "a line that is not one of the five forms, or lacks its end"
@@ -139,9 +142,9 @@ pub data Stops (n : ℕ) (q : SoFar) : List (List ℕ) → Reading → Type 0 wh
 -- What the papers say of a text: how its head reads.
 pub data Means (t : List ℕ) : Reading → Type 0 where
   -- "text above 32,768 bytes"
-  too-long : 32768 < length t → Means t (refused 0 textTooLong)
+  too-long : mostBytes < length t → Means t (refused 0 textTooLong)
   -- "No text at all: 3 at line 1."
   no-text : t ≡ [] → Means t (refused 1 outOfPlace)
   -- lines without a fault, and then what decides
   by-lines : {fs : List Form} {q : SoFar} {ls : List (List ℕ)} {x : Reading}
-      → length t ≤ 32768 → lines t ≡ map print fs ++ ls → Passes begin fs q → Stops (length fs) q ls x → Means t x
+      → length t ≤ mostBytes → lines t ≡ map print fs ++ ls → Passes begin fs q → Stops (length fs) q ls x → Means t x

@@ -4,16 +4,17 @@
 use Prim.Native.Nat.{ℕ, min}
 use mathlib.Core.List.{List, _++_}
 use lib.ListN.{length, take, drop, replicate}
+use Rattle.station.specs.Limits.{mostPresets}
 use Rattle.station.specs.declared.types.Preset.{Preset}
 use Rattle.station.specs.Types.{noRecord}
 
 -- the first 32 records, and zeros where there are fewer
 abbrev pub loaded : List Preset → List Preset
-loaded ps = take 32 (ps ++ replicate 32 noRecord)
+loaded ps = take mostPresets (ps ++ replicate mostPresets noRecord)
 
 -- as many of n records as both a list and the bank have
 abbrev pub reach : List Preset → ℕ → ℕ
-reach ps n = min (min n 32) (length ps)
+reach ps n = min (min n mostPresets) (length ps)
 
 -- The list with the first n records of the bank at its front, as far as both have them. "Cells past S × B are never changed, nor are records past the
 -- last preset": what stands after those is as it was.

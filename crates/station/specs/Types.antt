@@ -3,8 +3,9 @@
 use Prim.Native.Nat.{ℕ}
 use mathlib.Core.Bool.{Bool, _&&_}
 use mathlib.Core.List.{List, map}
-use lib.ListN.{take}
+use lib.ListN.{take, replicate}
 use lib.Dec.{leb}
+use Rattle.station.specs.Limits.{mostBridges, mostPresets}
 use Rattle.station.specs.Head as head
 use Rattle.station.specs.Refusal as refusal
 use Rattle.station.specs.declared.types.Preset.{Preset}
@@ -57,10 +58,24 @@ presetsIn n ps = map presetIn (take n ps)
 abbrev pub jobIn : Job → head.Job
 jobIn j = record { number = j .number; slots = j .slots }
 
+-- ---- head records
+
+-- the record of a frame with nothing busy and no presets
+abbrev pub bareRecord : ℕ → ℕ → Head
+bareRecord slots bridges = record { slots = slots; bridges = bridges; busy = replicate mostBridges 0; count = 0 }
+
+-- the record with other masks
+abbrev pub withMasks : Head → List ℕ → Head
+withMasks h busy = record { slots = h .slots; bridges = h .bridges; busy = busy; count = h .count }
+
+-- the record with another number of presets
+abbrev pub withCount : Head → ℕ → Head
+withCount h count = record { slots = h .slots; bridges = h .bridges; busy = h .busy; count = count }
+
 -- the head of a record and its list of preset records
 abbrev pub headIn : Head → List Preset → head.Head
 headIn h ps = record { slots = h .slots; bridges = h .bridges; busy = h .busy; presets = presetsIn (h .count) ps }
 
 -- "a head record that no text yields" is one for which this is false
 abbrev pub validRecord : Head → List Preset → Bool
-validRecord h ps = leb (h .count) 32 && head.valid (headIn h ps)
+validRecord h ps = leb (h .count) mostPresets && head.valid (headIn h ps)

@@ -7,6 +7,7 @@ use mathlib.Core.Option.{Option, none, some}
 use mathlib.Core.List.{List, [], _∷_, _++_}
 use lib.ListN.{length, drop}
 use lib.Dec.{ltb}
+use Rattle.station.specs.Limits.{leastOutput}
 use Rattle.station.specs.declared.types.Preset.{Preset}
 use Rattle.station.specs.declared.types.Head.{Head}
 use Rattle.station.specs.declared.write.Writing.{Writing}
@@ -27,7 +28,7 @@ answerIn (Refused r) = refused (refusalIn r)
 
 -- The causes, in document 01's order: "output below 8,192 bytes, the frame's size regardless", 8, and "a head record that no text yields", 2.
 abbrev pub writeCauses : Head → List Preset → List ℕ → List (Option Refusal)
-writeCauses h ps out = try tooShort (ltb (length out) 8192) ∷ try outOfLimits (not (validRecord h ps)) ∷ []
+writeCauses h ps out = try tooShort (ltb (length out) leastOutput) ∷ try outOfLimits (not (validRecord h ps)) ∷ []
 
 -- the refusal, or the length n
 abbrev pub answerOf : Option Refusal → ℕ → Answer

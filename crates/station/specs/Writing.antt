@@ -6,7 +6,8 @@ use mathlib.Core.Bool.{Bool, false, cond, _&&_, _||_}
 use mathlib.Core.Option.{Option, none, some}
 use mathlib.Core.List.{List, [], _∷_, _++_, map}
 use lib.Dec.{eqb, leb}
-use Rattle.station.specs.Head.{Head, Preset, within}
+use Rattle.station.specs.Limits.{mostSlots}
+use Rattle.station.specs.Head.{Head, within}
 use Rattle.station.specs.Text.{join}
 use Rattle.station.specs.Form.{Pairs, last, next, Form, frameLine, busyLine, presetLine, clockLine, callLine, print}
 
@@ -54,15 +55,11 @@ busyLineOf b (some p) = busyLine b p ∷ []
 -- the busy lines of the bridges from b on: "Bridges ascend from line to line"
 unfoldable pub busyLines : ℕ → List ℕ → List Form
 busyLines b [] = []
-busyLines b (m ∷ ms) = busyLineOf b (stretches 64 1 m) ++ busyLines (suc b) ms
-
--- "`(preset n p m o)`: number, priority, required, refinement."
-abbrev pub presetLineOf : Preset → Form
-presetLineOf p = presetLine (p .number) (p .priority) (p .mandatory) (p .optional)
+busyLines b (m ∷ ms) = busyLineOf b (stretches mostSlots 1 m) ++ busyLines (suc b) ms
 
 -- the lines of a head, "in this order": the frame, the busy lines, the presets
 unfoldable pub formsOf : Head → List Form
-formsOf h = frameLine (h .slots) (h .bridges) ∷ (busyLines 1 (h .busy) ++ map presetLineOf (h .presets))
+formsOf h = frameLine (h .slots) (h .bridges) ∷ (busyLines 1 (h .busy) ++ map presetLine (h .presets))
 
 -- the text of a head
 unfoldable pub textOf : Head → List ℕ
@@ -79,7 +76,7 @@ covers (next f t p) x = within f t x || covers p x
 abbrev pub lineTakes : Form → ℕ → ℕ → Bool
 lineTakes (frameLine s c) b x = false
 lineTakes (busyLine c p) b x = eqb c b && covers p x
-lineTakes (presetLine n p m o) b x = false
+lineTakes (presetLine p) b x = false
 lineTakes (clockLine t) b x = false
 lineTakes (callLine p) b x = false
 

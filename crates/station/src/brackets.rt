@@ -1,5 +1,7 @@
 // The brackets of a busy line and of a call.
 use crate::check::job_in_limits;
+use crate::limits::MOST_JOBS;
+use crate::limits::MOST_SLOTS;
 use crate::numbers::closes_at;
 use crate::numbers::number_at;
 use crate::numbers::number_then;
@@ -10,7 +12,8 @@ ghost use mathlib.Core.Path.{_≡_};
 ghost use mathlib.Core.Bool.{false};
 ghost use Prim.Native.Nat.{_+_, _≤_, min};
 ghost use lib.ListN.{drop};
-ghost use Rattle.station.specs.Form.{readBrackets};
+ghost use Rattle.station.specs.Limits.{mostSlots};
+ghost use Rattle.station.specs.Form.{readBrackets, readJobs};
 ghost use Rattle.station.specs.method.Numeral.{seen};
 ghost use Rattle.station.specs.Jobs.{noJobs};
 ghost use Rattle.station.specs.Writing.{maskTo};
@@ -44,7 +47,7 @@ pub struct Jobs {
     pub found: bool,
     pub count: u32,
     pub fit: bool,
-    pub jobs: [Job; 8],
+    pub jobs: [Job; MOST_JOBS],
 }
 
 // What is handed back where no bracket was found.
@@ -111,7 +114,7 @@ fn not_ordered() -> Stretches
 
 // The mask of the slots from `first` to `last`, both included. It is put together so that it fits where `last` is 64.
 fn stretch_mask(first: u32, last: u32) -> u64
-    requires { ⌜ (1 ≤ first) × (first ≤ last) × (last ≤ 64) ⌝ }
+    requires { ⌜ (1 ≤ first) × (first ≤ last) × (last ≤ mostSlots) ⌝ }
     ensures { λ r. ⌜ r ≡ maskTo first last ⌝ }
 {
     let high: u64 = 1u64 << (last - 1);
@@ -121,7 +124,7 @@ fn stretch_mask(first: u32, last: u32) -> u64
 
 // The stretches with one more, in a frame of `slots` slots.
 fn with_stretch(s: Stretches, first: u32, last: u32, slots: u32) -> Stretches
-    requires { ⌜ MaskedSoFar s × (slots ≤ 64) ⌝ }
+    requires { ⌜ MaskedSoFar s × (slots ≤ mostSlots) ⌝ }
     ensures { λ r. ⌜ r ≡ stretched slots s first last ⌝ }
 {
     if !s.ordered {
@@ -145,14 +148,18 @@ fn with_stretch(s: Stretches, first: u32, last: u32, slots: u32) -> Stretches
 
 // The frame's slots as far as masks go.
 fn at_most_64(slots: usize) -> u32
-    ensures { λ r. ⌜ r ≡ min slots 64 ⌝ }
+    ensures { λ r. ⌜ r ≡ min slots mostSlots ⌝ }
 {
-    if slots < 64 { slots as u32 } else { 64 }
+    if slots < MOST_SLOTS {
+        slots as u32
+    } else {
+        MOST_SLOTS as u32
+    }
 }
 
 // The stretches from `at` to the end of the line, in a frame of `slots` slots, 64 at most.
 pub(crate) fn stretches_at(text: &[u8], at: usize, slots: usize) -> Taken
-    ensures { λ r. ⌜ r ≡ takenIn (min slots 64) (readBrackets (drop at (now (text .entry)))) ⌝ }
+    ensures { λ r. ⌜ r ≡ takenIn (min slots mostSlots) (readBrackets (drop at (now (text .entry)))) ⌝ }
 {
     let last = at_most_64(slots);
     let mut s = Stretches {
@@ -197,15 +204,15 @@ fn no_jobs() -> Jobs
         found: false,
         count: 0,
         fit: false,
-        jobs: [NO_JOB; 8],
+        jobs: [NO_JOB; MOST_JOBS],
     }
 }
 
 // The jobs from `at` to the end of the line.
 pub(crate) fn jobs_at(text: &[u8], at: usize) -> Jobs
-    ensures { λ r. ⌜ r ≡ jobsRead (readBrackets (drop at (now (text .entry)))) ⌝ }
+    ensures { λ r. ⌜ r ≡ jobsRead (readJobs (drop at (now (text .entry)))) ⌝ }
 {
-    let mut jobs = [NO_JOB; 8];
+    let mut jobs = [NO_JOB; MOST_JOBS];
     let mut count = 0;
     let mut fit = true;
     let mut i = at;
@@ -219,7 +226,7 @@ pub(crate) fn jobs_at(text: &[u8], at: usize) -> Jobs
             slots: b.second as u16,
         };
         fit = fit & job_in_limits(job);
-        if count < 8 {
+        if count < MOST_JOBS {
             jobs[count] = job;
         }
         count += 1;

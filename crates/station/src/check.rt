@@ -1,4 +1,12 @@
 // Limits: whether a job, a frame and a preset are within theirs, and whether a head record is one that some text yields.
+use crate::limits::MOST_BRIDGES;
+use crate::limits::MOST_LENGTH;
+use crate::limits::MOST_MANDATORY;
+use crate::limits::MOST_NUMBER;
+use crate::limits::MOST_OPTIONAL;
+use crate::limits::MOST_PRESETS;
+use crate::limits::MOST_SLOTS;
+use crate::limits::WORST_PRIORITY;
 use crate::types::Head;
 use crate::types::Job;
 use crate::types::Preset;
@@ -7,38 +15,42 @@ ghost use mathlib.Core.Path.{_≡_};
 ghost use mathlib.Core.Bool.{_&&_};
 ghost use lib.ListN.{length};
 ghost use lib.Dec.{eqb, ltb};
-ghost use Rattle.station.specs.Head.{within, inLimits, allInLimits, allDistinct, masksIn};
+ghost use Rattle.station.specs.Limits.{mostBridges, mostPresets};
+ghost use Rattle.station.specs.Head.{presetOf, frameInLimits, inLimits, allInLimits, allDistinct, masksIn};
 ghost use Rattle.station.specs.method.MaskTest.{maskIn};
 ghost use Rattle.station.specs.Types.{presetIn, presetsIn, jobIn, validRecord};
 ghost use Rattle.station.specs.Jobs.{jobInLimits};
-ghost use Rattle.station.specs.Reading.{presetOf};
 
 // A job's number and length are within their limits.
 pub fn job_in_limits(job: Job) -> bool
     ensures { λ r. ⌜ r ≡ jobInLimits (jobIn job) ⌝ }
 {
-    ((1 <= job.number) & (job.number <= 255)) & ((1 <= job.slots) & (job.slots <= 64))
+    ((1 <= job.number) & (job.number as u32 <= MOST_NUMBER))
+        & ((1 <= job.slots) & (job.slots <= MOST_LENGTH))
 }
 
 // A frame's numbers of slots and bridges are within their limits.
 pub(crate) fn frame_in_limits(slots: usize, bridges: usize) -> bool
-    ensures { λ r. ⌜ r ≡ (within 1 64 slots && within 1 8 bridges) ⌝ }
+    ensures { λ r. ⌜ r ≡ frameInLimits slots bridges ⌝ }
 {
-    ((1 <= slots) & (slots <= 64)) & ((1 <= bridges) & (bridges <= 8))
+    ((1 <= slots) & (slots <= MOST_SLOTS)) & ((1 <= bridges) & (bridges <= MOST_BRIDGES))
 }
 
 // The values of a preset, in a record or as they are read, are within their limits.
 pub(crate) fn preset_in_limits(number: u32, priority: u32, mandatory: u32, optional: u32) -> bool
     ensures { λ r. ⌜ r ≡ inLimits (presetOf number priority mandatory optional) ⌝ }
 {
-    ((1 <= number) & (number <= 255)) & (priority <= 9) & (mandatory <= 64) & (optional <= 64)
+    ((1 <= number) & (number <= MOST_NUMBER))
+        & (priority <= WORST_PRIORITY)
+        & (mandatory <= MOST_MANDATORY)
+        & (optional <= MOST_OPTIONAL)
 }
 
 // A mask has only slots of a frame of `slots` slots.
 fn mask_below(mask: u64, slots: usize) -> bool
     ensures { λ r. ⌜ r ≡ ltb mask (2 ^ slots) ⌝ }
 {
-    if 64 <= slots {
+    if MOST_SLOTS <= slots {
         return true;
     }
     mask >> slots == 0
@@ -55,11 +67,11 @@ fn mask_in(mask: u64, bridge: usize, bridges: usize, slots: usize) -> bool
 }
 
 // There are eight masks, and all have only cells of the frame.
-fn masks_in(busy: [u64; 8], bridges: usize, slots: usize) -> bool
-    ensures { λ r. ⌜ r ≡ (eqb (length busy) 8 && masksIn bridges (2 ^ slots) busy) ⌝ }
+fn masks_in(busy: [u64; MOST_BRIDGES], bridges: usize, slots: usize) -> bool
+    ensures { λ r. ⌜ r ≡ (eqb (length busy) mostBridges && masksIn bridges (2 ^ slots) busy) ⌝ }
 {
     let mut b = 0;
-    while b < 8 {
+    while b < MOST_BRIDGES {
         if !mask_in(busy[b], b, bridges, slots) {
             return false;
         }
@@ -81,8 +93,8 @@ fn record_in_limits(preset: Preset) -> bool
 }
 
 // The first `count` presets are within their limits.
-fn all_in_limits(presets: [Preset; 32], count: usize) -> bool
-    requires { ⌜ count ≤ 32 ⌝ }
+fn all_in_limits(presets: [Preset; MOST_PRESETS], count: usize) -> bool
+    requires { ⌜ count ≤ mostPresets ⌝ }
     ensures { λ r. ⌜ r ≡ allInLimits (presetsIn count presets) ⌝ }
 {
     let mut i = 0;
@@ -97,8 +109,8 @@ fn all_in_limits(presets: [Preset; 32], count: usize) -> bool
 }
 
 // No two of the first `count` presets have one number. They are walked from the last on, and each number met is marked.
-fn all_distinct(presets: [Preset; 32], count: usize) -> bool
-    requires { ⌜ count ≤ 32 ⌝ }
+fn all_distinct(presets: [Preset; MOST_PRESETS], count: usize) -> bool
+    requires { ⌜ count ≤ mostPresets ⌝ }
     ensures { λ r. ⌜ r ≡ allDistinct (presetsIn count presets) ⌝ }
 {
     let mut marks = [0u8; 256];
@@ -116,14 +128,14 @@ fn all_distinct(presets: [Preset; 32], count: usize) -> bool
 }
 
 // Some text yields the head record with the first of the preset records.
-pub fn valid_record(head: Head, presets: [Preset; 32]) -> bool
+pub fn valid_record(head: Head, presets: [Preset; MOST_PRESETS]) -> bool
     ensures { λ r. ⌜ r ≡ validRecord head presets ⌝ }
 {
     let slots = head.slots;
     let bridges = head.bridges;
     let busy = head.busy;
     let count = head.count;
-    if count > 32 {
+    if count > MOST_PRESETS {
         return false;
     }
     if !frame_in_limits(slots, bridges) {

@@ -7,6 +7,7 @@ use crate::entries::counted::bank_of;
 use crate::entries::counted::read_counted;
 use crate::entries::counted::write_counted;
 use crate::heads::ReadAnswer;
+use crate::limits::MOST_PRESETS;
 use crate::records::load;
 use crate::records::record_count;
 use crate::records::save;
@@ -42,6 +43,6 @@ pub fn read_head(text: &[u8], head: Head, presets: &mut [Preset]) -> HeadAnswer
     let records = record_count(presets);
     let bank = load(presets);
     let read = read_counted(records, text, head, bank);
-    save(presets, bank_of(read), 32);
+    save(presets, bank_of(read), MOST_PRESETS);
     answer_of(read)
 }

@@ -3,6 +3,8 @@ use crate::brackets::Jobs;
 use crate::brackets::jobs_at;
 use crate::forms::Line;
 use crate::forms::read_line;
+use crate::limits::MOST_JOBS;
+use crate::limits::MOST_SLOTS;
 use crate::numbers::starts_at;
 use crate::types::Job;
 use crate::types::NO_JOB;
@@ -22,7 +24,7 @@ pub enum Event {
 // An event, and its jobs, which are zeros past the last and where no jobs are to be placed.
 pub struct EventRead {
     pub event: Event,
-    pub jobs: [Job; 8],
+    pub jobs: [Job; MOST_JOBS],
 }
 
 // A refusal.
@@ -31,7 +33,7 @@ fn refused(cause: Refusal) -> EventRead
 {
     EventRead {
         event: Event::Fault(cause),
-        jobs: [NO_JOB; 8],
+        jobs: [NO_JOB; MOST_JOBS],
     }
 }
 
@@ -39,8 +41,8 @@ fn refused(cause: Refusal) -> EventRead
 fn call_event(list: Jobs) -> EventRead
     ensures { λ r. ⌜ r ≡ callEvent list ⌝ }
 {
-    let n = list.count;
-    if 8 < n {
+    let n = list.count as usize;
+    if MOST_JOBS < n {
         return refused(Refusal::OutOfLimits);
     }
     if !list.fit {
@@ -48,7 +50,7 @@ fn call_event(list: Jobs) -> EventRead
     }
     let jobs = list.jobs;
     EventRead {
-        event: Event::Place(n as usize),
+        event: Event::Place(n),
         jobs,
     }
 }
@@ -64,7 +66,7 @@ fn line_event(said: Line) -> EventRead
         Line::Preset(_, _, _, _) => refused(Refusal::OutOfPlace),
         Line::Clock(t) => EventRead {
             event: Event::SetClock(t),
-            jobs: [NO_JOB; 8],
+            jobs: [NO_JOB; MOST_JOBS],
         },
         Line::Call(_) => refused(Refusal::NoForm),
     }
@@ -77,7 +79,7 @@ pub fn read_event(line: &[u8]) -> EventRead
     ensures { λ r. ⌜ r ≡ eventIn (form (now (line .entry))) ⌝ }
 {
     if !starts_at(line, 0, b"(call ") {
-        let read = read_line(line, 64);
+        let read = read_line(line, MOST_SLOTS);
         let said = read.line;
         return line_event(said);
     }

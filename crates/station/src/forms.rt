@@ -1,6 +1,7 @@
 // The five forms of a line.
 use crate::brackets::jobs_at;
 use crate::brackets::stretches_at;
+use crate::limits::MOST_JOBS;
 use crate::numbers::number_last;
 use crate::numbers::number_then;
 use crate::numbers::starts_at;
@@ -8,6 +9,7 @@ use crate::types::Job;
 use crate::types::NO_JOB;
 ghost use mathlib.Core.Path.{_≡_};
 ghost use Prim.Native.Nat.{ℕ, min};
+ghost use Rattle.station.specs.Limits.{mostSlots};
 ghost use Rattle.station.specs.Form.{frameIn, busyIn, presetIn, clockIn, callIn, form};
 ghost use Rattle.station.specs.Jobs.{noJobs};
 ghost use Rattle.station.specs.method.ReadLine.{readIn, hasForm, headForm, eventForm};
@@ -26,7 +28,7 @@ pub enum Line {
 // A line, and the first eight jobs where it is a call.
 pub struct Read {
     pub line: Line,
-    pub jobs: [Job; 8],
+    pub jobs: [Job; MOST_JOBS],
 }
 
 // A line without jobs.
@@ -35,7 +37,7 @@ fn without_jobs(line: Line) -> Read
 {
     Read {
         line,
-        jobs: [NO_JOB; 8],
+        jobs: [NO_JOB; MOST_JOBS],
     }
 }
 
@@ -108,7 +110,7 @@ fn preset_line(line: &[u8]) -> Read
 
 // `(busy b (f t) (f t))` in a frame of `slots` slots, 64 at most
 fn busy_line(line: &[u8], slots: usize) -> Read
-    ensures { λ r. ⌜ r ≡ readIn (min slots 64) (busyIn (now (line .entry))) ⌝ }
+    ensures { λ r. ⌜ r ≡ readIn (min slots mostSlots) (busyIn (now (line .entry))) ⌝ }
 {
     if !starts_at(line, 0, b"(busy ") {
         return without_jobs(Line::NoForm);
@@ -159,7 +161,7 @@ fn has_form(line: Line) -> bool
 
 // A line of the head, in a frame of `slots` slots, 64 at most; `NoForm` where it is none.
 fn head_line(line: &[u8], slots: usize) -> Read
-    ensures { λ r. ⌜ r ≡ readIn (min slots 64) (headForm (now (line .entry))) ⌝ }
+    ensures { λ r. ⌜ r ≡ readIn (min slots mostSlots) (headForm (now (line .entry))) ⌝ }
 {
     let frame = frame_line(line);
     let f = frame.line;
@@ -188,7 +190,7 @@ fn event_line(line: &[u8]) -> Read
 
 // What a line says, byte 10 included, in a frame of `slots` slots, 64 at most; `NoForm` where it is none of the five forms or lacks its end.
 pub(crate) fn read_line(line: &[u8], slots: usize) -> Read
-    ensures { λ r. ⌜ r ≡ readIn (min slots 64) (form (now (line .entry))) ⌝ }
+    ensures { λ r. ⌜ r ≡ readIn (min slots mostSlots) (form (now (line .entry))) ⌝ }
 {
     let head = head_line(line, slots);
     let h = head.line;

@@ -1,9 +1,13 @@
 // Reading a head, its preset records by value: the loop over the lines, and what it answers.
 mod steps; // steps.rt: one line more
 
+use crate::heads::steps::Stage;
 use crate::heads::steps::State;
 use crate::heads::steps::Verdict;
+use crate::heads::steps::has_begun;
 use crate::heads::steps::read_step;
+use crate::limits::MOST_BYTES;
+use crate::limits::MOST_PRESETS;
 use crate::lines::line_at;
 use crate::types::Head;
 use crate::types::NO_HEAD;
@@ -12,6 +16,7 @@ use crate::types::Refusal;
 ghost use mathlib.Core.Path.{_≡_};
 ghost use Prim.Native.Nat.{_≤_};
 ghost use lib.ListN.{length};
+ghost use Rattle.station.specs.Limits.{mostBytes};
 ghost use Rattle.station.specs.Reading.{headOf};
 ghost use Rattle.station.specs.ReadHead.{headRead};
 ghost use Rattle.station.specs.method.HeadStep.{noState, acceptedRead, refusedRead};
@@ -27,7 +32,7 @@ pub enum ReadAnswer {
 pub struct HeadRead {
     pub answer: ReadAnswer,
     pub head: Head,
-    pub presets: [Preset; 32],
+    pub presets: [Preset; MOST_PRESETS],
 }
 
 // The head that was read, with the number of its lines and bytes.
@@ -44,7 +49,7 @@ fn accept(state: State, lines: usize, bytes: usize) -> HeadRead
 }
 
 // A refusal leaves the head and the preset records as they were handed in.
-fn refuse(line: usize, cause: Refusal, head: Head, presets: [Preset; 32]) -> HeadRead
+fn refuse(line: usize, cause: Refusal, head: Head, presets: [Preset; MOST_PRESETS]) -> HeadRead
     ensures { λ r. ⌜ r ≡ refusedRead line cause head presets ⌝ }
 {
     HeadRead {
@@ -55,20 +60,19 @@ fn refuse(line: usize, cause: Refusal, head: Head, presets: [Preset; 32]) -> Hea
 }
 
 // The state before line 1.
-fn no_state(presets: [Preset; 32]) -> State
+fn no_state(presets: [Preset; MOST_PRESETS]) -> State
     ensures { λ r. ⌜ r ≡ noState presets ⌝ }
 {
     State {
-        begun: false,
-        from: 0,
+        stage: Stage::Frame,
         head: NO_HEAD,
         presets,
     }
 }
 
 // The head of a text that is not too long, line by line.
-fn read_lines(text: &[u8], head: Head, presets: [Preset; 32]) -> HeadRead
-    requires { ⌜ length (now text) ≤ 32768 ⌝ }
+fn read_lines(text: &[u8], head: Head, presets: [Preset; MOST_PRESETS]) -> HeadRead
+    requires { ⌜ length (now text) ≤ mostBytes ⌝ }
     ensures { λ r. ⌜ r ≡ headRead (headOf (now (text .entry))) head presets ⌝ }
 {
     let mut state = no_state(presets);
@@ -88,7 +92,8 @@ fn read_lines(text: &[u8], head: Head, presets: [Preset; 32]) -> HeadRead
         at += line.len();
         n += 1;
     }
-    if state.begun {
+    let stage = state.stage;
+    if has_begun(stage) {
         return accept(state, n, at);
     }
     refuse(1, Refusal::OutOfPlace, head, presets)
@@ -97,10 +102,10 @@ fn read_lines(text: &[u8], head: Head, presets: [Preset; 32]) -> HeadRead
 // Reads the head of a text: its lines to the first line that has an event's form, or to the text's end. Answers the number of the head's
 // lines and bytes beside the head and its presets, whose records past the last preset are those handed in; or the line at fault, 0 where
 // the text has more than 32,768 bytes, and the cause, beside the head and the records handed in.
-pub fn read_head_by_value(text: &[u8], head: Head, presets: [Preset; 32]) -> HeadRead
+pub fn read_head_by_value(text: &[u8], head: Head, presets: [Preset; MOST_PRESETS]) -> HeadRead
     ensures { λ r. ⌜ r ≡ headRead (headOf (now (text .entry))) head presets ⌝ }
 {
-    if 32768 < text.len() {
+    if MOST_BYTES < text.len() {
         return refuse(0, Refusal::TextTooLong, head, presets);
     }
     read_lines(text, head, presets)

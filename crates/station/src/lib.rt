@@ -3,6 +3,7 @@
 pub mod entries; // entries.rt: read_head and write_head, over a borrowed list of preset records
 pub mod lines; // lines.rt: line_at, the line of a text from a place on
 pub mod events; // events.rt: read_event, an event line as far as it alone decides
+pub mod limits; // limits.rt: document 01's limits
 pub mod types; // types.rt: the records and answers that the layers share
 pub mod causes; // causes.rt: the paper's number of a cause
 // Reading, from bytes to a head:

@@ -1,19 +1,26 @@
 // The preset records of a borrowed slice: their number, one of them, and the first 32 by value, the bank. The functions that take the slice only copy records out of it
 // or into it: what works on records takes the bank.
+use crate::limits::MOST_PRESETS;
+use crate::types::NO_PRESETS;
 use crate::types::NO_RECORD;
 use crate::types::Preset;
 ghost use mathlib.Core.Path.{_≡_};
 ghost use lib.ListN.{set, length, getD, replicate};
 ghost use Prim.Native.Nat.{min};
+ghost use Rattle.station.specs.Limits.{mostPresets};
 ghost use Rattle.station.specs.Types.{noRecord};
 ghost use Rattle.station.specs.Records.{loaded, saved};
 
 // The records with one of them replaced; past the end there is none, and they stay as they are.
-pub(crate) fn with_record(bank: [Preset; 32], at: usize, given: Preset) -> [Preset; 32]
+pub(crate) fn with_record(
+    bank: [Preset; MOST_PRESETS],
+    at: usize,
+    given: Preset,
+) -> [Preset; MOST_PRESETS]
     ensures { λ r. ⌜ r ≡ set bank at given ⌝ }
 {
     let mut after = bank;
-    if at < 32 {
+    if at < MOST_PRESETS {
         after[at] = given;
     }
     after
@@ -46,29 +53,29 @@ fn set_record(presets: &mut [Preset], i: usize, given: Preset)
 }
 
 // The record of the bank at a place; past the end the record of zeros.
-fn bank_at(bank: [Preset; 32], at: usize) -> Preset
+fn bank_at(bank: [Preset; MOST_PRESETS], at: usize) -> Preset
     ensures { λ r. ⌜ r ≡ getD bank at noRecord ⌝ }
 {
-    if at < 32 {
+    if at < MOST_PRESETS {
         return bank[at];
     }
     NO_RECORD
 }
 
 // 32 records of zeros.
-fn no_records() -> [Preset; 32]
-    ensures { λ r. ⌜ r ≡ replicate 32 noRecord ⌝ }
+fn no_records() -> [Preset; MOST_PRESETS]
+    ensures { λ r. ⌜ r ≡ replicate mostPresets noRecord ⌝ }
 {
-    [NO_RECORD; 32]
+    NO_PRESETS
 }
 
 // The first 32 records by value; zeros where there are fewer.
-pub fn load(presets: &[Preset]) -> [Preset; 32]
+pub fn load(presets: &[Preset]) -> [Preset; MOST_PRESETS]
     ensures { λ r. ⌜ r ≡ loaded (now (presets .entry)) ⌝ }
 {
     let mut bank = no_records();
     let mut i = 0;
-    while i < 32 {
+    while i < MOST_PRESETS {
         bank = with_record(bank, i, record_at(presets, i));
         i += 1;
     }
@@ -77,13 +84,13 @@ pub fn load(presets: &[Preset]) -> [Preset; 32]
 
 // The smaller of a number and 32.
 fn at_most_32(n: usize) -> usize
-    ensures { λ r. ⌜ r ≡ min n 32 ⌝ }
+    ensures { λ r. ⌜ r ≡ min n mostPresets ⌝ }
 {
-    if n < 32 { n } else { 32 }
+    if n < MOST_PRESETS { n } else { MOST_PRESETS }
 }
 
 // The first n records of the bank go back to the front of the list, as far as both have them; every other record stays.
-pub fn save(presets: &mut [Preset], bank: [Preset; 32], n: usize)
+pub fn save(presets: &mut [Preset], bank: [Preset; MOST_PRESETS], n: usize)
     ensures { λ _. ⌜ now (presets .exit) ≡ saved (now (presets .entry)) bank n ⌝ }
 {
     let count = at_most_32(n);

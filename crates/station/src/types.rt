@@ -1,4 +1,6 @@
 // The records and answers that the layers share. What each stands for is in specs/Types.antt.
+use crate::limits::MOST_BRIDGES;
+use crate::limits::MOST_PRESETS;
 
 // A preset line as a record.
 pub struct Preset {
@@ -27,12 +29,15 @@ pub const NO_JOB: Job = Job {
     slots: 0,
 };
 
+// The preset records of a head without presets.
+pub const NO_PRESETS: [Preset; MOST_PRESETS] = [NO_RECORD; MOST_PRESETS];
+
 // The head of a station text without its presets, which stand in a list of 32 records: `count` of them are in use. The busy cells
 // are one mask for each bridge, slot 1 being the lowest bit.
 pub struct Head {
     pub slots: usize,
     pub bridges: usize,
-    pub busy: [u64; 8],
+    pub busy: [u64; MOST_BRIDGES],
     pub count: usize,
 }
 
@@ -40,7 +45,7 @@ pub struct Head {
 pub const NO_HEAD: Head = Head {
     slots: 0,
     bridges: 0,
-    busy: [0; 8],
+    busy: [0; MOST_BRIDGES],
     count: 0,
 };
 

@@ -2,6 +2,10 @@
 //
 // The writers are total, as those of output.rt are: none asks for room. That a valid head's text has it is shown once, for `write_head_by_value`.
 use crate::check::valid_record;
+use crate::limits::LEAST_OUTPUT;
+use crate::limits::MOST_BRIDGES;
+use crate::limits::MOST_PRESETS;
+use crate::limits::MOST_SLOTS;
 use crate::output::number;
 use crate::output::put;
 use crate::output::two_numbers;
@@ -13,9 +17,10 @@ ghost use Prim.Native.Nat.{_-_, _≤_};
 ghost use mathlib.Core.Path.{_≡_};
 ghost use mathlib.Core.Bool.{true, cond};
 ghost use mathlib.Core.List.{map};
+ghost use Rattle.station.specs.Limits.{mostSlots, mostPresets};
 ghost use Rattle.station.specs.Text.{bytes, join};
-ghost use Rattle.station.specs.Form.{print, frameLine};
-ghost use Rattle.station.specs.Writing.{stretches, busyLineOf, busyLines, presetLineOf, textOf};
+ghost use Rattle.station.specs.Form.{frameLine, presetLine, print};
+ghost use Rattle.station.specs.Writing.{stretches, busyLineOf, busyLines, textOf};
 ghost use Rattle.station.specs.method.Runs.{busyFrom, freeFrom, bracketsOf, bracketText};
 ghost use Rattle.station.specs.Types.{presetIn, presetsIn, headIn, validRecord};
 ghost use Rattle.station.specs.WriteHead.{WroteHead};
@@ -38,10 +43,10 @@ fn frame_line(out: &mut [u8], at: usize, slots: u8, bridges: u8) -> usize
 
 // The first busy slot of a mask from slot `from` on, counted from 0; 64 where there is none, `from` where it is past 64.
 fn next_busy(mask: u64, from: usize) -> usize
-    ensures { λ r. ⌜ r ≡ busyFrom (64 - from) mask from ⌝ }
+    ensures { λ r. ⌜ r ≡ busyFrom (mostSlots - from) mask from ⌝ }
 {
     let mut i = from;
-    while i < 64 {
+    while i < MOST_SLOTS {
         if (mask >> i) % 2 == 1 {
             return i;
         }
@@ -52,10 +57,10 @@ fn next_busy(mask: u64, from: usize) -> usize
 
 // The first free slot of a mask from slot `from` on, counted from 0; 64 where there is none, `from` where it is past 64.
 fn next_free(mask: u64, from: usize) -> usize
-    ensures { λ r. ⌜ r ≡ freeFrom (64 - from) mask from ⌝ }
+    ensures { λ r. ⌜ r ≡ freeFrom (mostSlots - from) mask from ⌝ }
 {
     let mut i = from;
-    while i < 64 {
+    while i < MOST_SLOTS {
         if (mask >> i) % 2 != 1 {
             return i;
         }
@@ -85,14 +90,14 @@ fn bracket(out: &mut [u8], at: usize, first: u8, last: u8, more: bool) -> usize
 
 // Writes a bracket for each run of busy slots of a mask, and the end of the line; nothing where no slot is busy. Answers the next place.
 fn stretch_list(out: &mut [u8], at: usize, mask: u64) -> usize
-    ensures { λ r. ⌜ Wrote (now (out .entry)) at (bracketsOf (stretches 64 1 mask)) (now (out .exit)) r ⌝ }
+    ensures { λ r. ⌜ Wrote (now (out .entry)) at (bracketsOf (stretches mostSlots 1 mask)) (now (out .exit)) r ⌝ }
 {
     let mut place = at;
     let mut from = next_busy(mask, 0);
-    while from < 64 {
+    while from < MOST_SLOTS {
         let to = next_free(mask, from);
         let next = next_busy(mask, to);
-        place = bracket(out, place, (from + 1) as u8, to as u8, next < 64);
+        place = bracket(out, place, (from + 1) as u8, to as u8, next < MOST_SLOTS);
         from = next;
     }
     place
@@ -100,7 +105,7 @@ fn stretch_list(out: &mut [u8], at: usize, mask: u64) -> usize
 
 // Writes the busy line of a bridge, `(busy b (f t) (f t))`; nothing where no slot of it is busy. Answers the next place.
 fn busy_line(out: &mut [u8], at: usize, bridge: u8, mask: u64) -> usize
-    ensures { λ r. ⌜ Wrote (now (out .entry)) at (join (map print (busyLineOf bridge (stretches 64 1 mask)))) (now (out .exit)) r ⌝ }
+    ensures { λ r. ⌜ Wrote (now (out .entry)) at (join (map print (busyLineOf bridge (stretches mostSlots 1 mask)))) (now (out .exit)) r ⌝ }
 {
     if mask == 0 {
         return at;
@@ -112,12 +117,12 @@ fn busy_line(out: &mut [u8], at: usize, bridge: u8, mask: u64) -> usize
 }
 
 // Writes the busy lines of the bridges, in ascending order. Answers the next place.
-fn busy_lines(out: &mut [u8], at: usize, busy: [u64; 8]) -> usize
+fn busy_lines(out: &mut [u8], at: usize, busy: [u64; MOST_BRIDGES]) -> usize
     ensures { λ r. ⌜ Wrote (now (out .entry)) at (join (map print (busyLines 1 busy))) (now (out .exit)) r ⌝ }
 {
     let mut place = at;
     let mut b = 0;
-    while b < 8 {
+    while b < MOST_BRIDGES {
         place = busy_line(out, place, (b + 1) as u8, busy[b]);
         b += 1;
     }
@@ -126,7 +131,7 @@ fn busy_lines(out: &mut [u8], at: usize, busy: [u64; 8]) -> usize
 
 // Writes a preset line, `(preset n p m o)`. Answers the next place.
 fn preset_line(out: &mut [u8], at: usize, preset: Preset) -> usize
-    ensures { λ r. ⌜ Wrote (now (out .entry)) at (print (presetLineOf (presetIn preset))) (now (out .exit)) r ⌝ }
+    ensures { λ r. ⌜ Wrote (now (out .entry)) at (print (presetLine (presetIn preset))) (now (out .exit)) r ⌝ }
 {
     let first = word(out, at, b"(preset ");
     let blank = two_numbers(out, first, preset.number as usize, preset.priority as usize);
@@ -141,9 +146,9 @@ fn preset_line(out: &mut [u8], at: usize, preset: Preset) -> usize
 }
 
 // Writes the lines of the first `count` presets, in file order. Answers the next place.
-fn preset_lines(out: &mut [u8], at: usize, presets: [Preset; 32], count: usize) -> usize
-    requires { ⌜ count ≤ 32 ⌝ }
-    ensures { λ r. ⌜ Wrote (now (out .entry)) at (join (map print (map presetLineOf (presetsIn count presets)))) (now (out .exit)) r ⌝ }
+fn preset_lines(out: &mut [u8], at: usize, presets: [Preset; MOST_PRESETS], count: usize) -> usize
+    requires { ⌜ count ≤ mostPresets ⌝ }
+    ensures { λ r. ⌜ Wrote (now (out .entry)) at (join (map print (map presetLine (presetsIn count presets)))) (now (out .exit)) r ⌝ }
 {
     let mut place = at;
     let mut i = 0;
@@ -156,7 +161,7 @@ fn preset_lines(out: &mut [u8], at: usize, presets: [Preset; 32], count: usize) 
 }
 
 // Writes the text of a valid head record at the start of the output. Answers the place after it.
-fn head_text(head: Head, presets: [Preset; 32], out: &mut [u8]) -> usize
+fn head_text(head: Head, presets: [Preset; MOST_PRESETS], out: &mut [u8]) -> usize
     requires { ⌜ validRecord head presets ≡ true ⌝ }
     ensures { λ r. ⌜ Wrote (now (out .entry)) 0 (textOf (headIn head presets)) (now (out .exit)) r ⌝ }
 {
@@ -171,10 +176,10 @@ fn head_text(head: Head, presets: [Preset; 32], out: &mut [u8]) -> usize
 
 // Writes the one text of a head at the start of the output and answers its length; the bytes past it stay. Refused with 8 for an output below
 // 8,192 bytes, whatever the frame, and with 2 for a head record that no text yields; the output then stays as it was.
-pub fn write_head_by_value(head: Head, presets: [Preset; 32], out: &mut [u8]) -> Writing
+pub fn write_head_by_value(head: Head, presets: [Preset; MOST_PRESETS], out: &mut [u8]) -> Writing
     ensures { λ r. ⌜ WroteHead head presets (now (out .entry)) r (now (out .exit)) ⌝ }
 {
-    if out.len() < 8192 {
+    if out.len() < LEAST_OUTPUT {
         return Writing::Refused(Refusal::TooShort);
     }
     if !valid_record(head, presets) {

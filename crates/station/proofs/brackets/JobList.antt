@@ -16,10 +16,11 @@ use Rattle.laws.proofs.Tests.{clash}
 use Rattle.station.specs.declared.types.Job.{Job}
 use Rattle.station.specs.declared.brackets.Jobs.{Jobs}
 use Rattle.station.specs.Head as meant
-use Rattle.station.specs.Form.{Pairs, last, next, also, readBrackets, jobsOf}
+use Rattle.station.specs.Form.{CallJobs, lastJob, alsoJob, readBrackets, readJobs, jobsOf}
 use Rattle.station.specs.method.Numeral.{seen}
 use Rattle.station.specs.declared.brackets.Bracket.{Bracket}
 use Rattle.station.specs.Jobs.{jobSeen, jobInLimits, jobsInLimits, noJob, padded, noJobs}
+use Rattle.station.proofs.Form.{made-also, read-jobs}
 use Rattle.station.proofs.numbers.Decimals.{seen-within}
 use Rattle.station.specs.method.Bracket.{jobsRead, BracketAt, no-bracket, last-bracket, next-bracket}
 
@@ -56,12 +57,12 @@ fits-seen : (a b : ℕ) → jobInLimits (record { number = seen a; slots = seen 
 fits-seen a b = rw (seen-within 1 255 a (omega arith) (omega arith), seen-within 1 64 b (omega arith) (omega arith)) refl
 
 -- what the whole line makes
-abbrev pub counted : ℕ → Bool → List Job → Option Pairs → Jobs
+abbrev pub counted : ℕ → Bool → List Job → Option CallJobs → Jobs
 counted n f js none = record { found = false; count = 0; fit = false; jobs = noJobs }
 counted n f js (some p) =
     record { found = true; count = seen (n + length (jobsOf p)); fit = f && jobsInLimits (jobsOf p); jobs = stored n js (jobsOf p) }
 
-pub counted-start : (o : Option Pairs) → counted 0 true noJobs o ≡ jobsRead o
+pub counted-start : (o : Option CallJobs) → counted 0 true noJobs o ≡ jobsRead o
 counted-start none = refl
 counted-start (some p) =
     let e : 0 + length (jobsOf p) ≡ length (jobsOf p) = omega arith in
@@ -74,7 +75,7 @@ module _ (n : ℕ) (f : Bool) (js : List Job) (a b : ℕ) where
   abbrev fit : Bool
   fit = f && jobInLimits (record { number = seen a; slots = seen b })
 
-  pub counted-next : (o : Option Pairs) → counted n f js (also a b o) ≡ counted (n + 1) fit (set js n job) o
+  pub counted-next : (o : Option CallJobs) → counted n f js (alsoJob (meant.jobOf a b) o) ≡ counted (n + 1) fit (set js n job) o
   unfolding jobsOf jobsInLimits stored
   counted-next none = refl
   counted-next (some p) =
@@ -82,7 +83,7 @@ module _ (n : ℕ) (f : Bool) (js : List Job) (a b : ℕ) where
       let i : suc n ≡ n + 1 = omega arith in
       rw (← i, e, fits-seen a b, and-assoc f (jobInLimits (record { number = a; slots = b })) (jobsInLimits (jobsOf p))) refl
 
-  pub counted-last : counted n f js (some (last a b)) ≡ record { found = true; count = seen (n + 1); fit = fit; jobs = set js n job }
+  pub counted-last : counted n f js (some (lastJob (meant.jobOf a b))) ≡ record { found = true; count = seen (n + 1); fit = fit; jobs = set js n job }
   unfolding jobsOf jobsInLimits stored
   counted-last = rw (fits-seen a b, and-true (jobInLimits (record { number = a; slots = b }))) refl
 
@@ -90,21 +91,21 @@ module _ (n : ℕ) (f : Bool) (js : List Job) (a b : ℕ) where
 
 module _ (n : ℕ) (f : Bool) (js : List Job) {t : List ℕ} {at : ℕ} {b : Bracket} where
   pub read-none : BracketAt t at b → b .found ≡ false
-      → record { found = false; count = 0; fit = false; jobs = noJobs } ≡ counted n f js (readBrackets (drop at t))
-  read-none (no-bracket g e) y = rw e refl
+      → record { found = false; count = 0; fit = false; jobs = noJobs } ≡ counted n f js (readJobs (drop at t))
+  read-none (no-bracket g e) y = rw (← read-jobs (drop at t), e) refl
   read-none (last-bracket c d g l x w h i e) y = absurd (clash (sym g ∙ y))
   read-none (next-bracket c d g l x w h i e) y = absurd (clash (sym g ∙ y))
 
   pub read-last : BracketAt t at b → b .found ≡ true → b .last ≡ true
       → record { found = true; count = seen (n + 1); fit = f && jobInLimits (record { number = b .first; slots = b .second }); jobs = set js n (record { number = b .first; slots = b .second }) }
-      ≡ counted n f js (readBrackets (drop at t))
+      ≡ counted n f js (readJobs (drop at t))
   read-last (no-bracket g e) y z = absurd (clash (sym y ∙ g))
-  read-last (last-bracket c d g l x w h i e) y z = rw (e, x, w) (sym (counted-last n f js c d))
+  read-last (last-bracket c d g l x w h i e) y z = rw (← read-jobs (drop at t), e, x, w) (sym (counted-last n f js c d))
   read-last (next-bracket c d g l x w h i e) y z = absurd (clash (sym z ∙ l))
 
   pub read-next : BracketAt t at b → b .found ≡ true → b .last ≡ false
-      → counted (n + 1) (f && jobInLimits (record { number = b .first; slots = b .second })) (set js n (record { number = b .first; slots = b .second })) (readBrackets (drop (b .next) t))
-      ≡ counted n f js (readBrackets (drop at t))
+      → counted (n + 1) (f && jobInLimits (record { number = b .first; slots = b .second })) (set js n (record { number = b .first; slots = b .second })) (readJobs (drop (b .next) t))
+      ≡ counted n f js (readJobs (drop at t))
   read-next (no-bracket g e) y z = absurd (clash (sym y ∙ g))
   read-next (last-bracket c d g l x w h i e) y z = absurd (clash (sym l ∙ z))
-  read-next (next-bracket c d g l x w h i e) y z = rw (e, x, w) (sym (counted-next n f js c d (readBrackets (drop (b .next) t))))
+  read-next (next-bracket c d g l x w h i e) y z = rw (← read-jobs (drop at t), e, made-also c d (readBrackets (drop (b .next) t)), read-jobs (drop (b .next) t), x, w) (sym (counted-next n f js c d (readJobs (drop (b .next) t))))

@@ -14,7 +14,7 @@ use lib.Dec.{leb}
 use Rattle.laws.proofs.Tests.{Is, is, is-true, is-false, clash}
 use Rattle.laws.proofs.Comparisons.{le-of, gt-of, leb-no}
 use Rattle.station.specs.Text.{bytes}
-use Rattle.station.specs.Form.{Pairs, Form, frameLine, busyLine, presetLine, clockLine, callLine, jobsOf, starts, word, made, readBrackets, print}
+use Rattle.station.specs.Form.{CallJobs, Form, frameLine, busyLine, presetLine, clockLine, callLine, jobsOf, starts, word, made, readJobs, print}
 use Rattle.station.specs.Form.{frameIn, busyIn, presetIn, clockIn, callIn, form}
 use Rattle.station.proofs.Form.{word-had, form-had}
 use Rattle.station.specs.method.Numeral.{seen}
@@ -26,11 +26,11 @@ use Rattle.station.specs.Event.{callEvent, lineEvent, eventIn}
 -- ---- the first word of a call
 
 -- the second or third byte tells it from the other forms
-pub call-form : (l : List ℕ) → starts (bytes "(call ") l ≡ true → form l ≡ made callLine (readBrackets (drop 6 l))
+pub call-form : (l : List ℕ) → starts (bytes "(call ") l ≡ true → form l ≡ made callLine (readJobs (drop 6 l))
 unfolding form frameIn busyIn presetIn clockIn callIn word starts bytes
 call-form l e = word-had (bytes "(call ") l (λ r. some r) (drop 6 l) (rw e refl) (λ r h q. rw h refl)
 
-no-call : (l : List ℕ) (p : Pairs) → starts (bytes "(call ") l ≡ false → form l ≡ some (callLine p) → ⊥
+no-call : (l : List ℕ) (p : CallJobs) → starts (bytes "(call ") l ≡ false → form l ≡ some (callLine p) → ⊥
 unfolding print starts bytes
 no-call l p s e =
     let t : starts (bytes "(call ") l ≡ true = rw (form-had l (callLine p) e) refl in
@@ -38,11 +38,11 @@ no-call l p s e =
 
 -- ---- the event of what was read
 
-pub call-read : (l : List ℕ) (j : Jobs) → starts (bytes "(call ") l ≡ true → j ≡ jobsRead (readBrackets (drop 6 l)) → j .found ≡ true
+pub call-read : (l : List ℕ) (j : Jobs) → starts (bytes "(call ") l ≡ true → j ≡ jobsRead (readJobs (drop 6 l)) → j .found ≡ true
     → callEvent j ≡ eventIn (form l)
-call-read l j s e f = go (readBrackets (drop 6 l)) e ∙ ap eventIn (sym (call-form l s))
+call-read l j s e f = go (readJobs (drop 6 l)) e ∙ ap eventIn (sym (call-form l s))
   where
-    counted : (p : Pairs) → Is (leb (length (jobsOf p)) 8) → callEvent (jobsRead (some p)) ≡ eventIn (some (callLine p))
+    counted : (p : CallJobs) → Is (leb (length (jobsOf p)) 8) → callEvent (jobsRead (some p)) ≡ eventIn (some (callLine p))
     counted p (is-true h) =
         let n : length (jobsOf p) ≤ 8 = le-of (length (jobsOf p)) 8 h in
         let q : seen (length (jobsOf p)) ≡ length (jobsOf p) = omega arith in
@@ -51,7 +51,7 @@ call-read l j s e f = go (readBrackets (drop 6 l)) e ∙ ap eventIn (sym (call-f
         let n : 8 < length (jobsOf p) = gt-of (length (jobsOf p)) 8 h in
         rw (h, leb-no (seen (length (jobsOf p))) 8 (omega arith)) refl
 
-    go : (o : Option Pairs) → j ≡ jobsRead o → callEvent j ≡ eventIn (made callLine o)
+    go : (o : Option CallJobs) → j ≡ jobsRead o → callEvent j ≡ eventIn (made callLine o)
     go none e = absurd (clash (sym f ∙ ap (λ (x : Jobs). x .found) e))
     go (some p) e = ap callEvent e ∙ counted p (is (leb (length (jobsOf p)) 8))
 
@@ -62,6 +62,6 @@ line-read hi l s = go (form l) refl
     go none e = refl
     go (some (frameLine a b)) e = refl
     go (some (busyLine b p)) e = refl
-    go (some (presetLine n p m o)) e = refl
+    go (some (presetLine p)) e = refl
     go (some (clockLine t)) e = refl
     go (some (callLine p)) e = absurd (no-call l p s e)

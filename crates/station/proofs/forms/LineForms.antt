@@ -13,7 +13,7 @@ use Rattle.station.specs.declared.forms.Read.{Read}
 use Rattle.station.specs.declared.forms.Line.the-variants.{Busy, Call}
 use Rattle.station.specs.declared.brackets.Taken.{Taken}
 use Rattle.station.specs.declared.brackets.Jobs.{Jobs}
-use Rattle.station.specs.Form.{Pairs, Form, frameLine, busyLine, presetLine, clockLine, callLine, _orElse_, made}
+use Rattle.station.specs.Form.{Pairs, CallJobs, Form, frameLine, busyLine, presetLine, clockLine, callLine, _orElse_, made}
 use Rattle.station.specs.Form.{frameIn, busyIn, presetIn, form}
 use Rattle.station.specs.method.Numeral.{seen}
 use Rattle.station.specs.Jobs.{noJobs}
@@ -26,7 +26,7 @@ module _ (hi : ℕ) where
   has-some : (f : Form) → hasForm (readIn hi (some f) .line) ≡ true
   has-some (frameLine s b) = refl
   has-some (busyLine b p) = refl
-  has-some (presetLine n p m o) = refl
+  has-some (presetLine p) = refl
   has-some (clockLine t) = refl
   has-some (callLine p) = refl
 
@@ -62,11 +62,11 @@ module _ (hi b : ℕ) where
 
 -- ---- a call by its jobs
 
-pub call-none : (o : Option Pairs) (j : Jobs) → j ≡ jobsRead o → j .found ≡ false → made callLine o ≡ none
+pub call-none : (o : Option CallJobs) (j : Jobs) → j ≡ jobsRead o → j .found ≡ false → made callLine o ≡ none
 call-none none j e h = refl
 call-none (some p) j e h = absurd (clash (sym (ap (λ (x : Jobs). x .found) e) ∙ h))
 
-pub call-some : (hi : ℕ) (o : Option Pairs) (j : Jobs) → j ≡ jobsRead o → j .found ≡ true
+pub call-some : (hi : ℕ) (o : Option CallJobs) (j : Jobs) → j ≡ jobsRead o → j .found ≡ true
     → record { line = Call (j .count); jobs = j .jobs } ≡ readIn hi (made callLine o)
 call-some hi none j e h = absurd (clash (sym h ∙ ap (λ (x : Jobs). x .found) e))
 call-some hi (some p) j e h = rw e refl

@@ -8,7 +8,7 @@ use Prim.Native.Nat.{ℕ, zero, suc, _+_, _≤_, _<_, min}
 use native.Mathlib.Omega.{arith}
 use native.Mathlib.Numerals.{add-one}
 use mathlib.Core.Path.{_≡_, refl, sym, _∙_, ap}
-use mathlib.Core.Bool.{Bool, true, false}
+use mathlib.Core.Bool.{true, false}
 use mathlib.Core.Option.{Option}
 use mathlib.Core.List.{List, [], _∷_, map}
 use lib.ListN.{length, take, drop, length-append, length-drop, length-map, take-append-drop}
@@ -25,16 +25,16 @@ use Rattle.station.specs.declared.heads.steps.Verdict.{Verdict}
 use Rattle.station.specs.declared.heads.steps.Verdict.the-variants.{Goes, Ends, Fails}
 use Rattle.station.specs.declared.heads.steps.Step.{Step}
 use Rattle.station.specs.Head as meant
-use Rattle.station.specs.Head.{Valid}
+use Rattle.station.specs.Head.{withPresets, Valid}
 use Rattle.station.specs.Text.{lines, join}
 use Rattle.station.specs.Line.{lineOf}
 use Rattle.station.specs.Form.{Form, form}
 use Rattle.station.specs.Writing.{textOf}
-use Rattle.station.specs.Reading.{Reading, accepted, refused, readFrom, headOf}
+use Rattle.station.specs.Reading.{Reading, accepted, refused, begun, readFrom, headOf}
 use Rattle.station.specs.method.ReadLine.{lineIn}
-use Rattle.station.specs.Types.{refusalIn, refusalOf, presetIn, headIn}
+use Rattle.station.specs.Types.{refusalIn, refusalOf, presetIn, withCount, headIn}
 use Rattle.station.specs.ReadHead.{recordOf, headRecord, recordsOver, headRead}
-use Rattle.station.specs.method.HeadStep.{acceptedRead, refusedRead, noState, madeIn, soFarIn, stepOf}
+use Rattle.station.specs.method.HeadStep.{acceptedRead, refusedRead, noState, stageIn, soFarIn, stepOf}
 use Rattle.station.proofs.lines.FirstLine.{line-some, line-within, lines-at, lines-past}
 use Rattle.station.proofs.Writing.{read-valid, read-written}
 use Rattle.station.proofs.CodeRecords.{refusal-of, refusal-in}
@@ -79,7 +79,7 @@ at-start t old h l = record {
       record {
         slots = omega arith;
         bridges = omega arith;
-        from = omega arith;
+        least = omega arith;
         count = omega arith;
         records = l;
         fresh = λ e. refl;
@@ -168,7 +168,7 @@ module _ (t : List ℕ) (old : List Preset) (head : Head) where
       made s n bytes count l =
           record {
             answer = Accepted n bytes;
-            head = record { slots = s .head .slots; bridges = s .head .bridges; busy = s .head .busy; count = count };
+            head = withCount (s .head) count;
             presets = l;
           }
 
@@ -192,21 +192,18 @@ module _ {t : List ℕ} {old : List Preset} {s : State} {at n : ℕ} (head : Hea
   out-fails {c} a v = rw (add-one n) (refused-read t old head (suc n) c (line-reads a (Fails c) v))
 
   -- the end of the text: no line is left
-  end-reads : AtLine t old s at n → length t ≤ at → (b : Bool) → s .begun ≡ b → headOf t ≡ readFrom n (madeIn b s) []
-  end-reads a h b e =
-      sym (a .reads)
-      ∙ ap (λ (ls : List (List ℕ)). readFrom n (soFarIn s) (map form ls)) (lines-past t at h)
-      ∙ ap (λ (y : Bool). readFrom n (madeIn y s) []) e
+  end-reads : AtLine t old s at n → length t ≤ at → headOf t ≡ readFrom n (soFarIn s) []
+  end-reads a h = sym (a .reads) ∙ ap (λ (ls : List (List ℕ)). readFrom n (soFarIn s) (map form ls)) (lines-past t at h)
 
   -- the end of the text after the frame line
-  pub out-whole : AtLine t old s at n → length t ≤ at → s .begun ≡ true → acceptedRead s n at ≡ headRead (headOf t) head old
+  pub out-whole : AtLine t old s at n → length t ≤ at → begun (stageIn (s .stage)) ≡ true → acceptedRead s n at ≡ headRead (headOf t) head old
   unfolding readFrom
-  out-whole a h b = accepted-read t old head s at n (a .kept) (a .bytes) (end-reads a h true b)
+  out-whole a h b = accepted-read t old head s at n (a .kept) (a .bytes) (rw b at (end-reads a h))
 
   -- "No text at all: 3 at line 1."
-  pub out-empty : AtLine t old s at n → length t ≤ at → s .begun ≡ false → refusedRead 1 OutOfPlace head old ≡ headRead (headOf t) head old
+  pub out-empty : AtLine t old s at n → length t ≤ at → begun (stageIn (s .stage)) ≡ false → refusedRead 1 OutOfPlace head old ≡ headRead (headOf t) head old
   unfolding readFrom
-  out-empty a h b = refused-read t old head 1 OutOfPlace (end-reads a h false b)
+  out-empty a h b = refused-read t old head 1 OutOfPlace (rw b at (end-reads a h))
 
 -- ---- what a caller learns
 
@@ -229,7 +226,7 @@ pub head-back : (h : meant.Head) (old : List Preset) → headIn (headRecord h) (
 head-back h old =
     let e : take (length (h .presets)) (recordsOver (h .presets) old) ≡ map recordOf (h .presets) =
     take-at (map recordOf (h .presets)) (drop (length (h .presets)) old) (length (h .presets)) (length-map (h .presets) recordOf) in
-    ap (λ (ps : List meant.Preset). record { slots = h .slots; bridges = h .bridges; busy = h .busy; presets = ps })
+    ap (withPresets h)
     (ap (map presetIn) e ∙ presets-back (h .presets))
 
 module _ (t : List ℕ) (head : Head) (old : List Preset) where

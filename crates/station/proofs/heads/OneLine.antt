@@ -1,7 +1,7 @@
 -- Laws for the functions that hold one line of a head against what the lines before it make.
 --
 -- In order: numbers as they are read (`seen-ltb`, `seen-small`); the steps, a law for each way out of a function (`frame-refused`, `frame-goes`;
--- `busy-late`, `busy-back`, `busy-refused`, `busy-goes`, `busy-from-one`; `preset-refused`, `preset-used`, `preset-many`, `preset-goes`); the numbers
+-- `busy-late`, `busy-refused`, `busy-goes`, `busy-from-one`; `preset-refused`, `preset-used`, `preset-many`, `preset-goes`); the numbers
 -- in use from a record on (`used-here`, `used-further`, `used-past`); records and presets are each other's (`records-back`, `presets-back`).
 -- What a step means for the reading is in heads/StepMeaning.antt, the loop over the lines in heads/LineLoop.antt.
 -- Assumes nothing.
@@ -14,7 +14,7 @@ use lib.ListN.{length, take, drop, getD, length-take, drop-of-length-le}
 use lib.Seq.{drop-cons, getD-take}
 use lib.Dec.{ltb, leb, eqb}
 use Rattle.laws.proofs.Tests.{left-of, true-of-not, test-ext}
-use Rattle.laws.proofs.Comparisons.{lt-of, le-of, eqb-yes, eqb-no, ltb-yes, ltb-no, leb-yes, leb-no}
+use Rattle.laws.proofs.Comparisons.{lt-of, le-of, eqb-yes, eqb-no, ltb-yes, leb-yes, leb-no}
 use Rattle.station.specs.declared.types.Preset.{Preset}
 use Rattle.station.specs.declared.types.Refusal.the-variants.{OutOfLimits, OutOfPlace, NumberUsed, TooMany}
 use Rattle.station.specs.declared.heads.steps.State.{State}
@@ -22,10 +22,11 @@ use Rattle.station.specs.declared.heads.steps.Verdict.the-variants.{Goes
 use Rattle.station.specs.Head as meant
 use Rattle.station.specs.Head.{within, inLimits, hasNumber}
 use Rattle.station.specs.Refusal.{firstOf}
+use Rattle.station.specs.Reading.{busyMisplaced}
 use Rattle.station.specs.method.Numeral.{seen}
 use Rattle.station.specs.Types.{presetIn}
 use Rattle.station.specs.ReadHead.{recordOf}
-use Rattle.station.specs.method.HeadStep.{stopped, withFrame, frameStep, withBusy, busyStep, withPreset, presetStep}
+use Rattle.station.specs.method.HeadStep.{stageIn, stopped, afterFrame, frameStep, afterBusy, busyStep, afterPreset, presetStep}
 
 -- ---- numbers as they are read
 
@@ -44,27 +45,23 @@ module _ (s : State) (slots bridges : ℕ) where
   unfolding firstOf
   frame-refused e = rw e refl
 
-  pub frame-goes : not (within 1 64 slots && within 1 8 bridges) ≡ false → record { verdict = Goes; state = withFrame s slots bridges } ≡ frameStep s slots bridges
+  pub frame-goes : not (within 1 64 slots && within 1 8 bridges) ≡ false → record { verdict = Goes; state = afterFrame s slots bridges } ≡ frameStep s slots bridges
   unfolding firstOf
   frame-goes e = rw e refl
 
 module _ (s : State) (b mask : ℕ) (o : Bool) where
-  pub busy-late : 0 < s .head .count → stopped s OutOfPlace ≡ busyStep s b mask o
+  pub busy-late : busyMisplaced (stageIn (s .stage)) b ≡ true → stopped s OutOfPlace ≡ busyStep s b mask o
   unfolding firstOf
-  busy-late h = rw (ltb-yes 0 (s .head .count) h) refl
+  busy-late h = rw h refl
 
-  pub busy-back : s .head .count ≤ 0 → b < s .from → stopped s OutOfPlace ≡ busyStep s b mask o
+  pub busy-refused : busyMisplaced (stageIn (s .stage)) b ≡ false → not (within 1 (s .head .bridges) b && o) ≡ true → stopped s OutOfLimits ≡ busyStep s b mask o
   unfolding firstOf
-  busy-back h l = rw (ltb-no 0 (s .head .count) h, ltb-yes b (s .from) l) refl
+  busy-refused h e = rw (h, e) refl
 
-  pub busy-refused : s .head .count ≤ 0 → s .from ≤ b → not (within 1 (s .head .bridges) b && o) ≡ true → stopped s OutOfLimits ≡ busyStep s b mask o
+  pub busy-goes : busyMisplaced (stageIn (s .stage)) b ≡ false → not (within 1 (s .head .bridges) b && o) ≡ false
+      → record { verdict = Goes; state = afterBusy s b mask } ≡ busyStep s b mask o
   unfolding firstOf
-  busy-refused h l e = rw (ltb-no 0 (s .head .count) h, ltb-no b (s .from) l, e) refl
-
-  pub busy-goes : s .head .count ≤ 0 → s .from ≤ b → not (within 1 (s .head .bridges) b && o) ≡ false
-      → record { verdict = Goes; state = withBusy s b mask } ≡ busyStep s b mask o
-  unfolding firstOf
-  busy-goes h l e = rw (ltb-no 0 (s .head .count) h, ltb-no b (s .from) l, e) refl
+  busy-goes h e = rw (h, e) refl
 
 -- a bridge of the frame is at least 1
 pub busy-from-one : (k b : ℕ) (o : Bool) → not (within 1 k b && o) ≡ false → 1 ≤ b
@@ -86,7 +83,7 @@ module _ (s : State) (p : meant.Preset) where
   preset-many e u h = rw (e, u, leb-yes 32 (s .head .count) h) refl
 
   pub preset-goes : not (inLimits p) ≡ false → hasNumber (p .number) (map presetIn (take (s .head .count) (s .presets))) ≡ false → s .head .count < 32
-      → record { verdict = Goes; state = withPreset s p } ≡ presetStep s p
+      → record { verdict = Goes; state = afterPreset s p } ≡ presetStep s p
   unfolding firstOf
   preset-goes e u h = rw (e, u, leb-no 32 (s .head .count) h) refl
 

@@ -1,53 +1,73 @@
 -- One line more in the reading of a head: what the code's step means for `readFrom`.
 --
--- In order: the state's bounds (`Kept`); what a step means for the lines that are left (`afterStep`); line 1 (`first-line`), a line after it
+-- In order: stages (`leastBridge`); the state's bounds (`Kept`); what a step means for the lines that are left (`afterStep`); line 1 (`first-line`), a line after it
 -- (`next-line`), and both (`step-line`).
 -- Assumes nothing.
 use Prim.Native.Nat.{ℕ, suc, _+_, _-_, _≤_, _<_, min}
 use native.Mathlib.Omega.{arith}
 use native.Mathlib.Numerals.{add-one}
 use mathlib.Core.Path.{_≡_, refl, sym, _∙_, ap, subst}
-use mathlib.Core.Bool.{Bool, true, false, cond, _&&_, _||_}
+use mathlib.Core.Bool.{Bool, true, false, cond, _&&_}
 use mathlib.Core.Option.{Option, none, some}
 use mathlib.Core.List.{List, [], _∷_, _++_, map}
 use lib.ListN.{length, take, drop, set, length-map, length-set}
 use lib.Seq.{drop-drop, take-suc-set, drop-set-lt, length-take-le}
-use lib.Dec.{ltb, leb}
-use Rattle.laws.proofs.Tests.{Is, is, is-true, is-false, clash, left-of, right-of, neither-left}
-use Rattle.laws.proofs.Comparisons.{gt-of, ge-of}
+use lib.Dec.{leb}
+use Rattle.laws.proofs.Tests.{Is, is, is-true, is-false, clash, left-of, right-of}
+use Rattle.laws.proofs.Comparisons.{gt-of}
 use Rattle.station.specs.declared.types.Preset.{Preset}
 use Rattle.station.specs.declared.heads.steps.State.{State}
 use Rattle.station.specs.declared.heads.steps.Verdict.{Verdict}
 use Rattle.station.specs.declared.heads.steps.Verdict.the-variants.{Goes, Ends, Fails}
 use Rattle.station.specs.declared.heads.steps.Step.{Step}
 use Rattle.station.specs.Head as meant
-use Rattle.station.specs.Head.{within, inLimits, hasNumber}
+use Rattle.station.specs.Head.{presetOf, withBusy, withPresets, within, inLimits, hasNumber}
 use Rattle.station.specs.Refusal.{firstOf}
 use Rattle.station.specs.Form.{Pairs, Form, frameLine, busyLine, presetLine, clockLine, callLine}
 use Rattle.station.specs.Writing.{maskOf, ordered}
-use Rattle.station.specs.Reading.{Reading, accepted, refused, SoFar, begin, misplaced, outside, used, full, more, readFrom, presetOf}
+use Rattle.station.specs.Reading.{Reading, accepted, refused, Stage, atFrame, atBusy, atPresets, begun, SoFar, busyMisplaced, tried, readFrom}
 use Rattle.station.specs.method.Numeral.{seen}
 use Rattle.station.specs.method.ReadLine.{lineIn}
 use Rattle.station.specs.Types.{refusalIn, presetIn, headIn}
 use Rattle.station.specs.ReadHead.{recordOf}
-use Rattle.station.specs.method.HeadStep.{madeIn, soFarIn, stepOf, stepWhere, firstStep, nextStep, withFrame, withBusy, withPreset}
+use Rattle.station.specs.method.HeadStep.{stageIn, soFarIn, stepOf, stepWhere, firstStep, nextStep, afterFrame, afterBusy, afterPreset}
 use Rattle.station.specs.method.HeadStep.{frameStep, busyStep, presetStep}
 use Rattle.station.proofs.numbers.Decimals.{seen-leb, seen-within}
 use Rattle.station.proofs.ValidHead.{within-high, limits-of}
 use mathlib.Core.List.{map-append}
 use Rattle.station.proofs.heads.OneLine.{seen-ltb, seen-small}
 
+-- ---- stages
+
+-- the least bridge that a busy line may have, where one may come
+abbrev pub leastBridge : Stage → ℕ
+leastBridge atFrame = 0
+leastBridge (atBusy b) = b
+leastBridge atPresets = 0
+
+-- a bridge as it is read is as much out of its place
+seen-misplaced : (g : Stage) (b : ℕ) → leastBridge g ≤ 9 → busyMisplaced g (seen b) ≡ busyMisplaced g b
+seen-misplaced atFrame b h = refl
+seen-misplaced (atBusy k) b h = seen-ltb b k (omega arith)
+seen-misplaced atPresets b h = refl
+
+-- before the frame line every busy line is
+not-begun : (g : Stage) (b : ℕ) → begun g ≡ false → busyMisplaced g b ≡ true
+not-begun atFrame b e = refl
+not-begun (atBusy k) b e = absurd (clash e)
+not-begun atPresets b e = absurd (clash e)
+
 -- ---- the state's bounds
 
--- What holds between two lines: slots, bridges and presets are within their limits, the least bridge allowed is at most the ninth, no preset comes
+-- What holds between two lines: slots, bridges and presets are within their limits, the least bridge that a busy line may have is at most the ninth, no preset comes
 -- before the frame line, and of the records those past the last preset are still `old`, the ones handed in.
 pub record Kept (old : List Preset) (s : State) : Type 0 where
   pub slots : s .head .slots ≤ 64
   pub bridges : s .head .bridges ≤ 8
-  pub from : s .from ≤ 9
+  pub least : leastBridge (stageIn (s .stage)) ≤ 9
   pub count : s .head .count ≤ 32
   pub records : length (s .presets) ≡ 32
-  pub fresh : s .begun ≡ false → s .head .count ≡ 0
+  pub fresh : begun (stageIn (s .stage)) ≡ false → s .head .count ≡ 0
   pub past : drop (s .head .count) (s .presets) ≡ drop (s .head .count) old
 
 -- ---- what a step means for the lines that are left
@@ -69,33 +89,33 @@ pub record LineMeans (old : List Preset) (r : SoFar) (n : ℕ) (f : Option Form)
 -- ---- line 1
 
 module _ (old : List Preset) (s : State) (k : Kept old s) (n : ℕ) (ls : List (Option Form)) where
-  module _ (e : s .begun ≡ false) where
+  module _ (e : begun (stageIn (s .stage)) ≡ false) where
     -- a frame within its limits
-    frame-kept : (a b : ℕ) → (within 1 64 a && within 1 8 b) ≡ true → Kept old (withFrame s a b)
+    frame-kept : (a b : ℕ) → (within 1 64 a && within 1 8 b) ≡ true → Kept old (afterFrame s a b)
     frame-kept a b w = record {
       slots = within-high 1 64 a (left-of (within 1 64 a) (within 1 8 b) w);
       bridges = within-high 1 8 b (right-of (within 1 64 a) (within 1 8 b) w);
-      from = omega arith;
+      least = omega arith;
       count = omega arith;
       records = k .records;
       fresh = λ f. absurd (clash f);
       past = rw (k .fresh e) at (k .past);
     }
 
-    frame-yes : (a b : ℕ) → (within 1 64 a && within 1 8 b) ≡ true → LineMeans old begin n (some (frameLine a b)) ls (frameStep s a b)
-    unfolding readFrom misplaced outside used full more firstOf
-    frame-yes a b w = rw w (record { reads = rw w refl; kept = frame-kept a b w })
+    frame-yes : (a b : ℕ) → (within 1 64 a && within 1 8 b) ≡ true → LineMeans old (soFarIn s) n (some (frameLine a b)) ls (frameStep s a b)
+    unfolding readFrom tried firstOf
+    frame-yes a b w = rw w (record { reads = rw (e, w) refl; kept = frame-kept a b w })
 
     -- a frame outside them, its numbers as they are read
-    frame-no : (a b : ℕ) → (within 1 64 a && within 1 8 b) ≡ false → LineMeans old begin n (some (frameLine a b)) ls (frameStep s (seen a) (seen b))
-    unfolding readFrom misplaced outside used full more firstOf
+    frame-no : (a b : ℕ) → (within 1 64 a && within 1 8 b) ≡ false → LineMeans old (soFarIn s) n (some (frameLine a b)) ls (frameStep s (seen a) (seen b))
+    unfolding readFrom tried firstOf
     frame-no a b w =
-        rw (seen-within 1 64 a (omega arith) (omega arith), seen-within 1 8 b (omega arith) (omega arith), w) (record { reads = rw w refl; kept = k })
+        rw (seen-within 1 64 a (omega arith) (omega arith), seen-within 1 8 b (omega arith) (omega arith), w) (record { reads = rw (e, w) refl; kept = k })
 
-    frame-line : (a b : ℕ) → LineMeans old begin n (some (frameLine a b)) ls (frameStep s (seen a) (seen b))
+    frame-line : (a b : ℕ) → LineMeans old (soFarIn s) n (some (frameLine a b)) ls (frameStep s (seen a) (seen b))
     frame-line a b = go (is (within 1 64 a && within 1 8 b))
       where
-        go : Is (within 1 64 a && within 1 8 b) → LineMeans old begin n (some (frameLine a b)) ls (frameStep s (seen a) (seen b))
+        go : Is (within 1 64 a && within 1 8 b) → LineMeans old (soFarIn s) n (some (frameLine a b)) ls (frameStep s (seen a) (seen b))
         go (is-true w) =
             let sa : seen a ≡ a = seen-small a 64 (omega arith) (within-high 1 64 a (left-of (within 1 64 a) (within 1 8 b) w)) in
             let sb : seen b ≡ b = seen-small b 8 (omega arith) (within-high 1 8 b (right-of (within 1 64 a) (within 1 8 b) w)) in
@@ -103,14 +123,14 @@ module _ (old : List Preset) (s : State) (k : Kept old s) (n : ℕ) (ls : List (
         go (is-false w) = frame-no a b w
 
     -- line 1: any form but a frame's is out of its place, whatever its values
-    pub first-line : (hi : ℕ) (f : Option Form) → LineMeans old begin n f ls (firstStep s (lineIn hi f))
-    unfolding readFrom misplaced outside used full more firstOf
+    pub first-line : (hi : ℕ) (f : Option Form) → LineMeans old (soFarIn s) n f ls (firstStep s (lineIn hi f))
+    unfolding readFrom tried firstOf
     first-line hi none = record { reads = refl; kept = k }
     first-line hi (some (frameLine a b)) = frame-line a b
-    first-line hi (some (busyLine b p)) = record { reads = refl; kept = k }
-    first-line hi (some (presetLine a p m o)) = record { reads = refl; kept = k }
-    first-line hi (some (clockLine t)) = record { reads = refl; kept = k }
-    first-line hi (some (callLine p)) = record { reads = refl; kept = k }
+    first-line hi (some (busyLine b p)) = record { reads = rw (not-begun (stageIn (s .stage)) b e) refl; kept = k }
+    first-line hi (some (presetLine p)) = record { reads = rw e refl; kept = k }
+    first-line hi (some (clockLine t)) = record { reads = rw e refl; kept = k }
+    first-line hi (some (callLine p)) = record { reads = rw e refl; kept = k }
 
   -- ---- a line after line 1
 
@@ -121,14 +141,14 @@ module _ (old : List Preset) (s : State) (k : Kept old s) (n : ℕ) (ls : List (
       let r = k .records in
       length-map (take (s .head .count) (s .presets)) presetIn ∙ length-take-le (s .head .count) (s .presets) (omega arith)
 
-  busy-kept : (b mask : ℕ) → within 1 (s .head .bridges) b ≡ true → s .head .count ≡ 0 → Kept old (withBusy s b mask)
-  busy-kept b mask w z =
+  busy-kept : (b mask : ℕ) → within 1 (s .head .bridges) b ≡ true → Kept old (afterBusy s b mask)
+  busy-kept b mask w =
       let h = within-high 1 (s .head .bridges) b w in
       let g = k .bridges in
       record {
         slots = k .slots;
         bridges = k .bridges;
-        from = omega arith;
+        least = omega arith;
         count = k .count;
         records = k .records;
         fresh = λ f. absurd (clash f);
@@ -138,53 +158,43 @@ module _ (old : List Preset) (s : State) (k : Kept old s) (n : ℕ) (ls : List (
   module _ (b : ℕ) (p : Pairs) where
     -- out of its place: after a preset line, or on a bridge that does not ascend
     abbrev early : Bool
-    early = ltb 0 (s .head .count) || ltb b (s .from)
+    early = busyMisplaced (stageIn (s .stage)) b
 
     abbrev BusyMeans : ℕ → ℕ → Bool → Type 0
-    BusyMeans b' mask o = LineMeans old (madeIn true s) n (some (busyLine b p)) ls (busyStep s b' mask o)
+    BusyMeans b' mask o = LineMeans old (soFarIn s) n (some (busyLine b p)) ls (busyStep s b' mask o)
 
     -- whatever the other values
     busy-early : (mask : ℕ) (o : Bool) → early ≡ true → BusyMeans (seen b) mask o
-    unfolding readFrom misplaced outside used full more firstOf
+    unfolding readFrom tried firstOf
     busy-early mask o e =
-        let f = k .from in
-        rw (seen-ltb b (s .from) (omega arith), e) (record { reads = rw (count-length, e) refl; kept = k })
+        rw (seen-misplaced (stageIn (s .stage)) b (k .least), e) (record { reads = rw e refl; kept = k })
 
     -- in its place, and outside the frame
     busy-no : (mask : ℕ) → early ≡ false → (within 1 (s .head .bridges) b && ordered 1 (s .head .slots) p) ≡ false
         → BusyMeans (seen b) mask (ordered 1 (s .head .slots) p)
-    unfolding readFrom misplaced outside used full more firstOf
+    unfolding readFrom tried firstOf
     busy-no mask e w =
-        let f = k .from in
         let g = k .bridges in
-        rw (seen-ltb b (s .from) (omega arith), e, seen-within 1 (s .head .bridges) b (omega arith) (omega arith), w)
-        (record { reads = rw (count-length, e, w) refl; kept = k })
+        rw (seen-misplaced (stageIn (s .stage)) b (k .least), e, seen-within 1 (s .head .bridges) b (omega arith) (omega arith), w)
+        (record { reads = rw (e, w) refl; kept = k })
 
     -- within it: the values were read as they are, and the bridge has the mask of its stretches
     busy-yes : early ≡ false → within 1 (s .head .bridges) b ≡ true → ordered 1 (s .head .slots) p ≡ true → BusyMeans b (maskOf p) true
-    unfolding readFrom misplaced outside used full more firstOf
+    unfolding readFrom tried firstOf
     busy-yes e w o =
-        let z : s .head .count ≡ 0 = omega (arith, ge-of 0 (s .head .count) (neither-left (ltb 0 (s .head .count)) (ltb b (s .from)) e)) in
         rw (e, w)
         (record {
           reads =
-              rw (count-length, e, w, o)
+              rw (e, w, o)
               (ap
               (λ (x : ℕ). readFrom (suc n)
               (record {
-                begun = true;
-                from = x;
-                head =
-                    record {
-                      slots = s .head .slots;
-                      bridges = s .head .bridges;
-                      busy = set (s .head .busy) (b - 1) (maskOf p);
-                      presets = map presetIn (take (s .head .count) (s .presets));
-                    };
+                stage = atBusy x;
+                head = withBusy (headIn (s .head) (s .presets)) (set (s .head .busy) (b - 1) (maskOf p));
               })
               ls)
               (sym (add-one b)));
-          kept = busy-kept b (maskOf p) w z;
+          kept = busy-kept b (maskOf p) w;
         })
 
     busy-line : BusyMeans (seen b) (cond (ordered 1 (s .head .slots) p) (maskOf p) 0) (ordered 1 (s .head .slots) p)
@@ -206,71 +216,74 @@ module _ (old : List Preset) (s : State) (k : Kept old s) (n : ℕ) (ls : List (
   abbrev inUse : List meant.Preset
   inUse = map presetIn (take (s .head .count) (s .presets))
 
-  module _ (a p m o : ℕ) where
+  -- a preset whose values are as they are read
+  abbrev asRead : meant.Preset → meant.Preset
+  asRead p = presetOf (seen (p .number)) (seen (p .priority)) (seen (p .mandatory)) (seen (p .optional))
+
+  module _ (g : begun (stageIn (s .stage)) ≡ true) (p : meant.Preset) where
     abbrev PresetMeans : meant.Preset → Type 0
-    PresetMeans q = LineMeans old (madeIn true s) n (some (presetLine a p m o)) ls (presetStep s q)
+    PresetMeans q = LineMeans old (soFarIn s) n (some (presetLine p)) ls (presetStep s q)
 
     -- a value outside its limits
-    preset-no : inLimits (presetOf a p m o) ≡ false → PresetMeans (presetOf (seen a) (seen p) (seen m) (seen o))
-    unfolding readFrom misplaced outside used full more firstOf
+    preset-no : inLimits p ≡ false → PresetMeans (asRead p)
+    unfolding readFrom tried firstOf
     preset-no e =
         rw (
-          seen-within 1 255 a (omega arith) (omega arith),
-          seen-leb p 9 (omega arith),
-          seen-leb m 64 (omega arith),
-          seen-leb o 64 (omega arith),
+          seen-within 1 255 (p .number) (omega arith) (omega arith),
+          seen-leb (p .priority) 9 (omega arith),
+          seen-leb (p .mandatory) 64 (omega arith),
+          seen-leb (p .optional) 64 (omega arith),
           e,
         )
-        (record { reads = rw e refl; kept = k })
+        (record { reads = rw (g, e) refl; kept = k })
 
     -- within them, and the number is used
-    preset-taken : inLimits (presetOf a p m o) ≡ true → hasNumber a inUse ≡ true → PresetMeans (presetOf a p m o)
-    unfolding readFrom misplaced outside used full more firstOf
-    preset-taken e u = rw (e, u) (record { reads = rw (e, u) refl; kept = k })
+    preset-taken : inLimits p ≡ true → hasNumber (p .number) inUse ≡ true → PresetMeans p
+    unfolding readFrom tried firstOf
+    preset-taken e u = rw (e, u) (record { reads = rw (g, e, u) refl; kept = k })
 
     -- not used, and the 33rd
-    preset-over : inLimits (presetOf a p m o) ≡ true → hasNumber a inUse ≡ false → leb 32 (s .head .count) ≡ true → PresetMeans (presetOf a p m o)
-    unfolding readFrom misplaced outside used full more firstOf
-    preset-over e u c = rw (e, u, c) (record { reads = rw (e, u, count-length, c) refl; kept = k })
+    preset-over : inLimits p ≡ true → hasNumber (p .number) inUse ≡ false → leb 32 (s .head .count) ≡ true → PresetMeans p
+    unfolding readFrom tried firstOf
+    preset-over e u c = rw (e, u, c) (record { reads = rw (g, e, u, count-length, c) refl; kept = k })
 
     -- one more preset, after those so far
     preset-added : s .head .count < 32
-        → map presetIn (take (s .head .count + 1) (set (s .presets) (s .head .count) (recordOf (presetOf a p m o)))) ≡ inUse ++ (presetOf a p m o ∷ [])
+        → map presetIn (take (s .head .count + 1) (set (s .presets) (s .head .count) (recordOf p))) ≡ inUse ++ (p ∷ [])
     preset-added c =
         let r = k .records in
-        rw (add-one (s .head .count), take-suc-set (s .presets) (s .head .count) (recordOf (presetOf a p m o)) (omega arith))
-        (map-append presetIn (take (s .head .count) (s .presets)) (recordOf (presetOf a p m o) ∷ []))
+        rw (add-one (s .head .count), take-suc-set (s .presets) (s .head .count) (recordOf p) (omega arith))
+        (map-append presetIn (take (s .head .count) (s .presets)) (recordOf p ∷ []))
 
-    preset-kept : s .head .count < 32 → Kept old (withPreset s (presetOf a p m o))
+    preset-kept : s .head .count < 32 → Kept old (afterPreset s p)
     preset-kept c = record {
       slots = k .slots;
       bridges = k .bridges;
-      from = k .from;
+      least = omega arith;
       count = omega arith;
-      records = length-set (s .presets) (s .head .count) (recordOf (presetOf a p m o)) ∙ k .records;
+      records = length-set (s .presets) (s .head .count) (recordOf p) ∙ k .records;
       fresh = λ f. absurd (clash f);
       past =
-          drop-set-lt (s .head .count + 1) (s .presets) (s .head .count) (recordOf (presetOf a p m o)) (omega arith)
+          drop-set-lt (s .head .count + 1) (s .presets) (s .head .count) (recordOf p) (omega arith)
           ∙ sym (drop-drop 1 (s .head .count) (s .presets))
           ∙ ap (drop 1) (k .past)
           ∙ drop-drop 1 (s .head .count) old;
     }
 
     -- no cause holds
-    preset-fits : inLimits (presetOf a p m o) ≡ true → hasNumber a inUse ≡ false → leb 32 (s .head .count) ≡ false → PresetMeans (presetOf a p m o)
-    unfolding readFrom misplaced outside used full more firstOf
+    preset-fits : inLimits p ≡ true → hasNumber (p .number) inUse ≡ false → leb 32 (s .head .count) ≡ false → PresetMeans p
+    unfolding readFrom tried firstOf
     preset-fits e u c =
         let l : s .head .count < 32 = gt-of 32 (s .head .count) c in
         rw (e, u, c)
         (record {
           reads =
-              rw (e, u, count-length, c)
+              rw (g, e, u, count-length, c)
               (ap
               (λ (x : List meant.Preset). readFrom (suc n)
               (record {
-                begun = true;
-                from = s .from;
-                head = record { slots = s .head .slots; bridges = s .head .bridges; busy = s .head .busy; presets = x };
+                stage = atPresets;
+                head = withPresets (headIn (s .head) (s .presets)) x;
               })
               ls)
               (sym (preset-added l)));
@@ -278,33 +291,33 @@ module _ (old : List Preset) (s : State) (k : Kept old s) (n : ℕ) (ls : List (
         })
 
     -- values within their limits were read as they are
-    preset-line : PresetMeans (presetOf (seen a) (seen p) (seen m) (seen o))
-    preset-line = go (is (inLimits (presetOf a p m o))) (is (hasNumber a inUse)) (is (leb 32 (s .head .count)))
+    preset-line : PresetMeans (asRead p)
+    preset-line = go (is (inLimits p)) (is (hasNumber (p .number) inUse)) (is (leb 32 (s .head .count)))
       where
-        raw : inLimits (presetOf a p m o) ≡ true → PresetMeans (presetOf a p m o) → PresetMeans (presetOf (seen a) (seen p) (seen m) (seen o))
+        raw : inLimits p ≡ true → PresetMeans p → PresetMeans (asRead p)
         raw e x =
-            let l = limits-of (presetOf a p m o) e in
-            let sa : seen a ≡ a = seen-small a 255 (omega arith) (l .number-high) in
-            let sp : seen p ≡ p = seen-small p 9 (omega arith) (l .priority) in
-            let sm : seen m ≡ m = seen-small m 64 (omega arith) (l .mandatory) in
-            let so : seen o ≡ o = seen-small o 64 (omega arith) (l .optional) in
+            let l = limits-of p e in
+            let sa : seen (p .number) ≡ p .number = seen-small (p .number) 255 (omega arith) (l .number-high) in
+            let sp : seen (p .priority) ≡ p .priority = seen-small (p .priority) 9 (omega arith) (l .priority) in
+            let sm : seen (p .mandatory) ≡ p .mandatory = seen-small (p .mandatory) 64 (omega arith) (l .mandatory) in
+            let so : seen (p .optional) ≡ p .optional = seen-small (p .optional) 64 (omega arith) (l .optional) in
             rw (sa, sp, sm, so) x
 
-        go : Is (inLimits (presetOf a p m o)) → Is (hasNumber a inUse) → Is (leb 32 (s .head .count)) → PresetMeans (presetOf (seen a) (seen p) (seen m) (seen o))
+        go : Is (inLimits p) → Is (hasNumber (p .number) inUse) → Is (leb 32 (s .head .count)) → PresetMeans (asRead p)
         go (is-false e) u c = preset-no e
         go (is-true e) (is-true u) c = raw e (preset-taken e u)
         go (is-true e) (is-false u) (is-true c) = raw e (preset-over e u c)
         go (is-true e) (is-false u) (is-false c) = raw e (preset-fits e u c)
 
   -- a line after line 1; an event's form ends the head
-  pub next-line : (f : Option Form) → LineMeans old (madeIn true s) n f ls (nextStep s (lineIn (s .head .slots) f))
-  unfolding readFrom misplaced outside used full more firstOf
-  next-line none = record { reads = refl; kept = k }
-  next-line (some (frameLine a b)) = record { reads = refl; kept = k }
-  next-line (some (busyLine b p)) = busy-line b p
-  next-line (some (presetLine a p m o)) = preset-line a p m o
-  next-line (some (clockLine t)) = record { reads = refl; kept = k }
-  next-line (some (callLine p)) = record { reads = refl; kept = k }
+  pub next-line : begun (stageIn (s .stage)) ≡ true → (f : Option Form) → LineMeans old (soFarIn s) n f ls (nextStep s (lineIn (s .head .slots) f))
+  unfolding readFrom tried firstOf
+  next-line g none = record { reads = refl; kept = k }
+  next-line g (some (frameLine a b)) = record { reads = rw g refl; kept = k }
+  next-line g (some (busyLine b p)) = busy-line b p
+  next-line g (some (presetLine p)) = preset-line g p
+  next-line g (some (clockLine t)) = record { reads = rw g refl; kept = k }
+  next-line g (some (callLine p)) = record { reads = rw g refl; kept = k }
 
   -- ---- a line wherever it stands
 
@@ -312,8 +325,8 @@ module _ (old : List Preset) (s : State) (k : Kept old s) (n : ℕ) (ls : List (
   step-line f =
       let h = k .slots in
       let e : min (s .head .slots) 64 ≡ s .head .slots = omega arith in
-      rw e (go (is (s .begun)))
+      rw e (go (is (begun (stageIn (s .stage)))))
     where
-      go : Is (s .begun) → LineMeans old (soFarIn s) n f ls (stepOf s (lineIn (s .head .slots) f))
-      go (is-true b) = subst (λ (x : Bool). LineMeans old (madeIn x s) n f ls (stepWhere x s (lineIn (s .head .slots) f))) (sym b) (next-line f)
-      go (is-false b) = subst (λ (x : Bool). LineMeans old (madeIn x s) n f ls (stepWhere x s (lineIn (s .head .slots) f))) (sym b) (first-line b (s .head .slots) f)
+      go : Is (begun (stageIn (s .stage))) → LineMeans old (soFarIn s) n f ls (stepOf s (lineIn (s .head .slots) f))
+      go (is-true b) = subst (λ (x : Bool). LineMeans old (soFarIn s) n f ls (stepWhere x s (lineIn (s .head .slots) f))) (sym b) (next-line b f)
+      go (is-false b) = subst (λ (x : Bool). LineMeans old (soFarIn s) n f ls (stepWhere x s (lineIn (s .head .slots) f))) (sym b) (first-line b (s .head .slots) f)

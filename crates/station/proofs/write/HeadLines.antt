@@ -18,8 +18,8 @@ use Rattle.station.specs.declared.types.Refusal.the-variants.{TooShort, 
 use Rattle.station.specs.Head.{Head}
 use Rattle.station.specs.Refusal.{firstOf}
 use Rattle.station.specs.Text.{join}
-use Rattle.station.specs.Form.{Form, frameLine, print}
-use Rattle.station.specs.Writing.{stretches, busyLineOf, busyLines, presetLineOf, formsOf, textOf}
+use Rattle.station.specs.Form.{Form, frameLine, presetLine, print}
+use Rattle.station.specs.Writing.{stretches, busyLineOf, busyLines, formsOf, textOf}
 use Rattle.station.specs.Types.{presetIn, noRecord, headIn, validRecord}
 use Rattle.station.specs.Wrote.{Wrote}
 use Rattle.station.specs.WriteHead.{written, writeAnswer, writeOutput, WroteHead}
@@ -42,14 +42,14 @@ busy-lines-step b busy h =
 
 -- the lines of the presets from record i on: that of i, and the others
 pub preset-lines-step : (i n : ℕ) (ps : List Preset) → i < n → n ≤ length ps
-    → join (map print (map presetLineOf (map presetIn (drop i (take n ps)))))
-    ≡ print (presetLineOf (presetIn (getD ps i noRecord))) ++ join (map print (map presetLineOf (map presetIn (drop (suc i) (take n ps)))))
+    → join (map print (map presetLine (map presetIn (drop i (take n ps)))))
+    ≡ print (presetLine (presetIn (getD ps i noRecord))) ++ join (map print (map presetLine (map presetIn (drop (suc i) (take n ps)))))
 preset-lines-step i n ps h l = rw (records-step i n ps h l) refl
 
 -- the text of a head: the frame line, the busy lines, the preset lines
-pub head-text : (h : Head) → textOf h ≡ print (frameLine (h .slots) (h .bridges)) ++ (join (map print (busyLines 1 (h .busy))) ++ join (map print (map presetLineOf (h .presets))))
+pub head-text : (h : Head) → textOf h ≡ print (frameLine (h .slots) (h .bridges)) ++ (join (map print (busyLines 1 (h .busy))) ++ join (map print (map presetLine (h .presets))))
 unfolding textOf formsOf
-head-text h = ap (λ (l : List ℕ). print (frameLine (h .slots) (h .bridges)) ++ l) (text-append (busyLines 1 (h .busy)) (map presetLineOf (h .presets)))
+head-text h = ap (λ (l : List ℕ). print (frameLine (h .slots) (h .bridges)) ++ l) (text-append (busyLines 1 (h .busy)) (map presetLine (h .presets)))
 
 -- ---- the entry's answer and output, by the cause that holds
 

@@ -8,11 +8,12 @@ use mathlib.Core.Option.{Option, none, some}
 use mathlib.Core.List.{List}
 use lib.ListN.{length, drop}
 use lib.Dec.{leb}
+use Rattle.station.specs.Limits.{mostSlots, mostJobs}
 use Rattle.station.specs.declared.brackets.Bracket.{Bracket}
 use Rattle.station.specs.declared.brackets.Stretches.{Stretches}
 use Rattle.station.specs.declared.brackets.Taken.{Taken}
 use Rattle.station.specs.declared.brackets.Jobs.{Jobs}
-use Rattle.station.specs.Form.{Pairs, last, next, also, readBrackets, jobsOf}
+use Rattle.station.specs.Form.{Pairs, CallJobs, last, next, also, readBrackets, jobsOf}
 use Rattle.station.specs.Writing.{maskTo, maskOf, ordered}
 use Rattle.station.specs.method.Numeral.{seen}
 use Rattle.station.specs.Jobs.{jobsInLimits, padded, noJobs}
@@ -38,7 +39,7 @@ noStretch = record { from = 1; mask = 0; ordered = true }
 -- The mask holds slots below the next stretch only, so that one more stretch is added to it without overlap; slot 64 is the last of all.
 pub record MaskedSoFar (s : Stretches) : Type 0 where
   pub low : 1 ≤ s .from
-  pub high : s .from ≤ 66
+  pub high : s .from ≤ mostSlots + 2
   pub below : s .mask < 2 ^ (s .from - 1)
 
 -- a stretch was out of order, or outside the frame
@@ -62,6 +63,6 @@ takenIn hi (some p) = record { found = true; mask = cond (ordered 1 hi p) (maskO
 -- ---- jobs
 
 -- the jobs of a call: how many, whether each is within its limits, and the first eight
-abbrev pub jobsRead : Option Pairs → Jobs
+abbrev pub jobsRead : Option CallJobs → Jobs
 jobsRead none = record { found = false; count = 0; fit = false; jobs = noJobs }
-jobsRead (some p) = record { found = true; count = seen (length (jobsOf p)); fit = jobsInLimits (jobsOf p); jobs = padded 8 (jobsOf p) }
+jobsRead (some p) = record { found = true; count = seen (length (jobsOf p)); fit = jobsInLimits (jobsOf p); jobs = padded mostJobs (jobsOf p) }

@@ -1,16 +1,17 @@
 -- One line more in the reading of a head, in the code's types: what the functions below `read_head_by_value` are held to. A line's numbers are as they are
 -- read. Document 01, "The station text" and "Causes".
 --
--- In order: the answers (`acceptedRead`, `refusedRead`); the state between two lines and what it stands for (`noState`, `soFarIn`); one line more, by
+-- In order: the answers (`acceptedRead`, `refusedRead`); the state between two lines and what it stands for (`noState`, `stageIn`, `soFarIn`); one line more, by
 -- its form (`frameStep`, `busyStep`, `presetStep`), on line 1 (`firstStep`), after it (`nextStep`), and anywhere (`stepOf`). That a step is what
 -- `readFrom` makes of the line is shown in proofs/heads/StepMeaning.antt.
 -- Assumes nothing.
 use Prim.Native.Nat.{ℕ, _+_, _-_}
-use mathlib.Core.Bool.{Bool, true, false, not, _&&_, _||_}
+use mathlib.Core.Bool.{Bool, true, false, not, _&&_}
 use mathlib.Core.Option.{Option, none, some}
 use mathlib.Core.List.{List, [], _∷_, map}
-use lib.ListN.{take, set, replicate}
-use lib.Dec.{ltb, leb}
+use lib.ListN.{take, set}
+use lib.Dec.{leb}
+use Rattle.station.specs.Limits.{mostPresets}
 use Rattle.station.specs.declared.types.Preset.{Preset}
 use Rattle.station.specs.declared.types.Head.{Head}
 use Rattle.station.specs.declared.types.Refusal.{Refusal}
@@ -18,14 +19,17 @@ use Rattle.station.specs.declared.forms.Line.{Line}
 use Rattle.station.specs.declared.forms.Line.the-variants as line
 use Rattle.station.specs.declared.heads.ReadAnswer.the-variants.{Accepted, Refused}
 use Rattle.station.specs.declared.heads.HeadRead.{HeadRead}
+use Rattle.station.specs.declared.heads.steps.Stage as code
+use Rattle.station.specs.declared.heads.steps.Stage.the-variants.{Frame, Busy, Presets}
 use Rattle.station.specs.declared.heads.steps.State.{State}
 use Rattle.station.specs.declared.heads.steps.Verdict.the-variants.{Goes, Ends, Fails}
 use Rattle.station.specs.declared.heads.steps.Step.{Step}
 use Rattle.station.specs.Head as meant
+use Rattle.station.specs.Head.{presetOf}
 use Rattle.station.specs.Refusal as meant-refusal
 use Rattle.station.specs.Refusal.{try, firstOf, noForm, outOfLimits, outOfPlace, numberUsed, tooMany}
-use Rattle.station.specs.Reading.{SoFar, begin, presetOf}
-use Rattle.station.specs.Types.{refusalOf, presetIn, headIn}
+use Rattle.station.specs.Reading.{Stage, atFrame, atBusy, atPresets, begun, busyMisplaced, SoFar}
+use Rattle.station.specs.Types.{refusalOf, presetIn, bareRecord, withMasks, withCount, headIn}
 use Rattle.station.specs.ReadHead.{recordOf}
 
 -- ---- the answers, in the code's values
@@ -42,16 +46,17 @@ refusedRead line c head presets = record { answer = Refused line c; head = head;
 
 -- before line 1
 abbrev pub noState : List Preset → State
-noState presets = record { begun = false; from = 0; head = record { slots = 0; bridges = 0; busy = replicate 8 0; count = 0 }; presets = presets }
+noState presets = record { stage = Frame; head = bareRecord 0 0; presets = presets }
 
--- what the state stands for, by whether the frame line was read: before it, nothing of a head
-abbrev pub madeIn : Bool → State → SoFar
-madeIn false s = begin
-madeIn true s = record { begun = true; from = s .from; head = headIn (s .head) (s .presets) }
+-- what the code's stage stands for
+abbrev pub stageIn : code.Stage → Stage
+stageIn Frame = atFrame
+stageIn (Busy b) = atBusy b
+stageIn Presets = atPresets
 
 -- what the state stands for
 abbrev pub soFarIn : State → SoFar
-soFarIn s = madeIn (s .begun) s
+soFarIn s = record { stage = stageIn (s .stage); head = headIn (s .head) (s .presets) }
 
 -- ---- one line more, its numbers as they are read
 
@@ -73,53 +78,44 @@ stepBy none s next = record { verdict = Goes; state = next }
 stepBy (some c) s next = failed s c
 
 -- the state after the frame line
-abbrev pub withFrame : State → ℕ → ℕ → State
-withFrame s slots bridges =
-    record { begun = true; from = 0; head = record { slots = slots; bridges = bridges; busy = replicate 8 0; count = 0 }; presets = s .presets }
+abbrev pub afterFrame : State → ℕ → ℕ → State
+afterFrame s slots bridges = record { stage = Busy 0; head = bareRecord slots bridges; presets = s .presets }
 
 -- a frame line on line 1
 abbrev pub frameStep : State → ℕ → ℕ → Step
 frameStep s slots bridges =
-    stepBy (firstOf (try outOfLimits (not (meant.within 1 64 slots && meant.within 1 8 bridges)) ∷ [])) s (withFrame s slots bridges)
+    stepBy (firstOf (try outOfLimits (not (meant.frameInLimits slots bridges)) ∷ [])) s (afterFrame s slots bridges)
 
 -- the causes of a busy line after the frame line: its bridge, and whether its stretches are in order in the frame
 abbrev pub busyCauses : State → ℕ → Bool → List (Option meant-refusal.Refusal)
 busyCauses s b ordered =
-    try outOfPlace (ltb 0 (s .head .count) || ltb b (s .from)) ∷ try outOfLimits (not (meant.within 1 (s .head .bridges) b && ordered)) ∷ []
+    try outOfPlace (busyMisplaced (stageIn (s .stage)) b) ∷ try outOfLimits (not (meant.within 1 (s .head .bridges) b && ordered)) ∷ []
 
 -- the state after a busy line
-abbrev pub withBusy : State → ℕ → ℕ → State
-withBusy s b mask = record {
-  begun = true;
-  from = b + 1;
-  head =
-      record { slots = s .head .slots; bridges = s .head .bridges; busy = set (s .head .busy) (b - 1) mask; count = s .head .count };
-  presets = s .presets;
-}
+abbrev pub afterBusy : State → ℕ → ℕ → State
+afterBusy s b mask = record { stage = Busy (b + 1); head = withMasks (s .head) (set (s .head .busy) (b - 1) mask); presets = s .presets }
 
 -- a busy line after the frame line
 abbrev pub busyStep : State → ℕ → ℕ → Bool → Step
-busyStep s b mask ordered = stepBy (firstOf (busyCauses s b ordered)) s (withBusy s b mask)
+busyStep s b mask ordered = stepBy (firstOf (busyCauses s b ordered)) s (afterBusy s b mask)
 
 -- the causes of a preset line after the frame line
 abbrev pub presetCauses : State → meant.Preset → List (Option meant-refusal.Refusal)
 presetCauses s p =
     try outOfLimits (not (meant.inLimits p)) ∷ try numberUsed (meant.hasNumber (p .number) (map presetIn (take (s .head .count) (s .presets))))
-    ∷ try tooMany (leb 32 (s .head .count)) ∷ []
+    ∷ try tooMany (leb mostPresets (s .head .count)) ∷ []
 
 -- the state after a preset line
-abbrev pub withPreset : State → meant.Preset → State
-withPreset s p = record {
-  begun = true;
-  from = s .from;
-  head =
-      record { slots = s .head .slots; bridges = s .head .bridges; busy = s .head .busy; count = s .head .count + 1 };
+abbrev pub afterPreset : State → meant.Preset → State
+afterPreset s p = record {
+  stage = Presets;
+  head = withCount (s .head) (s .head .count + 1);
   presets = set (s .presets) (s .head .count) (recordOf p);
 }
 
 -- a preset line after the frame line
 abbrev pub presetStep : State → meant.Preset → Step
-presetStep s p = stepBy (firstOf (presetCauses s p)) s (withPreset s p)
+presetStep s p = stepBy (firstOf (presetCauses s p)) s (afterPreset s p)
 
 -- line 1: "no frame on line 1" is out of place
 abbrev pub firstStep : State → Line → Step
@@ -146,4 +142,4 @@ stepWhere true s l = nextStep s l
 
 -- one line more
 abbrev pub stepOf : State → Line → Step
-stepOf s l = stepWhere (s .begun) s l
+stepOf s l = stepWhere (begun (stageIn (s .stage))) s l

@@ -5,6 +5,7 @@ use mathlib.Core.Bool.{Bool, true, false, cond}
 use mathlib.Core.Option.{Option, none, some}
 use mathlib.Core.List.{List}
 use lib.ListN.{length}
+use Rattle.station.specs.Limits.{mostJobs}
 use Rattle.station.specs.Form.{Form, frameLine, busyLine, presetLine, clockLine, callLine, jobsOf}
 use Rattle.station.specs.Form.{_orElse_, frameIn, busyIn, presetIn, clockIn, callIn}
 use Rattle.station.specs.Writing.{maskOf, ordered}
@@ -21,7 +22,7 @@ abbrev pub lineIn : ℕ → Option Form → Line
 lineIn hi none = NoForm
 lineIn hi (some (frameLine s b)) = Frame (seen s) (seen b)
 lineIn hi (some (busyLine b p)) = Busy (seen b) (cond (ordered 1 hi p) (maskOf p) 0) (ordered 1 hi p)
-lineIn hi (some (presetLine n p m o)) = Preset (seen n) (seen p) (seen m) (seen o)
+lineIn hi (some (presetLine p)) = Preset (seen (p .number)) (seen (p .priority)) (seen (p .mandatory)) (seen (p .optional))
 lineIn hi (some (clockLine t)) = Clock (seen t)
 lineIn hi (some (callLine p)) = Call (seen (length (jobsOf p)))
 
@@ -30,9 +31,9 @@ abbrev pub jobsIn : Option Form → List Job
 jobsIn none = noJobs
 jobsIn (some (frameLine s b)) = noJobs
 jobsIn (some (busyLine b p)) = noJobs
-jobsIn (some (presetLine n p m o)) = noJobs
+jobsIn (some (presetLine p)) = noJobs
 jobsIn (some (clockLine t)) = noJobs
-jobsIn (some (callLine p)) = padded 8 (jobsOf p)
+jobsIn (some (callLine p)) = padded mostJobs (jobsOf p)
 
 -- a line and its jobs
 abbrev pub readIn : ℕ → Option Form → Read

@@ -3,6 +3,9 @@ use crate::entries::HeadAnswer;
 use crate::heads::HeadRead;
 use crate::heads::ReadAnswer;
 use crate::heads::read_head_by_value;
+use crate::limits::LEAST_RECORDS;
+use crate::limits::MOST_BYTES;
+use crate::limits::MOST_PRESETS;
 use crate::types::Head;
 use crate::types::Preset;
 use crate::types::Refusal;
@@ -15,19 +18,19 @@ ghost use Rattle.station.specs.Entries.{WroteEntry, entryRead, refusedAt
 pub(crate) fn write_counted(
     records: usize,
     head: Head,
-    bank: [Preset; 32],
+    bank: [Preset; MOST_PRESETS],
     out: &mut [u8],
 ) -> Writing
     ensures { λ r. ⌜ WroteEntry records head bank (now (out .entry)) r (now (out .exit)) ⌝ }
 {
-    if records < 32 {
+    if records < LEAST_RECORDS {
         return Writing::Refused(Refusal::TooShort);
     }
     write_head_by_value(head, bank, out)
 }
 
 // A refusal at line 0, which leaves the head and the records as they were handed in.
-fn refuse_at_start(cause: Refusal, head: Head, bank: [Preset; 32]) -> HeadRead
+fn refuse_at_start(cause: Refusal, head: Head, bank: [Preset; MOST_PRESETS]) -> HeadRead
     ensures { λ r. ⌜ r ≡ refusedAtStart cause head bank ⌝ }
 {
     HeadRead {
@@ -38,20 +41,25 @@ fn refuse_at_start(cause: Refusal, head: Head, bank: [Preset; 32]) -> HeadRead
 }
 
 // Reads the head of a text; refused with 10 for more than 32,768 bytes, and then with 8 for fewer than 32 records.
-pub(crate) fn read_counted(records: usize, text: &[u8], head: Head, bank: [Preset; 32]) -> HeadRead
+pub(crate) fn read_counted(
+    records: usize,
+    text: &[u8],
+    head: Head,
+    bank: [Preset; MOST_PRESETS],
+) -> HeadRead
     ensures { λ r. ⌜ r ≡ entryRead records (now (text .entry)) head bank ⌝ }
 {
-    if 32768 < text.len() {
+    if MOST_BYTES < text.len() {
         return refuse_at_start(Refusal::TextTooLong, head, bank);
     }
-    if records < 32 {
+    if records < LEAST_RECORDS {
         return refuse_at_start(Refusal::TooShort, head, bank);
     }
     read_head_by_value(text, head, bank)
 }
 
 // The records that a reading leaves.
-pub(crate) fn bank_of(read: HeadRead) -> [Preset; 32]
+pub(crate) fn bank_of(read: HeadRead) -> [Preset; MOST_PRESETS]
     ensures { λ r. ⌜ r ≡ read .presets ⌝ }
 {
     read.presets

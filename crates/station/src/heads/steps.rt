@@ -3,8 +3,11 @@ use crate::check::frame_in_limits;
 use crate::check::preset_in_limits;
 use crate::forms::Line;
 use crate::forms::read_line;
+use crate::limits::MOST_BRIDGES;
+use crate::limits::MOST_PRESETS;
 use crate::records::with_record;
 use crate::types::Head;
+use crate::types::NO_HEAD;
 use crate::types::Preset;
 use crate::types::Refusal;
 ghost use mathlib.Core.Path.{_≡_};
@@ -12,21 +15,27 @@ ghost use mathlib.Core.Bool.{true, not, _&&_};
 ghost use Prim.Native.Nat.{min};
 ghost use mathlib.Core.List.{map};
 ghost use lib.ListN.{take, set};
-ghost use Rattle.station.specs.Head.{within, inLimits, hasNumber};
+ghost use Rattle.station.specs.Limits.{mostSlots};
+ghost use Rattle.station.specs.Head.{presetOf, within, inLimits, hasNumber};
 ghost use Rattle.station.specs.Form.{form};
 ghost use Rattle.station.specs.method.ReadLine.{lineIn};
-ghost use Rattle.station.specs.Reading.{presetOf};
+ghost use Rattle.station.specs.Reading.{begun, busyMisplaced};
 ghost use Rattle.station.specs.Types.{presetIn};
 ghost use Rattle.station.specs.ReadHead.{recordOf};
-ghost use Rattle.station.specs.method.HeadStep.{stopped, frameStep, busyStep, presetStep, firstStep, nextStep, stepOf};
+ghost use Rattle.station.specs.method.HeadStep.{stageIn, stopped, frameStep, busyStep, presetStep, firstStep, nextStep, stepOf};
 
-// What the lines read so far make: whether the frame line was read, the least bridge that a busy line may have here, the head and its
-// preset records.
+// How far a head was read: at the frame line; at the busy lines, the next with this bridge at the least; at the presets.
+pub(crate) enum Stage {
+    Frame,
+    Busy(usize),
+    Presets,
+}
+
+// What the lines read so far make: the stage, the head and its preset records.
 pub(crate) struct State {
-    pub begun: bool,
-    pub from: usize,
+    pub stage: Stage,
     pub head: Head,
-    pub presets: [Preset; 32],
+    pub presets: [Preset; MOST_PRESETS],
 }
 
 // What a line means for the reading: it goes on, the head ended before the line, or the line is refused.
@@ -40,6 +49,28 @@ pub(crate) enum Verdict {
 pub(crate) struct Step {
     pub verdict: Verdict,
     pub state: State,
+}
+
+// Whether the frame line was read.
+pub(crate) fn has_begun(stage: Stage) -> bool
+    ensures { λ r. ⌜ r ≡ begun (stageIn stage) ⌝ }
+{
+    match stage {
+        Stage::Frame => false,
+        Stage::Busy(_) => true,
+        Stage::Presets => true,
+    }
+}
+
+// Whether a busy line of that bridge is out of its place: after a preset line, or where its bridge does not ascend.
+fn busy_misplaced(stage: Stage, bridge: usize) -> bool
+    ensures { λ r. ⌜ r ≡ busyMisplaced (stageIn stage) bridge ⌝ }
+{
+    match stage {
+        Stage::Frame => true,
+        Stage::Busy(least) => bridge < least,
+        Stage::Presets => true,
+    }
 }
 
 // Whether a busy line's bridge is outside the frame, or its stretches are not in order in it.
@@ -56,12 +87,12 @@ fn busy_outside(bridges: usize, bridge: u32, ordered: bool) -> bool
 }
 
 // Whether one of the first `count` preset records has the number.
-fn number_used(presets: [Preset; 32], count: usize, number: u32) -> bool
+fn number_used(presets: [Preset; MOST_PRESETS], count: usize, number: u32) -> bool
     ensures { λ r. ⌜ r ≡ hasNumber number (map presetIn (take count presets)) ⌝ }
 {
     let mut i = 0;
     while i < count {
-        if 32 <= i {
+        if MOST_PRESETS <= i {
             return false;
         }
         let p = presets[i];
@@ -74,11 +105,11 @@ fn number_used(presets: [Preset; 32], count: usize, number: u32) -> bool
 }
 
 // The masks with that of one bridge replaced; past the end there is no bridge, and they stay as they are.
-fn with_mask(busy: [u64; 8], at: usize, mask: u64) -> [u64; 8]
+fn with_mask(busy: [u64; MOST_BRIDGES], at: usize, mask: u64) -> [u64; MOST_BRIDGES]
     ensures { λ r. ⌜ r ≡ set busy at mask ⌝ }
 {
     let mut after = busy;
-    if at < 8 {
+    if at < MOST_BRIDGES {
         after[at] = mask;
     }
     after
@@ -114,16 +145,12 @@ fn frame_step(state: State, slots: u32, bridges: u32) -> Step
     if !frame_in_limits(slots as usize, bridges as usize) {
         return stop(state, Refusal::OutOfLimits);
     }
-    let head = Head {
-        slots: slots as usize,
-        bridges: bridges as usize,
-        busy: [0; 8],
-        count: 0,
-    };
+    let mut head = NO_HEAD;
+    head.slots = slots as usize;
+    head.bridges = bridges as usize;
     let presets = state.presets;
     let next = State {
-        begun: true,
-        from: 0,
+        stage: Stage::Busy(0),
         head,
         presets,
     };
@@ -139,11 +166,9 @@ fn busy_step(state: State, bridge: u32, mask: u64, ordered: bool) -> Step
     ensures { λ r. ⌜ r ≡ busyStep state bridge mask ordered ⌝ }
 {
     let head = state.head;
+    let stage = state.stage;
     let at = bridge as usize;
-    if 0 < head.count {
-        return stop(state, Refusal::OutOfPlace);
-    }
-    if at < state.from {
+    if busy_misplaced(stage, at) {
         return stop(state, Refusal::OutOfPlace);
     }
     if busy_outside(head.bridges, bridge, ordered) {
@@ -151,16 +176,11 @@ fn busy_step(state: State, bridge: u32, mask: u64, ordered: bool) -> Step
     }
     let masks = head.busy;
     let busy = with_mask(masks, at - 1, mask);
-    let after = Head {
-        slots: head.slots,
-        bridges: head.bridges,
-        busy,
-        count: head.count,
-    };
+    let mut after = head;
+    after.busy = busy;
     let presets = state.presets;
     let next = State {
-        begun: true,
-        from: at + 1,
+        stage: Stage::Busy(at + 1),
         head: after,
         presets,
     };
@@ -184,21 +204,15 @@ fn preset_step(state: State, number: u32, priority: u32, mandatory: u32, optiona
     if number_used(presets, count, number) {
         return stop(state, Refusal::NumberUsed);
     }
-    if 32 <= count {
+    if MOST_PRESETS <= count {
         return stop(state, Refusal::TooMany);
     }
     let line = record_of(number, priority, mandatory, optional);
     let records = with_record(presets, count, line);
-    let busy = head.busy;
-    let after = Head {
-        slots: head.slots,
-        bridges: head.bridges,
-        busy,
-        count: count + 1,
-    };
+    let mut after = head;
+    after.count = count + 1;
     let next = State {
-        begun: true,
-        from: state.from,
+        stage: Stage::Presets,
         head: after,
         presets: records,
     };
@@ -246,12 +260,13 @@ fn next_step(state: State, line: Line) -> Step
 
 // One line more. The stretches of a busy line are held against the frame's slots.
 pub(crate) fn read_step(state: State, line: &[u8]) -> Step
-    ensures { λ r. ⌜ r ≡ stepOf state (lineIn (min (state .head .slots) 64) (form (now (line .entry)))) ⌝ }
+    ensures { λ r. ⌜ r ≡ stepOf state (lineIn (min (state .head .slots) mostSlots) (form (now (line .entry)))) ⌝ }
 {
     let head = state.head;
     let read = read_line(line, head.slots);
     let value = read.line;
-    if state.begun {
+    let stage = state.stage;
+    if has_begun(stage) {
         return next_step(state, value);
     }
     first_step(state, value)

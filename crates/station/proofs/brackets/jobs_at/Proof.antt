@@ -9,7 +9,7 @@ use borrow.Author.Needs.{needs}
 use lib.ListN.{length, drop, set, length-set}
 use lib.Seq.{set-out}
 use Rattle.laws.proofs.Tests.{false-of-not, true-of-not}
-use Rattle.station.specs.Form.{readBrackets}
+use Rattle.station.specs.Form.{readJobs}
 use Rattle.station.specs.method.Bracket.{jobsRead}
 use Rattle.station.proofs.brackets.OneBracket.{next-inside, first-small, second-small}
 use Rattle.station.proofs.brackets.JobList.{counted, counted-start, read-none, read-last, read-next}
@@ -17,13 +17,13 @@ use Rattle.station.proofs.brackets.jobs_at.Statement.{statement}
 use Rattle.station.proofs.brackets.jobs_at.Tie as tie
 
 abbrev Inv-loop : tie.InvT-loop
-Inv-loop text at jobs₀ count₀ fit₀ i₀ jobs count fit i = (count ≤ i) × (length jobs ≡ 8) × (counted count fit jobs (readBrackets (drop i text)) ≡ jobsRead (readBrackets (drop at text)))
+Inv-loop text at jobs₀ count₀ fit₀ i₀ jobs count fit i = (count ≤ i) × (length jobs ≡ 8) × (counted count fit jobs (readJobs (drop i text)) ≡ jobsRead (readJobs (drop at text)))
 
 abbrev μ-loop : tie.MeasureT-loop
 μ-loop text at jobs₀ count₀ fit₀ i₀ jobs count fit i = length text - i
 
 loop-holds : tie.Need-loop-holds Inv-loop μ-loop
-loop-holds c = (omega arith, refl, counted-start (readBrackets (drop (c .before .args .at) (c .before .args .text .now))))
+loop-holds c = (omega arith, refl, counted-start (readJobs (drop (c .before .args .at) (c .before .args .text .now))))
 
 bracket-at-requires : tie.Need-bracket-at-requires Inv-loop μ-loop
 bracket-at-requires c κs = search needs

@@ -4,7 +4,7 @@ use mathlib.Core.Path.{sym, _∙_, ap}
 use lib.ListN.{drop}
 use Rattle.laws.proofs.Tests.{false-of-not, true-of-not}
 use Rattle.station.specs.Text.{bytes}
-use Rattle.station.specs.Form.{readBrackets}
+use Rattle.station.specs.Form.{readJobs}
 use Rattle.station.specs.declared.forms.Read.{Read}
 use Rattle.station.specs.Event.{lineEvent, eventIn}
 use Rattle.station.proofs.events.EventLines.{call-form, call-read, line-read}
@@ -48,7 +48,7 @@ returns-2 c =
     let j = c .before .before .before .jobs-at in
     let yes = sym (w .ensures) ∙ true-of-not (w .result) (c .before .before .before .before .if1 .left) in
     let no = false-of-not (j .result .found) (c .before .if2 .taken) in
-    c .refused .ensures ∙ ap eventIn (sym (call-form t yes ∙ call-none (readBrackets (drop 6 t)) (j .result) (j .ensures) no))
+    c .refused .ensures ∙ ap eventIn (sym (call-form t yes ∙ call-none (readJobs (drop 6 t)) (j .result) (j .ensures) no))
 
 call-event-requires : tie.Need-call-event-requires
 call-event-requires c κs = search needs

@@ -4,7 +4,7 @@ use mathlib.Core.Path.{refl, sym, _∙_, ap}
 use lib.ListN.{drop}
 use Rattle.laws.proofs.Tests.{false-of-not, true-of-not}
 use Rattle.station.specs.Text.{bytes}
-use Rattle.station.specs.Form.{readBrackets, callIn}
+use Rattle.station.specs.Form.{readJobs, callIn}
 use Rattle.station.specs.method.ReadLine.{readIn}
 use Rattle.station.proofs.numbers.Recognised.{word-yes, word-no}
 use Rattle.station.proofs.forms.LineForms.{call-none, call-some}
@@ -43,7 +43,7 @@ returns-2 c = λ hi.
     let t = e .before .before .before .before .args .line .now in
     c .without-jobs2 .ensures
     ∙ ap (readIn hi) (sym (word-yes t (bytes "(call ") 0 6 _ (sym (w .ensures) ∙ true-of-not (w .result) (e .if1 .left)) refl
-    ∙ call-none (readBrackets (drop 6 t)) (j .result) (j .ensures) (false-of-not (j .result .found) (c .before .if2 .taken))))
+    ∙ call-none (readJobs (drop 6 t)) (j .result) (j .ensures) (false-of-not (j .result .found) (c .before .if2 .taken))))
 
 returns-3 : tie.Need-returns-3
 unfolding bytes callIn
@@ -52,7 +52,7 @@ returns-3 c = λ hi.
     let e = c .before .before .before .before in
     let w = e .before .starts-at in
     let t = e .before .before .before .before .args .line .now in
-    call-some hi (readBrackets (drop 6 t)) (j .result) (j .ensures) (true-of-not (j .result .found) (c .before .if2 .left))
+    call-some hi (readJobs (drop 6 t)) (j .result) (j .ensures) (true-of-not (j .result .found) (c .before .if2 .left))
     ∙ ap (readIn hi) (sym (word-yes t (bytes "(call ") 0 6 _ (sym (w .ensures) ∙ true-of-not (w .result) (e .if1 .left)) refl))
 
 pub call-line-spec : {M : Type 1} → statement M

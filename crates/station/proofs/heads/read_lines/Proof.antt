@@ -74,19 +74,22 @@ loop-less c = let a = line-read (c .before .before .before) in omega (arith, lin
 loop-again : tie.Need-loop-again Inv-loop μ-loop
 loop-again c = at-next (line-read (c .before .before .before)) (c .enum-told .given .1)
 
+has-begun-requires : tie.Need-has-begun-requires Inv-loop μ-loop
+has-begun-requires c κs = search needs
+
 accept-requires-2 : tie.Need-accept-requires-2 Inv-loop μ-loop
 accept-requires-2 c κs = search needs
 
 returns-3 : tie.Need-returns-3 Inv-loop μ-loop
 returns-3 c =
-    c .accept2 .ensures ∙ out-whole (c .before .before .before .before .before .before .args .head) (c .before .before .before .loop .inv) (c .before .before .loop-test .left) (c .before .if1 .taken)
+    c .accept2 .ensures ∙ out-whole (c .before .before .before .before .before .before .before .args .head) (c .before .before .before .before .loop .inv) (c .before .before .before .loop-test .left) (sym (c .before .before .has-begun .ensures) ∙ c .before .if1 .taken)
 
 refuse-requires-2 : tie.Need-refuse-requires-2 Inv-loop μ-loop
 refuse-requires-2 c κs = search needs
 
 returns-4 : tie.Need-returns-4 Inv-loop μ-loop
 returns-4 c =
-    c .refuse2 .ensures ∙ out-empty (c .before .before .before .before .before .before .args .head) (c .before .before .before .loop .inv) (c .before .before .loop-test .left) (c .before .if1 .left)
+    c .refuse2 .ensures ∙ out-empty (c .before .before .before .before .before .before .before .args .head) (c .before .before .before .before .loop .inv) (c .before .before .before .loop-test .left) (sym (c .before .before .has-begun .ensures) ∙ c .before .if1 .left)
 
 pub read-lines-spec : {M : Type 1} → statement M
 read-lines-spec =
@@ -110,6 +113,7 @@ read-lines-spec =
     add-n
     loop-less
     loop-again
+    has-begun-requires
     accept-requires-2
     returns-3
     refuse-requires-2

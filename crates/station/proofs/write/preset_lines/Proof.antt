@@ -8,8 +8,7 @@ use lib.ListN.{length, take, drop, getD}
 use lib.Seq.{drop-length, length-take-le}
 use denote.Ref.{now}
 use Rattle.station.specs.Text.{join}
-use Rattle.station.specs.Form.{print}
-use Rattle.station.specs.Writing.{presetLineOf}
+use Rattle.station.specs.Form.{presetLine, print}
 use Rattle.station.specs.Types.{presetIn, presetsIn, noRecord}
 use Rattle.station.specs.Wrote.{Left}
 use Rattle.station.proofs.output.Runs.{left-all, left-wrote, left-none}
@@ -20,13 +19,13 @@ use Rattle.station.proofs.write.preset_lines.Tie as tie
 
 abbrev Inv-loop : tie.InvT-loop
 Inv-loop out₀ at count presets place₀ i₀ out place i = (i ≤ count)
-    × Left out₀ at (join (map print (map presetLineOf (presetsIn count presets)))) out place (join (map print (map presetLineOf (map presetIn (drop i (take count presets))))))
+    × Left out₀ at (join (map print (map presetLine (presetsIn count presets)))) out place (join (map print (map presetLine (map presetIn (drop i (take count presets))))))
 
 abbrev μ-loop : tie.MeasureT-loop
 μ-loop out₀ at count presets place₀ i₀ out place i = count - i
 
 loop-holds : tie.Need-loop-holds Inv-loop μ-loop
-loop-holds c = let a = c .before .args in (omega arith, left-all (now (a .out)) (a .at) (join (map print (map presetLineOf (presetsIn (a .count) (a .t3))))))
+loop-holds c = let a = c .before .args in (omega arith, left-all (now (a .out)) (a .at) (join (map print (map presetLine (presetsIn (a .count) (a .t3))))))
 
 mul-preset : tie.Need-mul-preset Inv-loop μ-loop
 mul-preset c = omega arith
@@ -49,8 +48,8 @@ loop-again c = let loop = c .before .before .before .before .before .before .loo
     let n : length (a .t3) ≡ 32 = omega arith in (
       omega arith,
       rw add-one
-          (left-wrote (print (presetLineOf (presetIn (getD (a .t3) (loop .i) noRecord))))
-          (join (map print (map presetLineOf (map presetIn (drop (suc (loop .i)) (take (a .count) (a .t3)))))))
+          (left-wrote (print (presetLine (presetIn (getD (a .t3) (loop .i) noRecord))))
+          (join (map print (map presetLine (map presetIn (drop (suc (loop .i)) (take (a .count) (a .t3)))))))
           (rw (preset-lines-step (loop .i) (a .count) (a .t3) (c .before .before .before .before .before .loop-test .taken) (omega arith)) at (loop .inv .1)) (c .before .before .preset-line .ensures)),
     )
 

@@ -9,10 +9,10 @@ use lib.ListN.{set, take}
 use borrow.Author.Needs.{needs}
 use Rattle.laws.proofs.Tests.{true-of-not}
 use Rattle.station.specs.Head as meant
-use Rattle.station.specs.Head.{inLimits, hasNumber}
-use Rattle.station.specs.Reading.{presetOf}
-use Rattle.station.specs.Types.{presetIn}
+use Rattle.station.specs.Head.{presetOf, inLimits, hasNumber}
+use Rattle.station.specs.Types.{presetIn, withCount}
 use Rattle.station.specs.declared.types.Preset.{Preset}
+use Rattle.station.specs.declared.heads.steps.Stage.the-variants.{Presets}
 use Rattle.station.specs.declared.heads.steps.Verdict.the-variants.{Goes}
 use Rattle.station.proofs.heads.OneLine.{preset-refused, preset-used, preset-many, preset-goes}
 use Rattle.station.proofs.heads.steps.preset_step.Statement.{statement}
@@ -66,26 +66,25 @@ record-of-requires c κs = true-of-not (inLimits (lineOf (c .before .before .bef
 with-record-requires : tie.Need-with-record-requires
 with-record-requires c κs = search needs
 
-add-t20 : tie.Need-add-t20
-add-t20 c = search needs
+add-after : tie.Need-add-after
+add-after c = search needs
 
 returns-4 : tie.Need-returns-4
 returns-4 c =
-    let a = c .before .before .before .before .before .before .before .before .before .before in
+    let a = c .before .before .before .before .before .before .before .before .before in
     let h = a .args .state .head in
     ap
     (λ (l : List Preset). record {
       verdict = Goes;
       state =
           record {
-            begun = true;
-            from = a .args .state .from;
-            head = record { slots = h .slots; bridges = h .bridges; busy = h .busy; count = h .count + 1 };
+            stage = Presets;
+            head = withCount h (h .count + 1);
             presets = l;
           };
     })
-    (c .before .with-record .ensures ∙ ap (set (a .args .state .presets) (h .count)) (c .before .before .record-of .ensures))
-    ∙ preset-goes (a .args .state) (lineOf a) (fits (c .before .before .before .before .before .before)) (unused (c .before .before .before .before)) (omega arith)
+    (c .with-record .ensures ∙ ap (set (a .args .state .presets) (h .count)) (c .before .record-of .ensures))
+    ∙ preset-goes (a .args .state) (lineOf a) (fits (c .before .before .before .before .before)) (unused (c .before .before .before)) (omega arith)
 
 pub preset-step-spec : {M : Type 1} → statement M
 preset-step-spec =
@@ -101,5 +100,5 @@ preset-step-spec =
     returns-3
     record-of-requires
     with-record-requires
-    add-t20
+    add-after
     returns-4)

@@ -2,8 +2,7 @@
 -- Assumes nothing.
 use native.Mathlib.Omega.{arith}
 use borrow.Author.Needs.{needs}
-use Rattle.station.specs.Head.{InLimits}
-use Rattle.station.specs.Reading.{presetOf}
+use Rattle.station.specs.Head.{presetOf, InLimits}
 use Rattle.station.proofs.ValidHead.{limits-of}
 use Rattle.station.proofs.heads.steps.record_of.Statement.{statement}
 use Rattle.station.proofs.heads.steps.record_of.Tie as tie
