@@ -5,37 +5,37 @@
 use Prim.Native.Nat.{ℕ, suc, _≤_, _<_}
 use native.Mathlib.Omega.{arith}
 use mathlib.Core.Path.{_≡_, refl, sym, _∙_, ap, subst}
-use mathlib.Core.Logic.{_↔_}
-use mathlib.Core.Bool.{true}
-use mathlib.Core.Option.{none}
 use mathlib.Core.List.{List}
-use lib.ListN.{length, drop}
-use lib.Dec.{eqb, ltb, lit≤}
+use lib.ListN.{length}
+use lib.Dec.{ltb, lit≤}
 use Rattle.laws.specs.Lists.{at}
 use Rattle.laws.specs.Placement.{left, lrtf, SlotRule}
-use Rattle.laws.proofs.Tests.{Is, is-true, is-false, is, test-ext}
-use Rattle.laws.proofs.Comparisons.{lt-of, ge-of, eq-of, ltb-yes, eqb-yes}
+use Rattle.laws.proofs.Tests.{Is, is-true, is-false, is}
+use Rattle.laws.proofs.Comparisons.{lt-of, ge-of}
 use Rattle.laws.proofs.Placement.{chosen-rule}
-use Rattle.station.specs.Head.{Head, Job}
-use Rattle.station.specs.Refusal.{callNotFeasible, firstOf}
+use Rattle.station.specs.Head.{Head}
+use Rattle.station.specs.Refusal.{firstOf}
 use Rattle.station.specs.Reading.{Reading, headOf}
 use Rattle.station.proofs.Theorems.{read-means, read-valid, read-written, written-read, yielded}
-use Rattle.placing.specs.Table.{cell, cells, Each, holding, hasJob, callCell}
-use Rattle.placing.specs.Valid.{ValidCall, usable, jobAt, lost, lostUpTo}
-use Rattle.placing.specs.Plan.{planFreeCount, freeCount, needs, planned}
-use Rattle.placing.specs.Call.{lengths, callFreeCount, called}
-use Rattle.placing.specs.Outcomes.{PlanAnswer, planOf, CallAnswer, callOf}
-use Rattle.placing.specs.Claims.{Running, CallClaim, beforeSeven}
-use Rattle.placing.proofs.Theorems.{cells-ext, cell-written, length-lengths, needs-long, grants-rule}
-use Rattle.placing.proofs.Theorems.{changed-job-usable}
-use Rattle.placing.proofs.Theorems.{plan-granted, plan-claim, plan-only-five, nine-counts-all, call-accepted, call-claim}
-use Rattle.frame.specs.Event.{Event, taken, refused, State, Run, runOf}
+use Rattle.placing.specs.Table.{cell, cells}
+use Rattle.placing.specs.State.{State, stateOf}
+use Rattle.placing.specs.Valid.{firstClock}
+use Rattle.placing.specs.Plan.{planFreeCount, needs, planned}
+use Rattle.placing.specs.Call.{lengths, callFreeCount}
+use Rattle.placing.specs.Outcomes.{PlanAnswer, planOf}
+use Rattle.placing.specs.Claims.{Running}
+use Rattle.placing.proofs.Theorems.{cell-written, length-lengths, needs-long, grants-rule}
+use Rattle.placing.proofs.Theorems.{clock-is}
+use Rattle.placing.proofs.Theorems.{plan-granted, plan-claim, plan-only-five, nine-counts-all, call-claim}
+use Rattle.frame.specs.Event.{Event, refused, Run, runOf}
 use Rattle.frame.specs.Text.{Whole, ran, startOf, eventsOf, wholeWithPlan, wholeWithHead, wholeOf}
 use Rattle.frame.specs.Demands.{stateAt, eventAt, answerAt, cellsAt, Ends, too-long, too-short, head-refused, is-not-planned, is-planned}
-use Rattle.frame.specs.Demands.{EventIs, Demand1, Demand2, OneText, CallAt, Demand3}
-use Rattle.frame.proofs.EventList.{answered, outcome-at, answer-at, state-next, state-end, kept-at, run-rest}
-use Rattle.frame.proofs.OneEvent.{event-is, call-taken, call-refused, call-table, now-asks, event-never-eleven, seven-asks, event-running}
-use Rattle.frame.proofs.KeptCells.{Kept, call-cell, run-kept, run-counted, run-clock}
+use Rattle.frame.specs.Demands.{EventIs, Demand1, Demand2, OneText, Demand3}
+use Rattle.frame.proofs.EventList.{answered, outcome-at, answer-at, state-end}
+use Rattle.frame.proofs.OneEvent.{event-is, now-asks, event-never-eleven, seven-asks}
+use Rattle.frame.proofs.KeptCells.{run-kept, run-counted, run-clock}
+use Rattle.frame.proofs.ListedCalls.{running-at, callClaim, seven-at, took, rule-at, valid-at, reported-at, least-at}
+use Rattle.frame.proofs.CallCells.{call-cells}
 
 -- ---- demand 1
 
@@ -118,7 +118,7 @@ demand-2 h t = record {
       let x = callFreeCount h clock jobs (cell h t) in
       subst (λ (k : ℕ). SlotRule k (at (left (lengths jobs) x s)) (x s) (λ i. lrtf (lengths jobs) x i s))
       (length-lengths jobs) (chosen-rule (length (lengths jobs)) (at (left (lengths jobs) x s)) (x s));
-  call-cells = λ clock jobs n q. call-claim h clock jobs t .rule n q;
+  call-cells = λ clock jobs n q. call-claim h jobs (stateOf t clock) .rule n q;
 }
 
 -- reading and writing a head are inverse
@@ -127,91 +127,8 @@ one-text = record { read-written = read-written; written-read = written-read; va
 
 -- ---- demand 3
 
-module _ (h : Head) (st : State) (es : List Event) (start : Running h (st .clock) (st .table)) where
-  -- each event gets a running frame
-  running-at : (j : ℕ) → Running h (stateAt h st es j .clock) (stateAt h st es j .table)
-  running-at j = kept-at h (λ x. Running h (x .clock) (x .table)) (event-running h) st es start j
-
-  -- ---- a call of the list is a call of the layer below
-
-  module _ (j : ℕ) (jobs : List Job) (here : CallAt es j jobs) where
-    abbrev clockAt : ℕ
-    clockAt = stateAt h st es j .clock
-
-    abbrev tableAt : List ℕ
-    tableAt = stateAt h st es j .table
-
-    -- the table that the next event gets
-    abbrev tableAfter : List ℕ
-    tableAfter = stateAt h st es (suc j) .table
-
-    callClaim : CallClaim h clockAt jobs tableAt
-    callClaim = call-claim h clockAt jobs tableAt
-
-    -- the next event gets the table that the call leaves
-    table-next : callOf h clockAt jobs tableAt .table ≡ tableAfter
-    table-next =
-        sym (ap (λ (x : State). x .table) (state-next h st es j (here .inside)) ∙ call-table h (stateAt h st es j) (eventAt es j) jobs (here .asks))
-
-    seven-at : (answerAt h st es j ≡ refused callNotFeasible)
-        ↔ ((firstOf (beforeSeven h clockAt jobs tableAt) ≡ none) × ((u : List ℕ) → ValidCall h clockAt jobs (cell h tableAt) (cell h u) → ⊥))
-    seven-at =
-        let same = call-refused h (stateAt h st es j) (eventAt es j) jobs (here .asks) callNotFeasible in
-        let at-j = answer-at h st es j (here .inside) in
-        (λ q. callClaim .seven .0 (same .0 (sym at-j ∙ q)), λ p. at-j ∙ same .1 (callClaim .seven .1 p))
-
-    module _ (n : ℕ) (q : answerAt h st es j ≡ taken n) where
-      took : callOf h clockAt jobs tableAt .answer ≡ CallAnswer.taken n
-      took = call-taken h (stateAt h st es j) (eventAt es j) jobs (here .asks) n (sym (answer-at h st es j (here .inside)) ∙ q)
-
-      rule-at : Each h (λ s b. cell h tableAfter s b ≡ called h clockAt jobs (cell h tableAt) s b)
-      rule-at =
-          subst (λ (x : List ℕ). Each h (λ s b. cell h x s b ≡ called h clockAt jobs (cell h tableAt) s b)) table-next (callClaim .rule n took)
-
-      valid-at : ValidCall h clockAt jobs (cell h tableAt) (cell h tableAfter)
-      valid-at = subst (λ (x : List ℕ). ValidCall h clockAt jobs (cell h tableAt) (cell h x)) table-next (callClaim .valid n took)
-
-      reported-at : n ≡ cells h (λ s b. lost (cell h tableAt) (cell h tableAfter) s b)
-      reported-at = subst (λ (x : List ℕ). n ≡ cells h (λ s b. lost (cell h tableAt) (cell h x) s b)) table-next (callClaim .reported n took)
-
-      least-at : (u : List ℕ) → ValidCall h clockAt jobs (cell h tableAt) (cell h u) → (p : ℕ)
-          → lostUpTo h (cell h tableAt) (cell h tableAfter) p ≤ lostUpTo h (cell h tableAt) (cell h u) p
-      least-at u w p =
-          subst (λ (x : List ℕ). lostUpTo h (cell h tableAt) (cell h x) p ≤ lostUpTo h (cell h tableAt) (cell h u) p) table-next
-          (callClaim .least n took u w p)
-
-      -- the jobs' cells after the whole list are those after the call
-      kept-since : Kept h tableAfter (runOf h st es .after .table)
-      kept-since =
-          subst (λ (x : State). Kept h tableAfter (x .table)) (run-rest h st es (suc j))
-          (run-kept h (stateAt h st es (suc j)) (drop (suc j) es) (running-at (suc j)))
-
-      module _ (i : ℕ) (l : i < length jobs) where
-        abbrev v : ℕ
-        v = callCell (jobAt jobs i .number)
-
-        has : hasJob h (cell h tableAfter) (jobAt jobs i .number) ≡ true
-        has = ltb-yes 0 (holding h (cell h tableAfter) v) (omega (arith, valid-at .exact i l, call-accepted h clockAt jobs tableAt n took .2 i l))
-
-        then : Each h (λ s b. cell h tableAfter s b ≡ v → cell h (runOf h st es .after .table) s b ≡ v)
-        then s b m k e =
-            kept-since .calls s b m k (call-cell h (cell h tableAfter) (valid-at .wellFormed) (jobAt jobs i .number) s b m k e) ∙ e
-
-        exact-at : holding h (cell h (runOf h st es .after .table)) v ≡ jobAt jobs i .slots
-        exact-at =
-            cells-ext h (λ s b. eqb (cell h (runOf h st es .after .table) s b) v) (λ s b. eqb (cell h tableAfter s b) v)
-            (λ s b m k. test-ext (eqb (cell h (runOf h st es .after .table) s b) v) (eqb (cell h tableAfter s b) v)
-            (λ e. eqb-yes _ v (kept-since .no-more (jobAt jobs i .number) has s b m k (eq-of _ v e)))
-            (λ e. eqb-yes _ v (then s b m k (eq-of _ v e))))
-            ∙ valid-at .exact i l
-
-        later-at : Each h (λ s b. cell h (runOf h st es .after .table) s b ≡ v → usable clockAt s ≡ true)
-        later-at s b m k e =
-            changed-job-usable h clockAt jobs (cell h tableAt) (cell h tableAfter) (call-accepted h clockAt jobs tableAt n took .1)
-            (valid-at .changes) (running-at j .wellFormed) i l s b m k (kept-since .no-more (jobAt jobs i .number) has s b m k e)
-
 -- Demand 3, over any list of events from any start that 11 lets pass.
-pub demand-3 : (h : Head) (st : State) (es : List Event) → Running h (st .clock) (st .table) → Demand3 h st es
+pub demand-3 : (h : Head) (st : State) (es : List Event) → Running h st → Demand3 h st es
 demand-3 h st es start = record {
   answered = answered h st es;
   seven = seven-at h st es start;
@@ -224,31 +141,27 @@ demand-3 h st es start = record {
   valid = λ j jobs n here. valid-at h st es start j jobs here n;
   reported = λ j jobs n here. reported-at h st es start j jobs here n;
   least = λ j jobs n here. least-at h st es start j jobs here n;
-  nine-counts-all = λ j l u. let r = running-at h st es start j in nine-counts-all h (cellsAt h st es j) u (r .valid) (r .wellFormed);
+  nine-counts-all = λ j l u. let r = running-at h st es start j in nine-counts-all h (cellsAt h st es j) u (r .valid) (r .wellFormed .cells);
   never-eleven = λ j l q.
       event-never-eleven h (stateAt h st es j) (eventAt es j) (running-at h st es start j) (sym (answer-at h st es j l) ∙ q);
-  running = subst (λ (x : State). Running h (x .clock) (x .table)) (state-end h st es) (running-at h st es start (length es));
+  running = subst (Running h) (state-end h st es) (running-at h st es start (length es));
   clock = run-clock h st es;
   clock-asked = λ j t l q. now-asks h (stateAt h st es j) (eventAt es j) t (sym (answer-at h st es j l) ∙ q);
   fixed = run-kept h st es start .fixed;
   optional = run-kept h st es start .optional;
   conserved = run-counted h st es;
-  jobs-exact = λ j jobs n here. exact-at h st es start j jobs here n;
-  jobs-later = λ j jobs n here. later-at h st es start j jobs here n;
-  calls-stay = run-kept h st es start .calls;
+  calls = call-cells h st es start;
   past = run-kept h st es start .past;
 }
 
 -- From a plan's start: "an accepted head with its plan and the first clock".
-pub planned-running : (h : Head) (t g : List ℕ) → planOf h t .answer ≡ PlanAnswer.granted g → Running h 1 (planOf h t .table)
+pub planned-running : (h : Head) (t g : List ℕ) → planOf h t .answer ≡ PlanAnswer.granted g → Running h (startOf (planOf h t .table))
 planned-running h t g q =
     let p = plan-granted h t g q in
     record {
       long = omega (arith, p .3, plan-claim h t .past .long);
       valid = p .2;
-      wellFormed = plan-claim h t .valid g q .wellFormed;
-      clock-low = lit≤ tt;
-      clock-high = omega arith;
+      wellFormed = record { cells = plan-claim h t .valid g q .wellFormed; clock = clock-is (h .slots) firstClock (lit≤ tt) (omega arith) };
     }
 
 pub demand-3-planned : (h : Head) (t g : List ℕ) → planOf h t .answer ≡ PlanAnswer.granted g → (es : List Event)

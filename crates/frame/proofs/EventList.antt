@@ -9,7 +9,8 @@ use mathlib.Core.Path.{_≡_, refl, ap}
 use mathlib.Core.List.{List, [], _∷_}
 use lib.ListN.{length, drop}
 use Rattle.station.specs.Head.{Head}
-use Rattle.frame.specs.Event.{Event, State, Outcome, eventOf, runOf}
+use Rattle.placing.specs.State.{State}
+use Rattle.frame.specs.Event.{Event, Outcome, eventOf, runOf}
 use Rattle.frame.specs.Demands.{stateAt, eventAt, answerAt}
 
 -- every event has one answer

@@ -1,10 +1,10 @@
 -- One event on a running frame: what it can come to, and what it keeps.
 --
--- In order: the cases of an event (`event-is`); a call as an event is the call of the layer below (`event-call`); who asked for an answer
+-- In order: the cases of an event (`event-is`); a call as an event is the call of the layer below (`event-call`), which leaves the clock (`call-clock`); who asked for an answer
 -- (`taken-asks`, `now-asks`); the refusals that an event's own causes never give (`event-never-eleven`, `seven-asks`); the frame is a running one
 -- afterwards (`event-running`).
 -- Assumes nothing.
-use Prim.Native.Nat.{ℕ, suc, _<_}
+use Prim.Native.Nat.{ℕ, _<_}
 use native.Mathlib.Omega.{arith}
 use mathlib.Core.Path.{_≡_, refl, sym, _∙_, ap}
 use mathlib.Core.Logic.{_⊎_, inl, inr, _↔_}
@@ -14,18 +14,19 @@ use mathlib.Core.List.{List, [], _∷_, _++_}
 use lib.Dec.{ltb, lit<}
 use Rattle.laws.specs.Eviction.{ones}
 use Rattle.laws.proofs.Tests.{clash, true-of-not}
-use Rattle.station.specs.Head.{Head, Job, within}
+use Rattle.station.specs.Head.{Head, Job}
 use Rattle.station.specs.Refusal.{Refusal, numberOf, noForm, outOfLimits, outOfPlace, numberUsed, clockBack, callNotFeasible, tooMany, notWellFormed}
 use Rattle.station.specs.Refusal.{try, firstOf}
 use Rattle.station.specs.Form.{Form, frameLine, busyLine, presetLine, clockLine, callLine, form}
 use Rattle.station.proofs.Theorems.{first-none, append-none, append-left-none, Never, end, skip, never-first}
-use Rattle.station.proofs.Theorems.{within-low, within-high}
 use Rattle.placing.specs.Table.{cell}
+use Rattle.placing.specs.Valid.{clockIn}
+use Rattle.placing.specs.State.{State}
 use Rattle.placing.specs.Call.{evictedSet, called, callFits}
-use Rattle.placing.specs.Outcomes.{written, frameCauses, jobsOutside, jobsUsed, jobsTooMany, CallAnswer, CallOutcome, callOf}
+use Rattle.placing.specs.Outcomes.{written, frameCauses, jobsOutside, jobsUsed, jobsTooMany, callCauses, CallAnswer, CallOutcome, callOf}
 use Rattle.placing.specs.Claims.{Running}
 use Rattle.placing.proofs.Theorems.{of-running, call-claim}
-use Rattle.frame.specs.Event.{Event, line, clock, call, Asked, setClock, place, fault, asked, askedByForm, now, taken, refused, State}
+use Rattle.frame.specs.Event.{Event, line, clock, call, Asked, setClock, place, fault, asked, askedByForm, now, taken, refused}
 use Rattle.frame.specs.Event.{Outcome, ownCauses, askedCauses, eventCauses, carriedOut, comesTo, eventOf}
 use Rattle.frame.specs.Event.{answerOf}
 use Rattle.frame.specs.Demands.{EventIs, stopped, clockSet, placed}
@@ -43,36 +44,45 @@ event-is h st e = go (firstOf (eventCauses h st e)) refl
     done (setClock t) q n = clockSet t q n
     done (place jobs) q n = placed jobs q n
     done (fault r) q n =
-        let tried : firstOf (frameCauses h (st .clock) (st .table) ++ (some r ∷ [])) ≡ none =
+        let tried : firstOf (frameCauses h st ++ (some r ∷ [])) ≡ none =
         ap (λ (a : Asked). firstOf (askedCauses h st a)) (sym q) ∙ n in
-        let first = append-left-none (frameCauses h (st .clock) (st .table)) (some r ∷ []) tried in
-        absurd (faulty r (sym (append-none (frameCauses h (st .clock) (st .table)) (some r ∷ []) first) ∙ tried))
+        let first = append-left-none (frameCauses h st) (some r ∷ []) tried in
+        absurd (faulty r (sym (append-none (frameCauses h st) (some r ∷ []) first) ∙ tried))
 
     go : (o : Option Refusal) → firstOf (eventCauses h st e) ≡ o → EventIs h st e (eventOf h st e)
     go none n = rw (n, comesTo) (done (asked e) refl n)
     go (some r) n = rw (n, comesTo) (stopped r n)
 
--- a clock for which no cause holds lies within 1 to S + 1
-clock-range : (h : Head) (st : State) (t : ℕ) → firstOf (ownCauses h st (setClock t)) ≡ none → within 1 (suc (h .slots)) t ≡ true
+-- a clock for which no cause holds is one of the frame's
+clock-range : (h : Head) (st : State) (t : ℕ) → firstOf (ownCauses h st (setClock t)) ≡ none → clockIn (h .slots) t ≡ true
 unfolding ownCauses
-clock-range h st t e = true-of-not _ (first-none outOfLimits (not (within 1 (suc (h .slots)) t)) _ e .0)
+clock-range h st t e = true-of-not _ (first-none outOfLimits (not (clockIn (h .slots) t)) _ e .0)
 
 -- ---- a call as an event
 
--- what a call of the layer below comes to as an event: it leaves the clock
-abbrev pub outcomeOf : CallOutcome → ℕ → Outcome
-outcomeOf o c = record { answer = answerOf (o .answer); after = record { table = o .table; clock = c } }
+-- what a call of the layer below comes to as an event
+abbrev pub outcomeOf : CallOutcome → Outcome
+outcomeOf o = record { answer = answerOf (o .answer); after = o .after }
 
 -- an event that asks for a call comes to what `callOf` says
 pub event-call : (h : Head) (st : State) (e : Event) (jobs : List Job) → asked e ≡ place jobs
-    → eventOf h st e ≡ outcomeOf (callOf h (st .clock) jobs (st .table)) (st .clock)
+    → eventOf h st e ≡ outcomeOf (callOf h jobs st)
 unfolding comesTo carriedOut ownCauses callOf
 event-call h st e jobs q = ap (comesTo h st) q ∙ go (firstOf (askedCauses h st (place jobs))) refl
   where
     go : (o : Option Refusal) → firstOf (askedCauses h st (place jobs)) ≡ o
-        → comesTo h st (place jobs) ≡ outcomeOf (callOf h (st .clock) jobs (st .table)) (st .clock)
+        → comesTo h st (place jobs) ≡ outcomeOf (callOf h jobs st)
     go none n = rw (n, comesTo, callOf) refl
     go (some r) n = rw (n, comesTo, callOf) refl
+
+-- a call leaves the clock
+pub call-clock : (h : Head) (jobs : List Job) (st : State) → callOf h jobs st .after .clock ≡ st .clock
+unfolding callOf
+call-clock h jobs st = go (firstOf (frameCauses h st ++ callCauses h (st .clock) jobs (cell h (st .table)))) refl
+  where
+    go : (o : Option Refusal) → firstOf (frameCauses h st ++ callCauses h (st .clock) jobs (cell h (st .table))) ≡ o → callOf h jobs st .after .clock ≡ st .clock
+    go none n = rw (n, callOf) refl
+    go (some r) n = rw (n, callOf) refl
 
 answerOf-taken : (a : CallAnswer) (n : ℕ) → answerOf a ≡ taken n → a ≡ CallAnswer.taken n
 answerOf-taken (CallAnswer.taken m) n q = cc
@@ -83,20 +93,20 @@ answerOf-refused (CallAnswer.taken m) r q = cc
 answerOf-refused (CallAnswer.refused s) r q = cc
 
 module _ (h : Head) (st : State) (e : Event) (jobs : List Job) (asks : asked e ≡ place jobs) where
-  same-answer : eventOf h st e .answer ≡ answerOf (callOf h (st .clock) jobs (st .table) .answer)
+  same-answer : eventOf h st e .answer ≡ answerOf (callOf h jobs st .answer)
   same-answer = ap (λ (o : Outcome). o .answer) (event-call h st e jobs asks)
 
-  pub call-taken : (n : ℕ) → eventOf h st e .answer ≡ taken n → callOf h (st .clock) jobs (st .table) .answer ≡ CallAnswer.taken n
-  call-taken n q = answerOf-taken (callOf h (st .clock) jobs (st .table) .answer) n (sym same-answer ∙ q)
+  pub call-taken : (n : ℕ) → eventOf h st e .answer ≡ taken n → callOf h jobs st .answer ≡ CallAnswer.taken n
+  call-taken n q = answerOf-taken (callOf h jobs st .answer) n (sym same-answer ∙ q)
 
   -- and a refusal is the call's
-  pub call-refused : (r : Refusal) → (eventOf h st e .answer ≡ refused r) ↔ (callOf h (st .clock) jobs (st .table) .answer ≡ CallAnswer.refused r)
+  pub call-refused : (r : Refusal) → (eventOf h st e .answer ≡ refused r) ↔ (callOf h jobs st .answer ≡ CallAnswer.refused r)
   call-refused r = (
-    λ q. answerOf-refused (callOf h (st .clock) jobs (st .table) .answer) r (sym same-answer ∙ q),
+    λ q. answerOf-refused (callOf h jobs st .answer) r (sym same-answer ∙ q),
     λ q. same-answer ∙ ap answerOf q,
   )
 
-  pub call-table : eventOf h st e .after .table ≡ callOf h (st .clock) jobs (st .table) .table
+  pub call-table : eventOf h st e .after .table ≡ callOf h jobs st .after .table
   call-table = ap (λ (o : Outcome). o .after .table) (event-call h st e jobs asks)
 
 -- an answer of cells taken is a call's
@@ -124,7 +134,7 @@ line-fault : (o : Option Form) (r : Refusal) → askedByForm o ≡ fault r → (
 line-fault none r q = inl cc
 line-fault (some (frameLine s b)) r q = inr cc
 line-fault (some (busyLine b p)) r q = inr cc
-line-fault (some (presetLine n p m o)) r q = inr cc
+line-fault (some (presetLine p)) r q = inr cc
 line-fault (some (clockLine t)) r q = inl cc
 line-fault (some (callLine p)) r q = inl cc
 
@@ -137,7 +147,7 @@ fault-is (call jobs) r q = inl cc
 clock-never : (h : Head) (st : State) (t : ℕ) (q : Refusal) → 6 < numberOf q → Never q (ownCauses h st (setClock t))
 unfolding ownCauses
 clock-never h st t q above =
-    skip outOfLimits (not (within 1 (suc (h .slots)) t)) (λ p. omega arith) (skip clockBack (ltb t (st .clock)) (λ p. omega arith) end)
+    skip outOfLimits (not (clockIn (h .slots) t)) (λ p. omega arith) (skip clockBack (ltb t (st .clock)) (λ p. omega arith) end)
 
 fault-never : (h : Head) (st : State) (e : Event) (r q : Refusal) → asked e ≡ fault r → 6 < numberOf q → Never q (ownCauses h st (fault r))
 unfolding ownCauses
@@ -156,14 +166,14 @@ place-never h st jobs q above =
     (skip callNotFeasible (not (callFits h (st .clock) jobs (cell h (st .table)))) (λ p. omega arith) end)))
 
 -- on a running frame a refusal is one of the event's own causes
-own-refusal : (h : Head) (st : State) (e : Event) (r : Refusal) → Running h (st .clock) (st .table) → eventOf h st e .answer ≡ refused r
+own-refusal : (h : Head) (st : State) (e : Event) (r : Refusal) → Running h st → eventOf h st e .answer ≡ refused r
     → firstOf (ownCauses h st (asked e)) ≡ some r
 own-refusal h st e r run q = go (eventOf h st e) (event-is h st e) q
   where
     go : (o : Outcome) → EventIs h st e o → o .answer ≡ refused r → firstOf (ownCauses h st (asked e)) ≡ some r
     go _ (stopped c f) p =
         let same : firstOf (eventCauses h st e) ≡ some r = cc in
-        sym (append-none (frameCauses h (st .clock) (st .table)) (ownCauses h st (asked e)) (of-running h (st .clock) (st .table) run)) ∙ same
+        sym (append-none (frameCauses h st) (ownCauses h st (asked e)) (of-running h st run)) ∙ same
     go _ (clockSet c f g) p = cc
     go _ (placed jobs f g) p = cc
 
@@ -173,7 +183,7 @@ own-never : (h : Head) (st : State) (e : Event) {r : Refusal} (a : Asked) → as
 own-never h st e a q n f = never-first n (ap (λ (x : Asked). firstOf (ownCauses h st x)) (sym q) ∙ f)
 
 -- "11 was never met"
-pub event-never-eleven : (h : Head) (st : State) (e : Event) → Running h (st .clock) (st .table) → eventOf h st e .answer ≡ refused notWellFormed → ⊥
+pub event-never-eleven : (h : Head) (st : State) (e : Event) → Running h st → eventOf h st e .answer ≡ refused notWellFormed → ⊥
 event-never-eleven h st e run q = go (asked e) refl (own-refusal h st e notWellFormed run q)
   where
     go : (a : Asked) → asked e ≡ a → firstOf (ownCauses h st (asked e)) ≡ some notWellFormed → ⊥
@@ -182,7 +192,7 @@ event-never-eleven h st e run q = go (asked e) refl (own-refusal h st e notWellF
     go (fault r) s = own-never h st e (fault r) s (fault-never h st e r notWellFormed s (lit< tt))
 
 -- 7 is an answer to calls alone
-pub seven-asks : (h : Head) (st : State) (e : Event) → Running h (st .clock) (st .table) → eventOf h st e .answer ≡ refused callNotFeasible
+pub seven-asks : (h : Head) (st : State) (e : Event) → Running h st → eventOf h st e .answer ≡ refused callNotFeasible
     → (jobs : List Job) × (asked e ≡ place jobs)
 seven-asks h st e run q = go (asked e) refl (own-refusal h st e callNotFeasible run q)
   where
@@ -193,32 +203,28 @@ seven-asks h st e run q = go (asked e) refl (own-refusal h st e callNotFeasible 
 
 -- ---- the frame afterwards
 
-pub event-running : (h : Head) (st : State) (e : Event) → Running h (st .clock) (st .table)
-    → Running h (eventOf h st e .after .clock) (eventOf h st e .after .table)
+pub event-running : (h : Head) (st : State) (e : Event) → Running h st
+    → Running h (eventOf h st e .after)
 event-running h st e run = go (eventOf h st e) (event-is h st e) refl
   where
-    go : (o : Outcome) → EventIs h st e o → eventOf h st e ≡ o → Running h (o .after .clock) (o .after .table)
+    go : (o : Outcome) → EventIs h st e o → eventOf h st e ≡ o → Running h (o .after)
     go _ (stopped r f) q = run
     go _ (clockSet t asks f) q =
-        let first = append-left-none (frameCauses h (st .clock) (st .table)) (ownCauses h st (asked e)) f in
-        let own = sym (append-none (frameCauses h (st .clock) (st .table)) (ownCauses h st (asked e)) first) ∙ f in
+        let first = append-left-none (frameCauses h st) (ownCauses h st (asked e)) f in
+        let own = sym (append-none (frameCauses h st) (ownCauses h st (asked e)) first) ∙ f in
         let range = clock-range h st t (ap (λ (a : Asked). firstOf (ownCauses h st a)) (sym asks) ∙ own) in
         record {
           long = run .long;
           valid = run .valid;
-          wellFormed = run .wellFormed;
-          clock-low = within-low 1 (suc (h .slots)) t range;
-          clock-high = within-high 1 (suc (h .slots)) t range;
+          wellFormed = record { cells = run .wellFormed .cells; clock = range };
         }
     go _ (placed jobs asks f) q =
         let took = call-taken h st e jobs asks (ones (evictedSet h (st .clock) jobs (cell h (st .table)))) (ap (λ (o : Outcome). o .answer) q) in
-        let same : written h (called h (st .clock) jobs (cell h (st .table))) (st .table) ≡ callOf h (st .clock) jobs (st .table) .table =
+        let same : written h (called h (st .clock) jobs (cell h (st .table))) (st .table) ≡ callOf h jobs st .after .table =
         sym (ap (λ (o : Outcome). o .after .table) q) ∙ call-table h st e jobs asks in
-        let callClaim = call-claim h (st .clock) jobs (st .table) in
+        let callClaim = call-claim h jobs st in
         rw same (record {
           long = omega (arith, run .long, callClaim .past .long);
           valid = run .valid;
-          wellFormed = callClaim .valid (ones (evictedSet h (st .clock) jobs (cell h (st .table)))) took .wellFormed;
-          clock-low = run .clock-low;
-          clock-high = run .clock-high;
+          wellFormed = record { cells = callClaim .valid (ones (evictedSet h (st .clock) jobs (cell h (st .table)))) took .wellFormed; clock = run .wellFormed .clock };
         })

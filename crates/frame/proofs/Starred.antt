@@ -20,6 +20,7 @@ use Rattle.station.specs.Reading.{Reading, headOf}
 use Rattle.station.proofs.Examples.{reads}
 use Rattle.placing.specs.Table.{cell, cells}
 use Rattle.placing.specs.Valid.{ValidPlan, ValidCall, lost}
+use Rattle.placing.specs.State.{stateOf}
 use Rattle.placing.specs.Outcomes.{PlanAnswer, planOf, CallAnswer, callOf}
 use Rattle.placing.proofs.Theorems.{plan-claim, call-claim}
 use Rattle.placing.proofs.Examples.{plans, calls, must-go, goes}
@@ -210,8 +211,8 @@ abbrev AnswerOf : Head → Meaning → Type 0
 AnswerOf h as-listed = Unit {0}
 AnswerOf h no-plan = planOf h blank .answer ≡ PlanAnswer.refused mandatoryNotFeasible
 AnswerOf h a-plan = isGranted (planOf h blank .answer) ≡ true
-AnswerOf h (no-placement clock jobs) = callOf h clock jobs (planTable h) .answer ≡ CallAnswer.refused callNotFeasible
-AnswerOf h (loses clock jobs n) = callOf h clock jobs (planTable h) .answer ≡ CallAnswer.taken n
+AnswerOf h (no-placement clock jobs) = callOf h jobs (stateOf (planTable h) clock) .answer ≡ CallAnswer.refused callNotFeasible
+AnswerOf h (loses clock jobs n) = callOf h jobs (stateOf (planTable h) clock) .answer ≡ CallAnswer.taken n
 
 abbrev AnswerIn : Reading → Meaning → Type 0
 AnswerIn (Reading.accepted h n) m = AnswerOf h m
@@ -221,7 +222,7 @@ answer-means : (h : Head) (m : Meaning) → AnswerOf h m → MeansOf h m
 answer-means h as-listed e = tt
 answer-means h no-plan e = plan-claim h blank .five .0 e .2
 answer-means h a-plan e = let p = granted-is (planOf h blank .answer) e in (planTable h, plan-claim h blank .valid (p .0) (p .1))
-answer-means h (no-placement clock jobs) e = call-claim h clock jobs (planTable h) .seven .0 e .1
+answer-means h (no-placement clock jobs) e = call-claim h jobs (stateOf (planTable h) clock) .seven .0 e .1
 answer-means h (loses clock jobs n) e = (must-go h clock jobs (planTable h) n e, goes h clock jobs (planTable h) n e)
 
 reading-means : (r : Reading) (m : Meaning) → AnswerIn r m → MeansIn r m

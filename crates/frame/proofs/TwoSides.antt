@@ -16,8 +16,9 @@ use Rattle.station.specs.Wrote.{moved}
 use Rattle.station.specs.WriteHead as write
 use Rattle.station.specs.declared.types.Head as record-of-head
 use Rattle.placing.proofs.Examples.{jobCells, recordsTo}
-use Rattle.frame.specs.Event.{Event, line, clock, call, Answer, now, taken, refused, State, eventOf}
-use Rattle.frame.specs.EventDone.{stateOf, eventMeant}
+use Rattle.frame.specs.Event.{Event, line, clock, call, Answer, now, taken, refused, eventOf}
+use Rattle.placing.specs.State.{State, stateOf}
+use Rattle.frame.specs.EventDone.{eventMeant}
 use Rattle.frame.specs.EventEntry.{eventListed}
 use Rattle.frame.specs.Text.{notRead, wholeOf}
 use Rattle.frame.specs.TextDone.{wholeBeside}

@@ -17,12 +17,13 @@ use Rattle.station.specs.Text.{lines, join}
 use Rattle.station.specs.Writing.{formsOf, textOf}
 use Rattle.station.specs.Reading.{Reading, Means, headOf}
 use Rattle.placing.specs.Table.{Cells, cell, cells, Each, presetCount, holding, isBusy, isMandatory, isOptional, isCall, callCell}
+use Rattle.placing.specs.State.{State, stateOf}
 use Rattle.placing.specs.Valid.{ValidPlan, ValidCall, usable, jobAt, lost, lostUpTo, optionalCount}
 use Rattle.placing.specs.Plan.{GrantRule, planFreeCount, needs, planned}
 use Rattle.placing.specs.Call.{emptyCount, evictionOrder, InEvictionOrder, slotsOf, lengths, evictedSet, called, callFreeCount}
-use Rattle.placing.specs.Outcomes.{written, PlanAnswer, planOf, CallAnswer, callOf}
+use Rattle.placing.specs.Outcomes.{PlanAnswer, planOf, CallAnswer, calledState, callOf}
 use Rattle.placing.specs.Claims.{Running, SamePast, Fits, beforeSeven}
-use Rattle.frame.specs.Event.{Event, line, setClock, place, asked, Answer, now, taken, refused, State, Outcome, Run, eventCauses, runOf}
+use Rattle.frame.specs.Event.{Event, line, setClock, place, asked, Answer, now, taken, refused, Outcome, Run, clockState, eventCauses, runOf}
 use Rattle.frame.specs.Text.{Whole, notRead, notPlanned, ran, startOf, eventsOf, wholeOf}
 
 -- ---- where an event stands in a list
@@ -61,12 +62,9 @@ pub data Ends (text t : List ℕ) : Whole → Type 0 where
 pub data EventIs (h : Head) (st : State) (e : Event) : Outcome → Type 0 where
   stopped : (r : Refusal) → firstOf (eventCauses h st e) ≡ some r → EventIs h st e (record { answer = refused r; after = st })
   clockSet : (t : ℕ) → asked e ≡ setClock t → firstOf (eventCauses h st e) ≡ none
-      → EventIs h st e (record { answer = now t; after = record { table = st .table; clock = t } })
+      → EventIs h st e (record { answer = now t; after = clockState h t st })
   placed : (jobs : List Job) → asked e ≡ place jobs → firstOf (eventCauses h st e) ≡ none
-      → EventIs h st e (record {
-        answer = taken (ones (evictedSet h (st .clock) jobs (cell h (st .table))));
-        after = record { table = written h (called h (st .clock) jobs (cell h (st .table))) (st .table); clock = st .clock };
-      })
+      → EventIs h st e (record { answer = taken (ones (evictedSet h (st .clock) jobs (cell h (st .table)))); after = calledState h jobs st })
 
 pub record Demand1 (text t : List ℕ) : Type 0 where
   pub ends : Ends text t (wholeOf text t)
@@ -94,8 +92,8 @@ pub record Demand2 (h : Head) (t : List ℕ) : Type 0 where
   pub call-slots : (clock : ℕ) (jobs : List Job) (s : ℕ)
       → SlotRule (length jobs) (at (left (lengths jobs) (callFreeCount h clock jobs (cell h t)) s))
       (callFreeCount h clock jobs (cell h t) s) (λ i. lrtf (lengths jobs) (callFreeCount h clock jobs (cell h t)) i s)
-  pub call-cells : (clock : ℕ) (jobs : List Job) (n : ℕ) → callOf h clock jobs t .answer ≡ CallAnswer.taken n
-      → Each h (λ s b. cell h (callOf h clock jobs t .table) s b ≡ called h clock jobs (cell h t) s b)
+  pub call-cells : (clock : ℕ) (jobs : List Job) (n : ℕ) → callOf h jobs (stateOf t clock) .answer ≡ CallAnswer.taken n
+      → Each h (λ s b. cell h (callOf h jobs (stateOf t clock) .after .table) s b ≡ called h clock jobs (cell h t) s b)
 
 -- "The head has one text only, and the writer makes it": reading and writing a head are inverse.
 pub record OneText : Type 0 where
@@ -129,13 +127,23 @@ pub record SameFixed (v w : ℕ) : Type 0 where
   pub from-first : (isBusy v || isMandatory v) ≡ true → w ≡ v
   pub from-second : (isBusy w || isMandatory w) ≡ true → w ≡ v
 
+-- what a list of events leaves of call cells: those of its accepted calls, and those of the start
+pub record CallCells (h : Head) (st : State) (es : List Event) : Type 0 where
+  -- "each job of an accepted call has exactly c call cells, none in a slot below that call's clock"
+  pub jobs-exact : (j : ℕ) (jobs : List Job) (n : ℕ) → CallAt es j jobs → answerAt h st es j ≡ taken n → (i : ℕ) → i < length jobs
+      → holding h (cell h (runOf h st es .after .table)) (callCell (jobAt jobs i .number)) ≡ jobAt jobs i .slots
+  pub jobs-later : (j : ℕ) (jobs : List Job) (n : ℕ) → CallAt es j jobs → answerAt h st es j ≡ taken n → (i : ℕ) → i < length jobs
+      → Each h (λ s b. cell h (runOf h st es .after .table) s b ≡ callCell (jobAt jobs i .number) → usable (stateAt h st es j .clock) s ≡ true)
+  -- the call cells of the start stay
+  pub calls-stay : Each h (λ s b. isCall (cell h (st .table) s b) ≡ true → cell h (runOf h st es .after .table) s b ≡ cell h (st .table) s b)
+
 pub record Demand3 (h : Head) (st : State) (es : List Event) : Type 0 where
   -- every event has its answer
   pub answered : length (runOf h st es .answers) ≡ length es
   -- "Number 7 comes exactly when a call meets no cause tried before 7 and has no valid placement."
   pub seven : (j : ℕ) (jobs : List Job) → CallAt es j jobs
       → (answerAt h st es j ≡ refused callNotFeasible)
-      ↔ ((firstOf (beforeSeven h (stateAt h st es j .clock) jobs (stateAt h st es j .table)) ≡ none)
+      ↔ ((firstOf (beforeSeven h jobs (stateAt h st es j)) ≡ none)
       × ((u : List ℕ) → ValidCall h (stateAt h st es j .clock) jobs (cellsAt h st es j) (cell h u) → ⊥))
   pub seven-is-a-call : (j : ℕ) → j < length es → answerAt h st es j ≡ refused callNotFeasible → (jobs : List Job) × CallAt es j jobs
   -- "An accepted call leaves a valid one, that of the rules above": the first of the smallest sets is lost, and the jobs go by the placing rule
@@ -159,7 +167,7 @@ pub record Demand3 (h : Head) (st : State) (es : List Event) : Type 0 where
   pub nine-counts-all : (j : ℕ) → j ≤ length es → (u : Cells) → lostUpTo h (cellsAt h st es j) u 9 ≡ cells h (λ s b. lost (cellsAt h st es j) u s b)
   -- "After the list: 11 was never met"; the frame that is left is one that 11 lets pass
   pub never-eleven : (j : ℕ) → j < length es → answerAt h st es j ≡ refused notWellFormed → ⊥
-  pub running : Running h (runOf h st es .after .clock) (runOf h st es .after .table)
+  pub running : Running h (runOf h st es .after)
   -- "the clock is the t of the last accepted clock line, or without one the start's, and the head is the start's" (the events are handed one head)
   pub clock : runOf h st es .after .clock ≡ lastClock (st .clock) (runOf h st es .answers)
   pub clock-asked : (j t : ℕ) → j < length es → answerAt h st es j ≡ now t → asked (eventAt es j) ≡ setClock t
@@ -169,11 +177,7 @@ pub record Demand3 (h : Head) (st : State) (es : List Event) : Type 0 where
   pub optional : Each h (λ s b. isOptional (cell h (runOf h st es .after .table) s b) ≡ true → cell h (runOf h st es .after .table) s b ≡ cell h (st .table) s b)
   -- "refinement cells at the start = refinement cells now + all lost cells reported"
   pub conserved : optionalCount h (cell h (st .table)) ≡ optionalCount h (cell h (runOf h st es .after .table)) + totalTaken (runOf h st es .answers)
-  -- "each job of an accepted call has exactly c call cells, none in a slot below that call's clock"
-  pub jobs-exact : (j : ℕ) (jobs : List Job) (n : ℕ) → CallAt es j jobs → answerAt h st es j ≡ taken n → (i : ℕ) → i < length jobs
-      → holding h (cell h (runOf h st es .after .table)) (callCell (jobAt jobs i .number)) ≡ jobAt jobs i .slots
-  pub jobs-later : (j : ℕ) (jobs : List Job) (n : ℕ) → CallAt es j jobs → answerAt h st es j ≡ taken n → (i : ℕ) → i < length jobs
-      → Each h (λ s b. cell h (runOf h st es .after .table) s b ≡ callCell (jobAt jobs i .number) → usable (stateAt h st es j .clock) s ≡ true)
-  -- nothing else moves: call cells stay, and so does all that stands past the frame
-  pub calls-stay : Each h (λ s b. isCall (cell h (st .table) s b) ≡ true → cell h (runOf h st es .after .table) s b ≡ cell h (st .table) s b)
+  -- "each job of an accepted call has exactly c call cells, none in a slot below that call's clock"; other call cells stay
+  pub calls : CallCells h st es
+  -- nothing else moves: all that stands past the frame stays
   pub past : SamePast h (st .table) (runOf h st es .after .table)

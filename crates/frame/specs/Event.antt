@@ -1,17 +1,19 @@
 -- One event on the running frame, and a list of events. Document 01, "The station text", "Causes" and "What demand 3 speaks of".
 -- Assumes nothing.
-use Prim.Native.Nat.{ℕ, suc}
+use Prim.Native.Nat.{ℕ}
 use mathlib.Core.Bool.{not}
 use mathlib.Core.Option.{Option, none, some}
 use mathlib.Core.List.{List, [], _∷_, _++_}
 use lib.Dec.{ltb}
 use Rattle.laws.specs.Eviction.{ones}
-use Rattle.station.specs.Head.{Head, Job, within}
+use Rattle.station.specs.Head.{Head, Job}
 use Rattle.station.specs.Refusal.{Refusal, noForm, outOfLimits, outOfPlace, clockBack, try, firstOf}
 use Rattle.station.specs.Form.{Form, frameLine, busyLine, presetLine, clockLine, callLine, jobsOf, form}
 use Rattle.placing.specs.Table.{cell}
-use Rattle.placing.specs.Call.{evictedSet, called}
-use Rattle.placing.specs.Outcomes.{written, frameCauses, callCauses, CallAnswer}
+use Rattle.placing.specs.Valid.{clockIn}
+use Rattle.placing.specs.State.{State, withClock}
+use Rattle.placing.specs.Call.{evictedSet}
+use Rattle.placing.specs.Outcomes.{frameCauses, callCauses, CallAnswer, calledState}
 
 -- "events of every kind (here clocks and calls) .. and faulty lines": a line of whatever bytes, its end included, or a clock or a call handed over.
 pub data Event : Type 0 where
@@ -30,11 +32,6 @@ abbrev pub answerOf : CallAnswer → Answer
 answerOf (CallAnswer.taken n) = taken n
 answerOf (CallAnswer.refused r) = refused r
 
--- the lent table and the clock: what the running frame keeps beside its head
-pub record State : Type 0 where
-  pub table : List ℕ
-  pub clock : ℕ
-
 pub record Outcome : Type 0 where
   pub answer : Answer
   pub after : State
@@ -50,7 +47,7 @@ abbrev pub askedByForm : Option Form → Asked
 askedByForm none = fault noForm
 askedByForm (some (frameLine s b)) = fault outOfPlace
 askedByForm (some (busyLine b p)) = fault outOfPlace
-askedByForm (some (presetLine n p m o)) = fault outOfPlace
+askedByForm (some (presetLine p)) = fault outOfPlace
 askedByForm (some (clockLine t)) = setClock t
 askedByForm (some (callLine p)) = place (jobsOf p)
 
@@ -62,24 +59,25 @@ asked (call jobs) = place jobs
 -- What an event is tried for after 8, a head record's 2, and 11: its line's 1 or 3, "t below 1 or above S + 1" and "a clock below the present one",
 -- or the causes of a call.
 unfoldable pub ownCauses : Head → State → Asked → List (Option Refusal)
-ownCauses h st (setClock t) = try outOfLimits (not (within 1 (suc (h .slots)) t)) ∷ try clockBack (ltb t (st .clock)) ∷ []
+ownCauses h st (setClock t) = try outOfLimits (not (clockIn (h .slots) t)) ∷ try clockBack (ltb t (st .clock)) ∷ []
 ownCauses h st (place jobs) = callCauses h (st .clock) jobs (cell h (st .table))
 ownCauses h st (fault r) = some r ∷ []
 
 -- the causes of what is asked, in the listed order
 abbrev pub askedCauses : Head → State → Asked → List (Option Refusal)
-askedCauses h st a = frameCauses h (st .clock) (st .table) ++ ownCauses h st a
+askedCauses h st a = frameCauses h st ++ ownCauses h st a
 
 abbrev pub eventCauses : Head → State → Event → List (Option Refusal)
 eventCauses h st e = askedCauses h st (asked e)
 
+-- what a clock leaves that is set: the new clock, and the table as it was
+abbrev pub clockState : Head → ℕ → State → State
+clockState h t st = withClock t st
+
 -- An event for which no cause holds: a clock changes the clock alone, a call the table alone.
 unfoldable pub carriedOut : Head → State → Asked → Outcome
-carriedOut h st (setClock t) = record { answer = now t; after = record { table = st .table; clock = t } }
-carriedOut h st (place jobs) = record {
-  answer = taken (ones (evictedSet h (st .clock) jobs (cell h (st .table))));
-  after = record { table = written h (called h (st .clock) jobs (cell h (st .table))) (st .table); clock = st .clock };
-}
+carriedOut h st (setClock t) = record { answer = now t; after = clockState h t st }
+carriedOut h st (place jobs) = record { answer = taken (ones (evictedSet h (st .clock) jobs (cell h (st .table)))); after = calledState h jobs st }
 carriedOut h st (fault r) = record { answer = refused r; after = st }
 
 -- One event: refused by the first cause that holds, which changes nothing, or carried out.

@@ -1,4 +1,4 @@
--- What the entries on the running frame are held to: the outcome of one event for a head record, its preset records, a lent table and a clock. Document 01,
+-- What the entries on the running frame are held to: the outcome of one event for a head record, its preset records and the state of a running frame. Document 01,
 -- "Causes" and "What demand 3 speaks of".
 -- Assumes nothing.
 use Prim.Native.Nat.{ℕ}
@@ -9,14 +9,11 @@ use Rattle.station.specs.Refusal.{firstOf}
 use Rattle.station.specs.Types.{headIn}
 use Rattle.station.specs.declared.types.Preset as record-of-preset
 use Rattle.station.specs.declared.types.Head as record-of-head
+use Rattle.placing.specs.State.{State}
 use Rattle.placing.specs.Causes.{causesOf}
 use Rattle.frame.specs.declared.types.Outcome as result
-use Rattle.frame.specs.Event.{Event, refused, State, Outcome, eventOf}
+use Rattle.frame.specs.Event.{Event, refused, Outcome, eventOf}
 use Rattle.frame.specs.Types.{answerIn}
-
--- the lent table and the clock
-abbrev pub stateOf : List ℕ → ℕ → State
-stateOf t c = record { table = t; clock = c }
 
 -- One event for a head record and its preset records: where no cause of the record alone holds, that of the head they stand for. "A lent head record is
 -- tried by 2 before a table is held against it by 11", and a refusal changes nothing.
@@ -33,6 +30,6 @@ pub record Yields (o : Outcome) (u : List ℕ) (r : result.Outcome) : Type 0 whe
   pub table : u ≡ o .after .table
   pub clock : r .clock ≡ o .after .clock
 
--- What an entry answers and leaves for an event on the table t and the clock c.
-abbrev pub EventDone : record-of-head.Head → List record-of-preset.Preset → List ℕ → ℕ → Event → List ℕ → result.Outcome → Type 0
-EventDone head ps t c e u r = Yields (eventMeant head ps (stateOf t c) e) u r
+-- What an entry answers and leaves for an event.
+abbrev pub EventDone : record-of-head.Head → List record-of-preset.Preset → State → Event → List ℕ → result.Outcome → Type 0
+EventDone head ps st e u r = Yields (eventMeant head ps st e) u r

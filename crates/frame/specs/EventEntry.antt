@@ -12,25 +12,26 @@ use Rattle.station.specs.Refusal.{tooShort, try, firstOf}
 use Rattle.station.specs.Types.{headIn}
 use Rattle.station.specs.declared.types.Preset as record-of-preset
 use Rattle.station.specs.declared.types.Head as record-of-head
+use Rattle.placing.specs.State.{State, stateOf}
 use Rattle.placing.specs.Claims.{Running}
 use Rattle.frame.specs.declared.types.Outcome as result
-use Rattle.frame.specs.Event.{Event, refused, State, Outcome}
+use Rattle.frame.specs.Event.{Event, refused, Outcome}
 use Rattle.frame.specs.Demands.{Demand3}
-use Rattle.frame.specs.EventDone.{stateOf, eventMeant, Yields}
+use Rattle.frame.specs.EventDone.{eventMeant, Yields}
 
 -- One event where the list has so many records: 8 for fewer than 32, which changes nothing, else what the event comes to.
 unfoldable pub eventListed : ℕ → record-of-head.Head → List record-of-preset.Preset → State → Event → Outcome
 eventListed records head ps st e =
     elim (firstOf (try tooShort (ltb records 32) ∷ [])) [ none ↦ eventMeant head ps st e | some r ↦ record { answer = refused r; after = st } ]
 
--- What an entry answers and leaves for an event on the table t and the clock c. Of the list no record is changed.
-abbrev pub EventListed : ℕ → record-of-head.Head → List record-of-preset.Preset → List ℕ → ℕ → Event → List ℕ → result.Outcome → Type 0
-EventListed records head ps t c e u r = Yields (eventListed records head ps (stateOf t c) e) u r
+-- What an entry answers and leaves for an event. Of the list no record is changed.
+abbrev pub EventListed : ℕ → record-of-head.Head → List record-of-preset.Preset → State → Event → List ℕ → result.Outcome → Type 0
+EventListed records head ps st e u r = Yields (eventListed records head ps st e) u r
 
 -- What `event` answers and leaves, and what is claimed of it.
-pub record EventEntry (head : record-of-head.Head) (ps : List record-of-preset.Preset) (t : List ℕ) (c : ℕ) (e : Event) (u : List ℕ) (r : result.Outcome) : Type 0 where
-  pub done : EventListed (length ps) head ps t c e u r
+pub record EventEntry (head : record-of-head.Head) (ps : List record-of-preset.Preset) (st : State) (e : Event) (u : List ℕ) (r : result.Outcome) : Type 0 where
+  pub done : EventListed (length ps) head ps st e u r
   -- a frame that 11 lets pass is such a frame afterwards: "Each event gets the table and clock that the last one left"
-  pub kept : Running (headIn head ps) c t → Running (headIn head ps) (r .clock) u
+  pub kept : Running (headIn head ps) st → Running (headIn head ps) (stateOf u (r .clock))
   -- so that demand 3 holds of a list of events handed over one by one
-  pub claim : Running (headIn head ps) c t → Demand3 (headIn head ps) (stateOf t c) (e ∷ [])
+  pub claim : Running (headIn head ps) st → Demand3 (headIn head ps) st (e ∷ [])

@@ -9,8 +9,10 @@ use Rattle.station.specs.Head.{Head}
 use Rattle.station.specs.Refusal.{Refusal, tooShort, textTooLong, try, firstOf}
 use Rattle.station.specs.Text.{lines}
 use Rattle.station.specs.Reading.{Reading, headOf}
+use Rattle.placing.specs.Valid.{firstClock}
+use Rattle.placing.specs.State.{State, stateOf}
 use Rattle.placing.specs.Outcomes.{PlanAnswer, planOf}
-use Rattle.frame.specs.Event.{Event, State, Run, runOf, line}
+use Rattle.frame.specs.Event.{Event, Run, runOf, line}
 
 -- What a text comes to. `notRead`: the head is refused, with its line; nothing is changed. `notPlanned`: the head is read and its plan refused, at the last
 -- head line; the table is as it was. `ran`: the head, the number of its lines, the grants, and what the events after it come to.
@@ -21,7 +23,7 @@ pub data Whole : Type 0 where
 
 -- "It starts from an accepted head with its plan and the first clock": the clock "starts at 1".
 abbrev pub startOf : List ℕ → State
-startOf t = record { table = t; clock = 1 }
+startOf t = stateOf t firstClock
 
 -- the events of a text whose head has n lines: every line after it
 abbrev pub eventsOf : List ℕ → ℕ → List Event

@@ -17,6 +17,7 @@ use Rattle.station.specs.declared.write.Writing as writing
 use Rattle.placing.specs.Causes.{frameCausesOf}
 use Rattle.frame.specs.declared.types.Answer as reply
 use Rattle.frame.specs.Types as types
+use Rattle.frame.specs.Text.{startOf}
 use Rattle.frame.specs.Listing.{answerLine, grantedLine, slotLine}
 
 -- the length of what was written, or the refusal; and the output afterwards
@@ -43,7 +44,7 @@ grantWritten n g out = lineWritten (outputShort out ∷ []) (grantedLine n g) ou
 -- The causes of a slot's line: 8 for the output and for the table, 2 for the head record, 11 for the table, and 2 for "a value .. outside its limits", the
 -- slot's number. A slot's line asks for no clock, so 11 is tried with the first clock, which every frame passes.
 abbrev pub slotCauses : record-of-head.Head → List record-of-preset.Preset → List ℕ → ℕ → List ℕ → List (Option Refusal)
-slotCauses head ps t s out = outputShort out ∷ (frameCausesOf head ps 1 t ++ (try outOfLimits (not (within 1 (head .slots) s)) ∷ []))
+slotCauses head ps t s out = outputShort out ∷ (frameCausesOf head ps (startOf t) ++ (try outOfLimits (not (within 1 (head .slots) s)) ∷ []))
 
 -- the line of a slot, its number being the paper's, from 1 on: "Slot: its number, then the bridges"
 abbrev pub slotWritten : record-of-head.Head → List record-of-preset.Preset → List ℕ → ℕ → List ℕ → WriteOutcome

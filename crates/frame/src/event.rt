@@ -17,9 +17,10 @@ use station::records::record_count;
 use station::types::Head;
 use station::types::Preset;
 ghost use lib.ListN.{length};
+ghost use Rattle.placing.specs.State.{stateOf};
 ghost use Rattle.frame.specs.Event.{Event};
 ghost use Rattle.frame.specs.EventEntry.{EventListed, EventEntry};
-ghost use Rattle.frame.specs.EventDone.{EventDone, stateOf};
+ghost use Rattle.frame.specs.EventDone.{EventDone};
 ghost use mathlib.Core.List.{[], _∷_};
 ghost use Rattle.station.specs.Types.{headIn};
 ghost use Rattle.placing.specs.Claims.{Running};
@@ -28,7 +29,7 @@ ghost use Rattle.frame.specs.Demands.{Demand3};
 // Sets the clock: "slot t is about to begin". The causes 8 of the list and of the table, 2 of the head record, 11, then 2 where t is outside 1 to S + 1, and 6 where
 // it is below the present clock. The list and the table are only looked at.
 pub fn set_clock(head: Head, presets: &[Preset], table: &[u16], clock: usize, t: usize) -> Outcome
-    ensures { λ r. ⌜ EventListed (length (now (presets .entry))) head (now (presets .entry)) (now (table .entry)) clock (Event.clock t) (now (table .entry)) r ⌝ }
+    ensures { λ r. ⌜ EventListed (length (now (presets .entry))) head (now (presets .entry)) (stateOf (now (table .entry)) clock) (Event.clock t) (now (table .entry)) r ⌝ }
 {
     let records = record_count(presets);
     let bank = load(presets);
@@ -45,7 +46,7 @@ pub fn event(
     clock: usize,
     line: &[u8],
 ) -> Outcome
-    ensures { λ r. ⌜ EventEntry head (now (presets .entry)) (now (table .entry)) clock (Event.line (now (line .entry))) (now (table .exit)) r ⌝ }
+    ensures { λ r. ⌜ EventEntry head (now (presets .entry)) (stateOf (now (table .entry)) clock) (Event.line (now (line .entry))) (now (table .exit)) r ⌝ }
 {
     let records = record_count(presets);
     let bank = load(presets);
@@ -61,7 +62,7 @@ pub fn set_clock_by_value(
     clock: usize,
     t: usize,
 ) -> Outcome
-    ensures { λ r. ⌜ EventDone head presets (now (table .entry)) clock (Event.clock t) (now (table .entry)) r ⌝ }
+    ensures { λ r. ⌜ EventDone head presets (stateOf (now (table .entry)) clock) (Event.clock t) (now (table .entry)) r ⌝ }
 {
     if let Cause::Met(r) = frame_cause(head, presets, table, clock) {
         return Outcome {
@@ -82,9 +83,9 @@ pub fn event_by_value(
     clock: usize,
     line: &[u8],
 ) -> Outcome
-    ensures done { λ r. ⌜ EventDone head presets (now (table .entry)) clock (Event.line (now (line .entry))) (now (table .exit)) r ⌝ }
-    ensures kept { λ r. ⌜ (Running (headIn head presets) clock (now (table .entry)) → Running (headIn head presets) (r .clock) (now (table .exit))) ⌝ }
-    ensures claim { λ _. ⌜ (Running (headIn head presets) clock (now (table .entry)) → Demand3 (headIn head presets) (stateOf (now (table .entry)) clock) (Event.line (now (line .entry)) ∷ [])) ⌝ }
+    ensures done { λ r. ⌜ EventDone head presets (stateOf (now (table .entry)) clock) (Event.line (now (line .entry))) (now (table .exit)) r ⌝ }
+    ensures kept { λ r. ⌜ (Running (headIn head presets) (stateOf (now (table .entry)) clock) → Running (headIn head presets) (stateOf (now (table .exit)) (r .clock))) ⌝ }
+    ensures claim { λ _. ⌜ (Running (headIn head presets) (stateOf (now (table .entry)) clock) → Demand3 (headIn head presets) (stateOf (now (table .entry)) clock) (Event.line (now (line .entry)) ∷ [])) ⌝ }
 {
     if let Cause::Met(r) = frame_cause(head, presets, table, clock) {
         return Outcome {

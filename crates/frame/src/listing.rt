@@ -1,5 +1,5 @@
 // The entries that write the listing of a text, or one line of it, at the start of an output.
-pub mod bytes; // bytes.rt: the lines of the listing, as bytes
+pub(crate) mod bytes; // bytes.rt: the lines of the listing, as bytes
 
 use crate::listing::bytes::answer_line;
 use crate::listing::bytes::granted_line;
@@ -9,6 +9,7 @@ use crate::text::Ended;
 use crate::text::run_text_by_value;
 use crate::types::Answer;
 use placing::check::Cause;
+use placing::check::FIRST_CLOCK;
 use placing::check::frame_cause;
 use station::types::Head;
 use station::types::NO_HEAD;
@@ -61,7 +62,7 @@ pub fn write_slot(
     if out.len() < BYTES {
         return Writing::Refused(Refusal::TooShort);
     }
-    if let Cause::Met(r) = frame_cause(head, presets, table, 1) {
+    if let Cause::Met(r) = frame_cause(head, presets, table, FIRST_CLOCK) {
         return Writing::Refused(r);
     }
     if slot < 1 {

@@ -3,7 +3,7 @@
 -- In order: a cause that holds (`met`); 8 and the head record's 2 (`long-and-valid`, `no-record-cause`); with 11 (`running-of`, `of-running`); 2, 4 and 9 of a call
 -- (`jobs-inside`, `good-of`).
 -- Assumes nothing.
-use Prim.Native.Nat.{ℕ, suc, _+_, _≤_, _<_}
+use Prim.Native.Nat.{ℕ, _+_, _≤_, _<_}
 use mathlib.Core.Path.{_≡_, _∙_, sym}
 use mathlib.Core.Bool.{Bool, true, false, not, _&&_}
 use mathlib.Core.Option.{none, some, Option}
@@ -11,18 +11,19 @@ use mathlib.Core.List.{List, [], _∷_}
 use lib.ListN.{length}
 use lib.Dec.{ltb, eqb}
 use Rattle.laws.specs.Sums.{every}
-use Rattle.laws.proofs.Tests.{both, left-of, right-of, false-of-not, true-of-not, not-is-false}
+use Rattle.laws.proofs.Tests.{left-of, right-of, false-of-not, true-of-not, not-is-false}
 use Rattle.laws.proofs.Comparisons.{ge-of, ne-of, ltb-no}
 use Rattle.laws.proofs.Every.{every-all}
 use Rattle.station.specs.Head.{Head, Job, valid, within, Valid}
 use Rattle.station.specs.Refusal.{tooShort, outOfLimits, notWellFormed, numberUsed, tooMany, firstOf, Refusal, try}
 use Rattle.station.proofs.Theorems.{first-of-none, passed, first-none, append-none, append-left-none}
-use Rattle.station.proofs.Theorems.{within-low, within-high, of-within, valid-of, of-valid}
-use Rattle.placing.specs.Table.{Cells, cell, isUsed, jobCount, wellFormed}
+use Rattle.station.proofs.Theorems.{within-low, within-high, valid-of, of-valid}
+use Rattle.placing.specs.Table.{Cells, isUsed, jobCount}
+use Rattle.placing.specs.State.{State, wellFormedFrame}
 use Rattle.placing.specs.Valid.{jobAt}
-use Rattle.placing.specs.Outcomes.{frameCauses, frameAtFault, jobCauses, jobsOutside, jobsUsed, jobsTooMany}
+use Rattle.placing.specs.Outcomes.{frameCauses, jobCauses, jobsOutside, jobsUsed, jobsTooMany}
 use Rattle.placing.specs.Claims.{Running}
-use Rattle.placing.proofs.WellFormed.{wellFormed-of, of-wellFormed}
+use Rattle.placing.proofs.WellFormedFrame.{frame-test}
 use Rattle.placing.proofs.NewJobs.{Good}
 
 -- a cause that holds is the first
@@ -49,30 +50,20 @@ no-record-cause h t long ok =
 
 -- ---- and 11
 
-abbrev tryEleven : Head → ℕ → List ℕ → List (Option Refusal)
-tryEleven h clock t = try notWellFormed (frameAtFault h clock t) ∷ []
+abbrev tryEleven : Head → State → List (Option Refusal)
+tryEleven h st = try notWellFormed (not (wellFormedFrame h st)) ∷ []
 
-pub running-of : (h : Head) (clock : ℕ) (t : List ℕ) → firstOf (frameCauses h clock t) ≡ none → Running h clock t
-running-of h clock t e =
-    let before = append-left-none (recordCauses h t) (tryEleven h clock t) e in
-    let passes = long-and-valid h t before in
-    let eleven = first-none notWellFormed (frameAtFault h clock t) [] (sym (append-none (recordCauses h t) (tryEleven h clock t) before) ∙ e) in
-    let ok : (wellFormed h (cell h t) && within 1 (suc (h .slots)) clock) ≡ true = true-of-not _ (eleven .0) in
-    let range = right-of (wellFormed h (cell h t)) (within 1 (suc (h .slots)) clock) ok in
-    record {
-      long = passes .0;
-      valid = passes .1;
-      wellFormed = wellFormed-of h (cell h t) (left-of (wellFormed h (cell h t)) (within 1 (suc (h .slots)) clock) ok);
-      clock-low = within-low 1 (suc (h .slots)) clock range;
-      clock-high = within-high 1 (suc (h .slots)) clock range;
-    }
+pub running-of : (h : Head) (st : State) → firstOf (frameCauses h st) ≡ none → Running h st
+running-of h st e =
+    let before = append-left-none (recordCauses h (st .table)) (tryEleven h st) e in
+    let passes = long-and-valid h (st .table) before in
+    let eleven = first-none notWellFormed (not (wellFormedFrame h st)) [] (sym (append-none (recordCauses h (st .table)) (tryEleven h st) before) ∙ e) in
+    record { long = passes .0; valid = passes .1; wellFormed = frame-test h st .0 (true-of-not _ (eleven .0)) }
 
-pub of-running : (h : Head) (clock : ℕ) (t : List ℕ) → Running h clock t → firstOf (frameCauses h clock t) ≡ none
-of-running h clock t r =
-    append-none (recordCauses h t) (tryEleven h clock t) (no-record-cause h t (r .long) (r .valid))
-    ∙ passed notWellFormed (frameAtFault h clock t) []
-    (not-is-false _ (both (wellFormed h (cell h t)) (within 1 (suc (h .slots)) clock) (of-wellFormed h (cell h t) (r .wellFormed))
-    (of-within 1 (suc (h .slots)) clock (r .clock-low) (r .clock-high))))
+pub of-running : (h : Head) (st : State) → Running h st → firstOf (frameCauses h st) ≡ none
+of-running h st r =
+    append-none (recordCauses h (st .table)) (tryEleven h st) (no-record-cause h (st .table) (r .long) (r .valid))
+    ∙ passed notWellFormed (not (wellFormedFrame h st)) [] (not-is-false _ (frame-test h st .1 (r .wellFormed)))
     ∙ first-of-none
 
 -- ---- 2, 4 and 9 of a call

@@ -24,11 +24,12 @@ use Rattle.station.specs.Refusal.{firstOf}
 use Rattle.station.proofs.Theorems.{first-of-none, first-none, first-some, append-none, append-left-none, Never, end, skip, last-cause, cause-last}
 use Rattle.station.proofs.Theorems.{within-low}
 use Rattle.placing.specs.Table.{Cells, cell, cells, Each, presetCount, numberIn, isOptional, isMandatory, WellFormed}
+use Rattle.placing.specs.State.{State, wellFormedFrame}
 use Rattle.placing.specs.Valid.{ValidPlan, ValidCall, jobAt, lost, lostUpTo, optionalOf, priorityOf}
 use Rattle.placing.specs.Plan.{planFits, mandatories, grants, planned, rank}
 use Rattle.placing.specs.Call.{evictionOrder, InEvictionOrder, evictedSet, callFits, called}
-use Rattle.placing.specs.Outcomes.{written, PlanAnswer, PlanOutcome, planCauses, planOf, frameCauses, frameAtFault, jobCauses, jobsOutside}
-use Rattle.placing.specs.Outcomes.{jobsUsed, jobsTooMany, callCauses, CallAnswer, CallOutcome, callOf}
+use Rattle.placing.specs.Outcomes.{written, PlanAnswer, PlanOutcome, planCauses, planOf, frameCauses, jobCauses, jobsOutside}
+use Rattle.placing.specs.Outcomes.{jobsUsed, jobsTooMany, callCauses, CallAnswer, CallOutcome, calledState, callOf}
 use Rattle.placing.specs.Claims.{Running, SamePast, PlanClaim, CallClaim, beforeSeven, optionalOfFirst}
 use Rattle.placing.proofs.CountedCells.{cells-ext, holding-ext, lost-was, preset-with, priorityOf-is}
 use Rattle.placing.proofs.WellFormed.{validPlan-ext, validCall-ext}
@@ -191,72 +192,72 @@ nine-counts-all h t u ok w =
         let p = preset-with h (numberIn (t s b)) (w .presets s b l m (or-right (isMandatory (t s b)) (isOptional (t s b)) (lost-was t u s b e))) in
         omega (arith, ap (priorityOf h) (p .2), priorityOf-is h ok (p .0) (p .1), ok .limits (p .0) (p .1) .priority)
 
-module _ (h : Head) (clock : ℕ) (jobs : List Job) (t : List ℕ) where
+module _ (h : Head) (jobs : List Job) (st : State) where
   -- the causes of a call, in the listed order
   abbrev tried : List (Option Refusal)
-  tried = frameCauses h clock t ++ callCauses h clock jobs (cell h t)
+  tried = frameCauses h st ++ callCauses h (st .clock) jobs (cell h (st .table))
 
   -- the table that the call leaves, its cells, and the whole outcome
   abbrev tableLeft : List ℕ
-  tableLeft = written h (called h clock jobs (cell h t)) t
+  tableLeft = written h (called h (st .clock) jobs (cell h (st .table))) (st .table)
 
   abbrev cellsLeft : Cells
   cellsLeft = cell h tableLeft
 
   abbrev outcome : CallOutcome
-  outcome = record { answer = CallAnswer.taken (ones (evictedSet h clock jobs (cell h t))); table = tableLeft }
+  outcome = record { answer = CallAnswer.taken (ones (evictedSet h (st .clock) jobs (cell h (st .table)))); after = calledState h jobs st }
 
   -- the answer tells whether a cause holds
   data CallIs : CallOutcome → Type 0 where
     placed : firstOf tried ≡ none → CallIs outcome
-    stopped : (r : Refusal) → firstOf tried ≡ some r → CallIs (record { answer = CallAnswer.refused r; table = t })
+    stopped : (r : Refusal) → firstOf tried ≡ some r → CallIs (record { answer = CallAnswer.refused r; after = st })
 
-  call-is : CallIs (callOf h clock jobs t)
+  call-is : CallIs (callOf h jobs st)
   unfolding callOf
   call-is = go (firstOf tried) refl
     where
-      go : (o : Option Refusal) → firstOf tried ≡ o → CallIs (callOf h clock jobs t)
+      go : (o : Option Refusal) → firstOf tried ≡ o → CallIs (callOf h jobs st)
       go none e = rw (e, callOf) (placed e)
       go (some r) e = rw (e, callOf) (stopped r e)
 
   -- no cause before 7 holds, so none of the jobs' own
-  jobs-pass : firstOf (beforeSeven h clock jobs t) ≡ none → firstOf (jobCauses h jobs (cell h t)) ≡ none
+  jobs-pass : firstOf (beforeSeven h jobs st) ≡ none → firstOf (jobCauses h jobs (cell h (st .table))) ≡ none
   jobs-pass e =
-      let frame = append-left-none (frameCauses h clock t) (jobCauses h jobs (cell h t)) e in
-      sym (append-none (frameCauses h clock t) (jobCauses h jobs (cell h t)) frame) ∙ e
+      let frame = append-left-none (frameCauses h st) (jobCauses h jobs (cell h (st .table))) e in
+      sym (append-none (frameCauses h st) (jobCauses h jobs (cell h (st .table))) frame) ∙ e
 
-  passes : firstOf (beforeSeven h clock jobs t) ≡ none → Running h clock t × Good h (cell h t) jobs
-  passes e = (running-of h clock t (append-left-none (frameCauses h clock t) (jobCauses h jobs (cell h t)) e), good-of h jobs (cell h t) (jobs-pass e))
+  passes : firstOf (beforeSeven h jobs st) ≡ none → Running h st × Good h (cell h (st .table)) jobs
+  passes e = (running-of h st (append-left-none (frameCauses h st) (jobCauses h jobs (cell h (st .table))) e), good-of h jobs (cell h (st .table)) (jobs-pass e))
 
   -- 7 is tried last
   abbrev trySeven : List (Option Refusal)
-  trySeven = try callNotFeasible (not (callFits h clock jobs (cell h t))) ∷ []
+  trySeven = try callNotFeasible (not (callFits h (st .clock) jobs (cell h (st .table)))) ∷ []
 
-  seven-never : Never callNotFeasible (beforeSeven h clock jobs t)
+  seven-never : Never callNotFeasible (beforeSeven h jobs st)
   seven-never =
-      skip tooShort (ltb (length t) 512) (λ e. omega arith) (skip outOfLimits (not (valid h)) (λ e. omega arith)
-      (skip notWellFormed (frameAtFault h clock t) (λ e. omega arith) (skip outOfLimits (jobsOutside jobs) (λ e. omega arith)
-      (skip numberUsed (jobsUsed h (cell h t) jobs) (λ e. omega arith) (skip tooMany (jobsTooMany h (cell h t) jobs) (λ e. omega arith) end)))))
+      skip tooShort (ltb (length (st .table)) 512) (λ e. omega arith) (skip outOfLimits (not (valid h)) (λ e. omega arith)
+      (skip notWellFormed (not (wellFormedFrame h st)) (λ e. omega arith) (skip outOfLimits (jobsOutside jobs) (λ e. omega arith)
+      (skip numberUsed (jobsUsed h (cell h (st .table)) jobs) (λ e. omega arith) (skip tooMany (jobsTooMany h (cell h (st .table)) jobs) (λ e. omega arith) end)))))
 
-  placed-passes : firstOf tried ≡ none → (firstOf (beforeSeven h clock jobs t) ≡ none) × (callFits h clock jobs (cell h t) ≡ true)
+  placed-passes : firstOf tried ≡ none → (firstOf (beforeSeven h jobs st) ≡ none) × (callFits h (st .clock) jobs (cell h (st .table)) ≡ true)
   placed-passes e =
-      let before = append-left-none (beforeSeven h clock jobs t) trySeven e in
-      let last = sym (append-none (beforeSeven h clock jobs t) trySeven before) ∙ e in
-      (before, true-of-not _ (first-none callNotFeasible (not (callFits h clock jobs (cell h t))) [] last .0))
+      let before = append-left-none (beforeSeven h jobs st) trySeven e in
+      let last = sym (append-none (beforeSeven h jobs st) trySeven before) ∙ e in
+      (before, true-of-not _ (first-none callNotFeasible (not (callFits h (st .clock) jobs (cell h (st .table)))) [] last .0))
 
-  cell-called : Each h (λ s b. called h clock jobs (cell h t) s b ≡ cellsLeft s b)
-  cell-called s b l m = sym (cell-written h (called h clock jobs (cell h t)) t s b l m)
+  cell-called : Each h (λ s b. called h (st .clock) jobs (cell h (st .table)) s b ≡ cellsLeft s b)
+  cell-called s b l m = sym (cell-written h (called h (st .clock) jobs (cell h (st .table))) (st .table) s b l m)
 
-  cellsLeft-valid : Running h clock t → Good h (cell h t) jobs → callFits h clock jobs (cell h t) ≡ true → ValidCall h clock jobs (cell h t) cellsLeft
+  cellsLeft-valid : Running h st → Good h (cell h (st .table)) jobs → callFits h (st .clock) jobs (cell h (st .table)) ≡ true → ValidCall h (st .clock) jobs (cell h (st .table)) cellsLeft
   cellsLeft-valid r g f =
-      validCall-ext h clock jobs (cell h t) (cell h t) (called h clock jobs (cell h t)) cellsLeft (λ s b l m. refl) cell-called
-      (called-valid h clock jobs (cell h t) (r .valid) (r .wellFormed) g f)
+      validCall-ext h (st .clock) jobs (cell h (st .table)) (cell h (st .table)) (called h (st .clock) jobs (cell h (st .table))) cellsLeft (λ s b l m. refl) cell-called
+      (called-valid h (st .clock) jobs (cell h (st .table)) (r .valid) (r .wellFormed .cells) g f)
 
-  cellsLeft-lost : (s b : ℕ) → s < h .slots → b < h .bridges → lost (cell h t) (called h clock jobs (cell h t)) s b ≡ lost (cell h t) cellsLeft s b
-  cellsLeft-lost s b l m = ap (λ (v : ℕ). isOptional (cell h t s b) && not (isOptional v)) (cell-called s b l m)
+  cellsLeft-lost : (s b : ℕ) → s < h .slots → b < h .bridges → lost (cell h (st .table)) (called h (st .clock) jobs (cell h (st .table))) s b ≡ lost (cell h (st .table)) cellsLeft s b
+  cellsLeft-lost s b l m = ap (λ (v : ℕ). isOptional (cell h (st .table) s b) && not (isOptional v)) (cell-called s b l m)
 
   call-seven : (o : CallOutcome) → CallIs o → (o .answer ≡ CallAnswer.refused callNotFeasible)
-      ↔ ((firstOf (beforeSeven h clock jobs t) ≡ none) × ((u : List ℕ) → ValidCall h clock jobs (cell h t) (cell h u) → ⊥))
+      ↔ ((firstOf (beforeSeven h jobs st) ≡ none) × ((u : List ℕ) → ValidCall h (st .clock) jobs (cell h (st .table)) (cell h u) → ⊥))
   call-seven _ (placed e) = (
     λ q. absurd (refused-taken (sym q)),
     λ n. let f = placed-passes e in let p = passes (f .0) in absurd (n .1 tableLeft (cellsLeft-valid (p .0) (p .1) (f .1))),
@@ -264,44 +265,44 @@ module _ (h : Head) (clock : ℕ) (jobs : List Job) (t : List ℕ) where
   call-seven _ (stopped r e) = (only, always)
     where
       only : CallAnswer.refused r ≡ CallAnswer.refused callNotFeasible
-          → (firstOf (beforeSeven h clock jobs t) ≡ none) × ((u : List ℕ) → ValidCall h clock jobs (cell h t) (cell h u) → ⊥)
+          → (firstOf (beforeSeven h jobs st) ≡ none) × ((u : List ℕ) → ValidCall h (st .clock) jobs (cell h (st .table)) (cell h u) → ⊥)
       only q =
           let same : firstOf tried ≡ some callNotFeasible = cc in
-          let w = last-cause callNotFeasible (not (callFits h clock jobs (cell h t))) seven-never same in
+          let w = last-cause callNotFeasible (not (callFits h (st .clock) jobs (cell h (st .table)))) seven-never same in
           let p = passes (w .0) in (
             w .0,
             λ u v.
-                clash (sym (w .1) ∙ not-is-false _ (valid-fits h clock jobs (cell h t) (cell h u) (p .0 .valid) (p .0 .wellFormed) (p .1) v)),
+                clash (sym (w .1) ∙ not-is-false _ (valid-fits h (st .clock) jobs (cell h (st .table)) (cell h u) (p .0 .valid) (p .0 .wellFormed .cells) (p .1) v)),
           )
 
-      always : (firstOf (beforeSeven h clock jobs t) ≡ none) × ((u : List ℕ) → ValidCall h clock jobs (cell h t) (cell h u) → ⊥)
+      always : (firstOf (beforeSeven h jobs st) ≡ none) × ((u : List ℕ) → ValidCall h (st .clock) jobs (cell h (st .table)) (cell h u) → ⊥)
           → CallAnswer.refused r ≡ CallAnswer.refused callNotFeasible
-      always n = go (is (callFits h clock jobs (cell h t)))
+      always n = go (is (callFits h (st .clock) jobs (cell h (st .table))))
         where
-          go : Is (callFits h clock jobs (cell h t)) → CallAnswer.refused r ≡ CallAnswer.refused callNotFeasible
+          go : Is (callFits h (st .clock) jobs (cell h (st .table))) → CallAnswer.refused r ≡ CallAnswer.refused callNotFeasible
           go (is-true f) = let p = passes (n .0) in absurd (n .1 tableLeft (cellsLeft-valid (p .0) (p .1) f))
           go (is-false f) =
               let seven : firstOf tried ≡ some callNotFeasible =
-              cause-last (beforeSeven h clock jobs t) callNotFeasible (not (callFits h clock jobs (cell h t))) (n .0) (ap not f) in
+              cause-last (beforeSeven h jobs st) callNotFeasible (not (callFits h (st .clock) jobs (cell h (st .table)))) (n .0) (ap not f) in
               cc
 
-  call-past : (o : CallOutcome) → CallIs o → SamePast h t (o .table)
+  call-past : (o : CallOutcome) → CallIs o → SamePast h (st .table) (o .after .table)
   call-past _ (placed e) =
       let p = passes (placed-passes e .0) in
-      written-past h (called h clock jobs (cell h t)) t (le-trans (frame-cells h (p .0 .valid)) (p .0 .long))
+      written-past h (called h (st .clock) jobs (cell h (st .table))) (st .table) (le-trans (frame-cells h (p .0 .valid)) (p .0 .long))
   call-past _ (stopped r e) = record { long = refl; past = refl }
 
   -- an accepted call: no cause holds, and the outcome is that of the rule
-  taken-is : (n : ℕ) → callOf h clock jobs t .answer ≡ CallAnswer.taken n → (firstOf tried ≡ none) × (callOf h clock jobs t ≡ outcome)
-  taken-is n = go (callOf h clock jobs t) call-is
+  taken-is : (n : ℕ) → callOf h jobs st .answer ≡ CallAnswer.taken n → (firstOf tried ≡ none) × (callOf h jobs st ≡ outcome)
+  taken-is n = go (callOf h jobs st) call-is
     where
       go : (o : CallOutcome) → CallIs o → o .answer ≡ CallAnswer.taken n → (firstOf tried ≡ none) × (o ≡ outcome)
       go _ (placed e) q = (e, refl)
       go _ (stopped r e) q = absurd (refused-taken q)
 
-  module _ (n : ℕ) (q : callOf h clock jobs t .answer ≡ CallAnswer.taken n) where
+  module _ (n : ℕ) (q : callOf h jobs st .answer ≡ CallAnswer.taken n) where
     -- what it was tried for
-    taken-passes : Running h clock t × Good h (cell h t) jobs
+    taken-passes : Running h st × Good h (cell h (st .table)) jobs
     taken-passes = passes (placed-passes (taken-is n q .0) .0)
 
     taken-lengths : (i : ℕ) → i < length jobs → 1 ≤ jobAt jobs i .slots
@@ -309,59 +310,59 @@ module _ (h : Head) (clock : ℕ) (jobs : List Job) (t : List ℕ) where
         let inside = first-none outOfLimits (jobsOutside jobs) _ (jobs-pass (placed-passes (taken-is n q .0) .0)) .0 in
         within-low 1 64 (jobAt jobs i .slots) (jobs-inside jobs inside .2 i l .1)
 
-    taken-fits : callFits h clock jobs (cell h t) ≡ true
+    taken-fits : callFits h (st .clock) jobs (cell h (st .table)) ≡ true
     taken-fits = placed-passes (taken-is n q .0) .1
 
-    taken-table : callOf h clock jobs t .table ≡ tableLeft
-    taken-table = ap (λ (o : CallOutcome). o .table) (taken-is n q .1)
+    taken-table : callOf h jobs st .after .table ≡ tableLeft
+    taken-table = ap (λ (o : CallOutcome). o .after .table) (taken-is n q .1)
 
-    taken-valid : ValidCall h clock jobs (cell h t) (cell h (callOf h clock jobs t .table))
+    taken-valid : ValidCall h (st .clock) jobs (cell h (st .table)) (cell h (callOf h jobs st .after .table))
     taken-valid = rw taken-table (cellsLeft-valid (taken-passes .0) (taken-passes .1) taken-fits)
 
-    taken-rule : Each h (λ s b. cell h (callOf h clock jobs t .table) s b ≡ called h clock jobs (cell h t) s b)
-    taken-rule = rw taken-table (cell-written h (called h clock jobs (cell h t)) t)
+    taken-rule : Each h (λ s b. cell h (callOf h jobs st .after .table) s b ≡ called h (st .clock) jobs (cell h (st .table)) s b)
+    taken-rule = rw taken-table (cell-written h (called h (st .clock) jobs (cell h (st .table))) (st .table))
 
-    taken-order : InEvictionOrder h clock (cell h t) (evictionOrder h clock (cell h t))
-    taken-order = order-is h clock (cell h t) (taken-passes .0 .valid) (taken-passes .0 .wellFormed)
+    taken-order : InEvictionOrder h (st .clock) (cell h (st .table)) (evictionOrder h (st .clock) (cell h (st .table)))
+    taken-order = order-is h (st .clock) (cell h (st .table)) (taken-passes .0 .valid) (taken-passes .0 .wellFormed .cells)
 
-    taken-reported : n ≡ cells h (λ s b. lost (cell h t) (cell h (callOf h clock jobs t .table)) s b)
+    taken-reported : n ≡ cells h (λ s b. lost (cell h (st .table)) (cell h (callOf h jobs st .after .table)) s b)
     taken-reported =
         let o = taken-is n q .1 in
-        let same : n ≡ ones (evictedSet h clock jobs (cell h t)) = cc in
+        let same : n ≡ ones (evictedSet h (st .clock) jobs (cell h (st .table))) = cc in
         rw taken-table
         (same
-        ∙ sym (called-count h clock jobs (cell h t) (taken-passes .0 .valid) (taken-passes .0 .wellFormed) (taken-passes .1))
-        ∙ cells-ext h (λ s b. lost (cell h t) (called h clock jobs (cell h t)) s b) (λ s b. lost (cell h t) cellsLeft s b) cellsLeft-lost)
+        ∙ sym (called-count h (st .clock) jobs (cell h (st .table)) (taken-passes .0 .valid) (taken-passes .0 .wellFormed .cells) (taken-passes .1))
+        ∙ cells-ext h (λ s b. lost (cell h (st .table)) (called h (st .clock) jobs (cell h (st .table))) s b) (λ s b. lost (cell h (st .table)) cellsLeft s b) cellsLeft-lost)
 
-    taken-least : (u : List ℕ) → ValidCall h clock jobs (cell h t) (cell h u) → (p : ℕ)
-        → lostUpTo h (cell h t) (cell h (callOf h clock jobs t .table)) p ≤ lostUpTo h (cell h t) (cell h u) p
+    taken-least : (u : List ℕ) → ValidCall h (st .clock) jobs (cell h (st .table)) (cell h u) → (p : ℕ)
+        → lostUpTo h (cell h (st .table)) (cell h (callOf h jobs st .after .table)) p ≤ lostUpTo h (cell h (st .table)) (cell h u) p
     taken-least u v p =
         let r = taken-passes .0 in
-        let better : ℕ → ℕ → Bool = λ s b. leb (priorityOf h (numberIn (cell h t s b))) p in
+        let better : ℕ → ℕ → Bool = λ s b. leb (priorityOf h (numberIn (cell h (st .table) s b))) p in
         rw taken-table (omega (
           arith,
-          cells-ext h (λ s b. lost (cell h t) (called h clock jobs (cell h t)) s b && better s b) (λ s b. lost (cell h t) cellsLeft s b && better s b)
+          cells-ext h (λ s b. lost (cell h (st .table)) (called h (st .clock) jobs (cell h (st .table))) s b && better s b) (λ s b. lost (cell h (st .table)) cellsLeft s b && better s b)
               (λ s b l m. ap (λ (c : Bool). c && better s b) (cellsLeft-lost s b l m)),
-          called-upto h clock jobs (cell h t) (r .valid) (r .wellFormed) (taken-passes .1) p,
-          fewest-upto h clock jobs (cell h t) (cell h u) (r .valid) (r .wellFormed) (taken-passes .1) v p,
+          called-upto h (st .clock) jobs (cell h (st .table)) (r .valid) (r .wellFormed .cells) (taken-passes .1) p,
+          fewest-upto h (st .clock) jobs (cell h (st .table)) (cell h u) (r .valid) (r .wellFormed .cells) (taken-passes .1) v p,
         ))
 
 -- what is known of an accepted call: its frame is a running one, its jobs have passed their causes, and each needs a slot
-pub call-accepted : (h : Head) (clock : ℕ) (jobs : List Job) (t : List ℕ) (n : ℕ) → callOf h clock jobs t .answer ≡ CallAnswer.taken n
-    → Running h clock t × Good h (cell h t) jobs × ((i : ℕ) → i < length jobs → 1 ≤ jobAt jobs i .slots)
-call-accepted h clock jobs t n q =
-    (taken-passes h clock jobs t n q .0, taken-passes h clock jobs t n q .1, taken-lengths h clock jobs t n q)
+pub call-accepted : (h : Head) (jobs : List Job) (st : State) (n : ℕ) → callOf h jobs st .answer ≡ CallAnswer.taken n
+    → Running h st × Good h (cell h (st .table)) jobs × ((i : ℕ) → i < length jobs → 1 ≤ jobAt jobs i .slots)
+call-accepted h jobs st n q =
+    (taken-passes h jobs st n q .0, taken-passes h jobs st n q .1, taken-lengths h jobs st n q)
 
--- The call theorem: the claims about call hold for every head record, clock, list of jobs and table.
-pub call-claim : (h : Head) (clock : ℕ) (jobs : List Job) (t : List ℕ) → CallClaim h clock jobs t
-call-claim h clock jobs t = record {
-  seven = call-seven h clock jobs t (callOf h clock jobs t) (call-is h clock jobs t);
-  valid = taken-valid h clock jobs t;
-  rule = taken-rule h clock jobs t;
-  order = taken-order h clock jobs t;
-  evicted = λ n q. evicted-first-smallest h clock jobs (cell h t) (taken-fits h clock jobs t n q);
-  reported = taken-reported h clock jobs t;
-  least = taken-least h clock jobs t;
-  nine = λ n q u. let r = taken-passes h clock jobs t n q .0 in nine-counts-all h (cell h t) (cell h u) (r .valid) (r .wellFormed);
-  past = call-past h clock jobs t (callOf h clock jobs t) (call-is h clock jobs t);
+-- The call theorem: the claims about call hold for every head record, list of jobs and state.
+pub call-claim : (h : Head) (jobs : List Job) (st : State) → CallClaim h jobs st
+call-claim h jobs st = record {
+  seven = call-seven h jobs st (callOf h jobs st) (call-is h jobs st);
+  valid = taken-valid h jobs st;
+  rule = taken-rule h jobs st;
+  order = taken-order h jobs st;
+  evicted = λ n q. evicted-first-smallest h (st .clock) jobs (cell h (st .table)) (taken-fits h jobs st n q);
+  reported = taken-reported h jobs st;
+  least = taken-least h jobs st;
+  nine = λ n q u. let r = taken-passes h jobs st n q .0 in nine-counts-all h (cell h (st .table)) (cell h u) (r .valid) (r .wellFormed .cells);
+  past = call-past h jobs st (callOf h jobs st) (call-is h jobs st);
 }

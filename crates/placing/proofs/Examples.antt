@@ -28,6 +28,7 @@ use Rattle.station.specs.declared.types.Head as record-of-head
 use Rattle.station.specs.declared.types.Job as record-of-job
 use Rattle.station.specs.declared.types.Refusal.the-variants.{TooShort}
 use Rattle.placing.specs.Table.{cell, cells, wellFormed}
+use Rattle.placing.specs.State.{State, stateOf}
 use Rattle.placing.specs.Valid.{ValidCall, lost}
 use Rattle.placing.specs.Plan.{needs, grants, planned, placing}
 use Rattle.placing.specs.Call.{emptyCount, called, evictedSet, evictionOrder, downward, inSet, callFits}
@@ -49,11 +50,11 @@ unfolding
     needs grants planned placing written planOf
 plans h t = planOf h t
 
-unfoldable pub calls : Head → ℕ → List Job → List ℕ → CallOutcome
+unfoldable pub calls : Head → List Job → State → CallOutcome
 unfolding
     sum greatest every tabulate served left added searched ones valid hasNumber allInLimits allDistinct masksIn firstOf
     wellFormed placing called evictedSet evictionOrder downward inSet callFits written callOf
-calls h clock jobs t = callOf h clock jobs t
+calls h jobs st = callOf h jobs st
 
 -- ---- presets and jobs
 
@@ -81,8 +82,8 @@ three-planned = refl
 abbrev oneSlot : Head
 oneSlot = record { slots = 1; bridges = 1; busy = noBusy; presets = [] }
 
-pub clock-slot : (callOf oneSlot 1 (job 5 1 ∷ []) (replicate 512 0) .answer ≡ CallAnswer.taken 0)
-    × (callOf oneSlot 2 (job 5 1 ∷ []) (replicate 512 0) .answer ≡ CallAnswer.refused callNotFeasible)
+pub clock-slot : (callOf oneSlot (job 5 1 ∷ []) (stateOf (replicate 512 0) 1) .answer ≡ CallAnswer.taken 0)
+    × (callOf oneSlot (job 5 1 ∷ []) (stateOf (replicate 512 0) 2) .answer ≡ CallAnswer.refused callNotFeasible)
 unfolding calls
 clock-slot = (refl, refl)
 
@@ -91,28 +92,28 @@ clock-slot = (refl, refl)
 abbrev lastSlot : Head
 lastSlot = record { slots = 2; bridges = 2; busy = 1 ∷ 1 ∷ replicate 6 0; presets = preset 1 0 0 1 ∷ preset 2 9 0 1 ∷ [] }
 
-pub worst-evicted : take 4 (callOf lastSlot 1 (job 7 1 ∷ []) (256 ∷ 256 ∷ 769 ∷ 770 ∷ replicate 508 0) .table) ≡ 256 ∷ 256 ∷ 769 ∷ 1031 ∷ []
+pub worst-evicted : take 4 (callOf lastSlot (job 7 1 ∷ []) (stateOf (256 ∷ 256 ∷ 769 ∷ 770 ∷ replicate 508 0) 1) .after .table) ≡ 256 ∷ 256 ∷ 769 ∷ 1031 ∷ []
 unfolding calls
 worst-evicted = refl
 
 -- ---- a call that is taken, with n cells lost
 
-module _ (h : Head) (clock : ℕ) (jobs : List Job) (t : List ℕ) (n : ℕ) (taken : callOf h clock jobs t .answer ≡ CallAnswer.taken n) where
+module _ (h : Head) (clock : ℕ) (jobs : List Job) (t : List ℕ) (n : ℕ) (taken : callOf h jobs (stateOf t clock) .answer ≡ CallAnswer.taken n) where
   -- every valid placement loses n cells or more
   pub must-go : (u : List ℕ) → ValidCall h clock jobs (cell h t) (cell h u) → n ≤ cells h (λ s b. lost (cell h t) (cell h u) s b)
   must-go u v =
-      let c = call-claim h clock jobs t in
+      let c = call-claim h jobs (stateOf t clock) in
       omega (
         arith,
         c .reported n taken,
-        c .nine n taken (callOf h clock jobs t .table),
+        c .nine n taken (callOf h jobs (stateOf t clock) .after .table),
         c .nine n taken u,
         c .least n taken u v 9,
       )
 
   -- and there is one that loses n
   pub goes : (u : List ℕ) × ValidCall h clock jobs (cell h t) (cell h u) × (cells h (λ s b. lost (cell h t) (cell h u) s b) ≡ n)
-  goes = let c = call-claim h clock jobs t in (callOf h clock jobs t .table, c .valid n taken, sym (c .reported n taken))
+  goes = let c = call-claim h jobs (stateOf t clock) in (callOf h jobs (stateOf t clock) .after .table, c .valid n taken, sym (c .reported n taken))
 
 -- ---- free 3, 1, 1, 1 and one optional cell in slot 2, a call of 3 and 3
 
@@ -147,7 +148,7 @@ no-empty-placement a p =
     let z : excess 2 (at (3 ∷ 3 ∷ [])) 4 (emptyCount frame3111 1 (cell frame3111 table3111)) ≡ 0 = placed-fits p in
     omega arith
 
-takes-one : callOf frame3111 1 threeAndThree table3111 .answer ≡ CallAnswer.taken 1
+takes-one : callOf frame3111 threeAndThree (stateOf table3111 1) .answer ≡ CallAnswer.taken 1
 unfolding calls
 takes-one = refl
 
@@ -230,7 +231,7 @@ brokenTables =
     ∷ []
 
 -- A call on a sound table is taken, and on each of the others refused for 11; "at most 64 job numbers" is in `calls-answered`.
-pub sound-broken : map (λ t. callOf fourSlots 1 (job 20 1 ∷ []) (lent t) .answer) (soundTable ∷ brokenTables)
+pub sound-broken : map (λ t. callOf fourSlots (job 20 1 ∷ []) (stateOf (lent t) 1) .answer) (soundTable ∷ brokenTables)
     ≡ CallAnswer.taken 0 ∷ replicate 18 (CallAnswer.refused notWellFormed)
 unfolding calls
 sound-broken = refl
@@ -347,7 +348,7 @@ callCases =
     ∷ stops tooMany (bare 8 8) 1 (job 65 1 ∷ []) (lent (jobCells 64 0))
     ∷ []
 
-pub calls-answered : map (λ c. callOf (c .head) (c .clock) (c .jobs) (c .table) .answer) callCases ≡ map (λ c. c .said) callCases
+pub calls-answered : map (λ c. callOf (c .head) (c .jobs) (stateOf (c .table) (c .clock)) .answer) callCases ≡ map (λ c. c .said) callCases
 unfolding calls jobCells jobsFrom
 calls-answered = refl
 
@@ -370,10 +371,10 @@ jobRecordsTo (suc n) = record { number = 100 + n; slots = 1 } ∷ jobRecordsTo n
 pub records-answered : (planMeant (counting 32) (recordsTo 32) (lent []) .answer ≡ PlanAnswer.granted (replicate 32 0))
     × (planMeant (counting 33) (recordsTo 33) (lent []) .answer ≡ PlanAnswer.refused outOfLimits)
     × (planMeant (counting 33) (recordsTo 33) (replicate 511 0) .answer ≡ PlanAnswer.refused tooShort)
-    × (callMeant (counting 33) (recordsTo 33) 3 (job 40 2 ∷ []) (lent (7 ∷ [])) .answer ≡ CallAnswer.refused outOfLimits)
-    × (callMeant (counting 33) (recordsTo 33) 1 [] (replicate 511 0) .answer ≡ CallAnswer.refused tooShort)
-    × (callMeant (counting 0) [] 1 (callJobs 8 (jobRecordsTo 8)) (lent []) .answer ≡ CallAnswer.refused callNotFeasible)
-    × (callMeant (counting 0) [] 1 (callJobs 9 (jobRecordsTo 8)) (lent []) .answer ≡ CallAnswer.refused outOfLimits)
+    × (callMeant (counting 33) (recordsTo 33) (job 40 2 ∷ []) (stateOf (lent (7 ∷ [])) 3) .answer ≡ CallAnswer.refused outOfLimits)
+    × (callMeant (counting 33) (recordsTo 33) [] (stateOf (replicate 511 0) 1) .answer ≡ CallAnswer.refused tooShort)
+    × (callMeant (counting 0) [] (callJobs 8 (jobRecordsTo 8)) (stateOf (lent []) 1) .answer ≡ CallAnswer.refused callNotFeasible)
+    × (callMeant (counting 0) [] (callJobs 9 (jobRecordsTo 8)) (stateOf (lent []) 1) .answer ≡ CallAnswer.refused outOfLimits)
 unfolding planMeant callMeant plans calls recordsTo jobRecordsTo callJobs
 records-answered = (refl, refl, refl, refl, refl, refl, refl)
 
@@ -382,10 +383,10 @@ pub plan-list : (head : record-of-head.Head) (ps : List record-of-preset.Preset)
     → (PlanEntered 31 head ps t u r → (r ≡ planTooShort) × (u ≡ t)) × (PlanEntered 32 head ps t u r → PlanDone head ps t u r)
 plan-list head ps t u r = (λ e. e .short (omega arith), λ e. e .done (omega arith))
 
-pub call-list : (head : record-of-head.Head) (ps : List record-of-preset.Preset) (clock : ℕ) (jobs : List Job) (t u : List ℕ) (r : reply.CallAnswer)
-    → (CallEntered 31 head ps clock jobs t u r → (r ≡ call-answer.Refused TooShort) × (u ≡ t))
-    × (CallEntered 32 head ps clock jobs t u r → CallDone head ps clock jobs t u r)
-call-list head ps clock jobs t u r = (λ e. e .short (omega arith), λ e. e .done (omega arith))
+pub call-list : (head : record-of-head.Head) (ps : List record-of-preset.Preset) (jobs : List Job) (st : State) (u : List ℕ) (r : reply.CallAnswer)
+    → (CallEntered 31 head ps jobs st u r → (r ≡ call-answer.Refused TooShort) × (u ≡ st .table))
+    × (CallEntered 32 head ps jobs st u r → CallDone head ps jobs st u r)
+call-list head ps jobs st u r = (λ e. e .short (omega arith), λ e. e .done (omega arith))
 
 -- ---- "The order of loss: worst rank first; for one preset the latest slot first."
 
@@ -412,6 +413,6 @@ lossCases =
     ∷ []
 
 -- A one-slot call takes the cell that document 01 says.
-pub losses : map (λ c. callOf (c .head) 1 (job 5 1 ∷ []) (lent (c .before)) .table) lossCases ≡ map (λ c. lent (c .after)) lossCases
+pub losses : map (λ c. callOf (c .head) (job 5 1 ∷ []) (stateOf (lent (c .before)) 1) .after .table) lossCases ≡ map (λ c. lent (c .after)) lossCases
 unfolding calls
 losses = refl

@@ -1,6 +1,6 @@
 -- A head record that some text yields, and the places of the cells of its frame.
 --
--- In order: places and rows within the limits (`place-lt`, `frame-le`, `row-le`, `next-row`); what a valid record says (`count-high`, `record-valid`), its presets
+-- In order: places and rows within the limits (`place-lt`, `frame-le`, `next-row`); what a valid record says (`count-high`, `record-valid`), its presets
 -- (`presets-count`, `preset-at`, `preset-of`) and their ranks (`ranks-are`).
 -- Assumes nothing.
 use Prim.Native.Nat.{ℕ, suc, _+_, _*_, _≤_, _<_}
@@ -34,9 +34,6 @@ place-lt s b m n ls lm lb ln = omega (arith, place-below 64 m s b ls lb, mul-le-
 
 pub frame-le : (s m : ℕ) → s ≤ 64 → m ≤ 8 → s * m ≤ 512
 frame-le s m ls lm = mul-le-mul {n₂ = 64} {m₂ = 8} ls lm
-
-pub row-le : (s m : ℕ) → s < 64 → m ≤ 8 → s * m + m ≤ 512
-row-le s m ls lm = omega (arith, suc-mul s m, mul-le-mul {n₁ = suc s} {n₂ = 64} {m₂ = 8} ls lm)
 
 pub next-row : (s m : ℕ) → s * m + m ≡ (s + 1) * m
 next-row s m = sym (ap (λ (k : ℕ). k * m) (add-one s) ∙ suc-mul s m)

@@ -1,10 +1,11 @@
 -- The laws of layer 2. What the layer above cites: the theorems; frames that compute.
 pub mod Theorems
 pub mod Examples
--- The meaning, in document 01's order: cells and the well-formed table; what is written; the placing rule and the plan; a call's jobs and the causes; the eviction order, the least
+-- The meaning, in document 01's order: cells and the well-formed table; the well-formed frame; what is written; the placing rule and the plan; a call's jobs and the causes; the eviction order, the least
 -- eviction, the table that a call leaves and its numbers; a call by numbers alone; the claims.
 mod CountedCells
 mod WellFormed
+mod WellFormedFrame
 mod WrittenTable
 mod Placing
 mod PlanTheorem

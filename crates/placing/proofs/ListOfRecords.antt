@@ -21,6 +21,7 @@ use Rattle.station.specs.Types.{presetIn, headIn, noRecord}
 use Rattle.station.specs.declared.types.Preset.{Preset}
 use Rattle.station.specs.declared.types.Head.{Head}
 use Rattle.station.specs.Records.{loaded}
+use Rattle.placing.specs.State.{State}
 use Rattle.placing.specs.Outcomes.{PlanAnswer, PlanOutcome, planOf, CallAnswer, CallOutcome, callOf}
 use Rattle.placing.specs.method.Grants.{filled}
 use Rattle.placing.specs.declared.plan.Planned as result
@@ -42,7 +43,7 @@ module _ {O : Type 0} (f : spec.Head → O) (g : Refusal → O) where
   same-outcome true false h k e = refl
   same-outcome false false h k e = refl
 
-module _ (head : Head) (ps qs : List Preset) (agree : take 32 ps ≡ take 32 qs) (t : List ℕ) where
+module _ (head : Head) (ps qs : List Preset) (agree : take 32 ps ≡ take 32 qs) where
   -- where the head record counts no more than 32 presets, they are among the first 32 records
   same-head : leb (head .count) 32 ≡ true → headIn head ps ≡ headIn head qs
   same-head e =
@@ -50,14 +51,14 @@ module _ (head : Head) (ps qs : List Preset) (agree : take 32 ps ≡ take 32 qs)
       ap (λ (l : List Preset). record { slots = head .slots; bridges = head .bridges; busy = head .busy; presets = map presetIn l })
       (sym (take-take (head .count) 32 ps few) ∙ ap (take (head .count)) agree ∙ take-take (head .count) 32 qs few)
 
-  same-plan : planMeant head ps t ≡ planMeant head qs t
+  same-plan : (t : List ℕ) → planMeant head ps t ≡ planMeant head qs t
   unfolding planMeant
-  same-plan = same-outcome (λ h. planOf h t) (λ r. record { answer = PlanAnswer.refused r; table = t }) (ltb (length t) 512) (leb (head .count) 32) (headIn head ps) (headIn head qs) same-head
+  same-plan t = same-outcome (λ h. planOf h t) (λ r. record { answer = PlanAnswer.refused r; table = t }) (ltb (length t) 512) (leb (head .count) 32) (headIn head ps) (headIn head qs) same-head
 
-  same-call : (clock : ℕ) (jobs : List Job) → callMeant head ps clock jobs t ≡ callMeant head qs clock jobs t
+  same-call : (jobs : List Job) (st : State) → callMeant head ps jobs st ≡ callMeant head qs jobs st
   unfolding callMeant
-  same-call clock jobs =
-      same-outcome (λ h. callOf h clock jobs t) (λ r. record { answer = CallAnswer.refused r; table = t }) (ltb (length t) 512) (leb (head .count) 32) (headIn head ps) (headIn head qs) same-head
+  same-call jobs st =
+      same-outcome (λ h. callOf h jobs st) (λ r. record { answer = CallAnswer.refused r; after = st }) (ltb (length (st .table)) 512) (leb (head .count) 32) (headIn head ps) (headIn head qs) same-head
 
 -- ---- the bank that is loaded from a list
 
@@ -84,15 +85,15 @@ module _ {n : ℕ} (head : Head) (ps : List Preset) {bank : List Preset} (counts
             };
       }
 
-  pub call-entered : (clock : ℕ) (jobs : List Job) {t u : List ℕ} {r : reply.CallAnswer} → CallEntered n head bank clock jobs t u r → CallEntered (length ps) head ps clock jobs t u r
-  call-entered clock jobs {t} e =
+  pub call-entered : (jobs : List Job) (st : State) {u : List ℕ} {r : reply.CallAnswer} → CallEntered n head bank jobs st u r → CallEntered (length ps) head ps jobs st u r
+  call-entered jobs st e =
       record {
         short = λ l. e .short (omega (arith, counts, l));
         done = λ l.
             let d = e .done (omega (arith, counts, l)) in
-            let o = same-call head bank ps (bank-same l) t clock jobs in
+            let o = same-call head bank ps (bank-same l) jobs st in
             record {
               answer = d .answer ∙ ap (λ (p : CallOutcome). p .answer) o;
-              table = d .table ∙ ap (λ (p : CallOutcome). p .table) o;
+              table = d .table ∙ ap (λ (p : CallOutcome). p .after .table) o;
             };
       }

@@ -4,6 +4,7 @@
 -- the claims about plan and call
 pub use Rattle.placing.proofs.ClaimsHold.{plan-granted, plan-claim, plan-only-five, nine-counts-all, call-accepted, call-claim}
 -- the causes of a running frame and of a call
+pub use Rattle.placing.proofs.WellFormedFrame.{clock-to, clock-is, clock-late}
 pub use Rattle.placing.proofs.Causes.{met, of-running, jobs-inside}
 pub use Rattle.placing.proofs.check.FrameCauses.{causes-none, eleven, same-frame, frame-known, frame-running, running-frame}
 pub use Rattle.placing.proofs.counts.causes.CallCauses.{call-jobs}

@@ -1,4 +1,4 @@
--- What `call_by_value` is held to: the outcome of a call for a head record, preset records, a clock, job records and a table. Document 01, "Causes".
+-- What `call_by_value` is held to: the outcome of a call for a head record, preset records, job records and the state of a running frame. Document 01, "Causes".
 -- Assumes nothing.
 use Prim.Native.Nat.{ℕ}
 use mathlib.Core.Path.{_≡_}
@@ -14,8 +14,9 @@ use Rattle.station.specs.Types.{headIn, refusalIn}
 use Rattle.placing.specs.declared.call.CallAnswer as reply
 use Rattle.placing.specs.declared.call.CallAnswer.the-variants.{Taken, Refused}
 use Rattle.placing.specs.Table.{cell}
-use Rattle.placing.specs.Call.{evictedSet, callFits, called}
-use Rattle.placing.specs.Outcomes.{written, CallAnswer, taken, refused, CallOutcome, callOf}
+use Rattle.placing.specs.State.{State}
+use Rattle.placing.specs.Call.{evictedSet, callFits}
+use Rattle.placing.specs.Outcomes.{CallAnswer, taken, refused, CallOutcome, calledState, callOf}
 use Rattle.placing.specs.Causes.{causesOf}
 
 -- what an answer of the code stands for
@@ -24,26 +25,26 @@ takenIn (Taken n) = taken n
 takenIn (Refused r) = refused (refusalIn r)
 
 -- The outcome of a call for a head record and its preset records: where no cause of the record alone holds, that of the head they stand for.
-unfoldable pub callMeant : record-of-head.Head → List record-of-preset.Preset → ℕ → List Job → List ℕ → CallOutcome
-callMeant head ps clock jobs t =
-    elim (firstOf (causesOf head ps t)) [
-      | none ↦ callOf (headIn head ps) clock jobs t
-      | some r ↦ record { answer = refused r; table = t }
+unfoldable pub callMeant : record-of-head.Head → List record-of-preset.Preset → List Job → State → CallOutcome
+callMeant head ps jobs st =
+    elim (firstOf (causesOf head ps (st .table))) [
+      | none ↦ callOf (headIn head ps) jobs st
+      | some r ↦ record { answer = refused r; after = st }
     ]
 
 -- The outcome of a call that meets none of the causes before 7: "a call that does not fit", or the evicted cells and the table that `callOf` gives.
-unfoldable pub carriedOut : Head → ℕ → List Job → List ℕ → CallOutcome
-carriedOut h clock jobs t =
-    cond (callFits h clock jobs (cell h t))
-    (record { answer = taken (ones (evictedSet h clock jobs (cell h t))); table = written h (called h clock jobs (cell h t)) t })
-    (record { answer = refused callNotFeasible; table = t })
+unfoldable pub carriedOut : Head → List Job → State → CallOutcome
+carriedOut h jobs st =
+    cond (callFits h (st .clock) jobs (cell h (st .table)))
+    (record { answer = taken (ones (evictedSet h (st .clock) jobs (cell h (st .table)))); after = calledState h jobs st })
+    (record { answer = refused callNotFeasible; after = st })
 
--- what the carrying out answers and leaves
-pub record CarriedOut (h : Head) (clock : ℕ) (jobs : List Job) (t u : List ℕ) (r : reply.CallAnswer) : Type 0 where
-  pub answer : takenIn r ≡ carriedOut h clock jobs t .answer
-  pub table : u ≡ carriedOut h clock jobs t .table
+-- what the carrying out answers, and the table u that it leaves
+pub record CarriedOut (h : Head) (jobs : List Job) (st : State) (u : List ℕ) (r : reply.CallAnswer) : Type 0 where
+  pub answer : takenIn r ≡ carriedOut h jobs st .answer
+  pub table : u ≡ carriedOut h jobs st .after .table
 
 -- What `call_by_value` answers and leaves: the answer and the table are those of the outcome.
-pub record CallDone (head : record-of-head.Head) (ps : List record-of-preset.Preset) (clock : ℕ) (jobs : List Job) (t u : List ℕ) (r : reply.CallAnswer) : Type 0 where
-  pub answer : takenIn r ≡ callMeant head ps clock jobs t .answer
-  pub table : u ≡ callMeant head ps clock jobs t .table
+pub record CallDone (head : record-of-head.Head) (ps : List record-of-preset.Preset) (jobs : List Job) (st : State) (u : List ℕ) (r : reply.CallAnswer) : Type 0 where
+  pub answer : takenIn r ≡ callMeant head ps jobs st .answer
+  pub table : u ≡ callMeant head ps jobs st .after .table

@@ -15,9 +15,9 @@ use Rattle.station.specs.declared.types.Head as record-of-head
 use Rattle.station.specs.Types.{headIn, validRecord, refusalIn}
 use Rattle.placing.specs.declared.check.Cause as cause
 use Rattle.placing.specs.declared.check.Cause.the-variants.{Met, Passed}
+use Rattle.placing.specs.State.{State, wellFormedFrame}
 use Rattle.placing.specs.Valid.{noJob}
 use Rattle.placing.specs.Types.{jobsIn}
-use Rattle.placing.specs.Outcomes.{frameAtFault}
 
 -- what trying some causes gave
 abbrev pub causeIn : cause.Cause → Option Refusal
@@ -30,8 +30,8 @@ abbrev pub causesOf : record-of-head.Head → List types.Preset → List ℕ →
 causesOf head ps t = try tooShort (ltb (length t) 512) ∷ try outOfLimits (not (validRecord head ps)) ∷ []
 
 -- The causes tried of a running frame: those of the table and the head record alone, then "a table that is not sound, or a clock outside 1 to S + 1".
-abbrev pub frameCausesOf : record-of-head.Head → List types.Preset → ℕ → List ℕ → List (Option Refusal)
-frameCausesOf head ps clock t = causesOf head ps t ++ (try notWellFormed (frameAtFault (headIn head ps) clock t) ∷ [])
+abbrev pub frameCausesOf : record-of-head.Head → List types.Preset → State → List (Option Refusal)
+frameCausesOf head ps st = causesOf head ps (st .table) ++ (try notWellFormed (not (wellFormedFrame (headIn head ps) st)) ∷ [])
 
 -- The jobs of a call that says it has n of them: the first n of eight records; past the eighth no job, so that "a ninth job in a call" is met.
 unfoldable pub callJobs : ℕ → List record-of-job.Job → List Job

@@ -14,6 +14,7 @@ use Rattle.placing.specs.declared.plan.PlanAnswer.the-variants as plan-a
 use Rattle.placing.specs.PlanDone.{PlanDone}
 use Rattle.placing.specs.declared.call.CallAnswer.{CallAnswer}
 use Rattle.placing.specs.declared.call.CallAnswer.the-variants as call-answer
+use Rattle.placing.specs.State.{State}
 use Rattle.placing.specs.CallDone.{CallDone}
 
 -- 8, and no grants
@@ -26,6 +27,6 @@ pub record PlanEntered (n : ℕ) (head : Head) (ps : List Preset) (t u : List �
   pub done : 32 ≤ n → PlanDone head ps t u r
 
 -- What a call over n preset records answers and leaves. Fewer than 32: 8, and "every lent cell" is left as it was. Else what a call over these records does.
-pub record CallEntered (n : ℕ) (head : Head) (ps : List Preset) (clock : ℕ) (jobs : List Job) (t u : List ℕ) (r : CallAnswer) : Type 0 where
-  pub short : n < 32 → (r ≡ call-answer.Refused TooShort) × (u ≡ t)
-  pub done : 32 ≤ n → CallDone head ps clock jobs t u r
+pub record CallEntered (n : ℕ) (head : Head) (ps : List Preset) (jobs : List Job) (st : State) (u : List ℕ) (r : CallAnswer) : Type 0 where
+  pub short : n < 32 → (r ≡ call-answer.Refused TooShort) × (u ≡ st .table)
+  pub done : 32 ≤ n → CallDone head ps jobs st u r

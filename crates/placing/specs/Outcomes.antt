@@ -1,6 +1,6 @@
 -- The two entries of this layer, plan and call: the answer and every lent cell afterwards, for all inputs. Document 01, "Causes".
 -- Assumes nothing.
-use Prim.Native.Nat.{ℕ, suc, _+_, _*_, _/_, _%_}
+use Prim.Native.Nat.{ℕ, _+_, _*_, _/_, _%_}
 use mathlib.Core.Bool.{Bool, not, _&&_}
 use mathlib.Core.Option.{Option, none, some}
 use mathlib.Core.List.{List, [], _∷_, _++_}
@@ -12,7 +12,8 @@ use Rattle.laws.specs.Eviction.{ones}
 use Rattle.station.specs.Head.{Head, Job, valid, within}
 use Rattle.station.specs.Jobs.{jobInLimits}
 use Rattle.station.specs.Refusal.{Refusal, outOfLimits, numberUsed, mandatoryNotFeasible, callNotFeasible, tooShort, tooMany, notWellFormed, try, firstOf}
-use Rattle.placing.specs.Table.{Cells, cell, isUsed, jobCount, wellFormed}
+use Rattle.placing.specs.Table.{Cells, cell, isUsed, jobCount}
+use Rattle.placing.specs.State.{State, withTable, wellFormedFrame}
 use Rattle.placing.specs.Valid.{jobAt}
 use Rattle.placing.specs.Plan.{planFits, mandatories, grants, planned}
 use Rattle.placing.specs.Call.{evictedSet, callFits, called}
@@ -49,16 +50,12 @@ planOf h t =
 
 -- ---- what every entry on a running frame tries first
 
--- "a table that is not sound, or a clock outside 1 to S + 1"
-abbrev pub frameAtFault : Head → ℕ → List ℕ → Bool
-frameAtFault h clock t = not (wellFormed h (cell h t) && within 1 (suc (h .slots)) clock)
-
--- 8, then 2 for the head record, "tried by 2 before a table is held against it by 11"
-abbrev pub frameCauses : Head → ℕ → List ℕ → List (Option Refusal)
-frameCauses h clock t =
-    try tooShort (ltb (length t) 512)
+-- 8, then 2 for the head record, "tried by 2 before a table is held against it by 11", then 11, "a table that is not sound, or a clock outside 1 to S + 1"
+abbrev pub frameCauses : Head → State → List (Option Refusal)
+frameCauses h st =
+    try tooShort (ltb (length (st .table)) 512)
     ∷ try outOfLimits (not (valid h))
-    ∷ try notWellFormed (frameAtFault h clock t)
+    ∷ try notWellFormed (not (wellFormedFrame h st))
     ∷ []
 
 -- ---- call
@@ -89,18 +86,22 @@ jobCauses h jobs t =
 abbrev pub callCauses : Head → ℕ → List Job → Cells → List (Option Refusal)
 callCauses h clock jobs t = jobCauses h jobs t ++ (try callNotFeasible (not (callFits h clock jobs t)) ∷ [])
 
--- the cells evicted, or the refusal; and the lent table afterwards
+-- the cells evicted, or the refusal; and the state afterwards
 pub data CallAnswer : Type 0 where
   taken : ℕ → CallAnswer
   refused : Refusal → CallAnswer
 
 pub record CallOutcome : Type 0 where
   pub answer : CallAnswer
-  pub table : List ℕ
+  pub after : State
 
-unfoldable pub callOf : Head → ℕ → List Job → List ℕ → CallOutcome
-callOf h clock jobs t =
-    elim (firstOf (frameCauses h clock t ++ callCauses h clock jobs (cell h t))) [
-      | none ↦ record { answer = taken (ones (evictedSet h clock jobs (cell h t))); table = written h (called h clock jobs (cell h t)) t }
-      | some r ↦ record { answer = refused r; table = t }
+-- what a call leaves that is carried out: the table with its jobs, and the clock as it was
+abbrev pub calledState : Head → List Job → State → State
+calledState h jobs st = withTable (written h (called h (st .clock) jobs (cell h (st .table))) (st .table)) st
+
+unfoldable pub callOf : Head → List Job → State → CallOutcome
+callOf h jobs st =
+    elim (firstOf (frameCauses h st ++ callCauses h (st .clock) jobs (cell h (st .table)))) [
+      | none ↦ record { answer = taken (ones (evictedSet h (st .clock) jobs (cell h (st .table)))); after = calledState h jobs st }
+      | some r ↦ record { answer = refused r; after = st }
     ]

@@ -1,13 +1,14 @@
--- Valid placements: the meaning of "fits". Document 01, "What is granted, and where it goes" and "What demand 3 speaks of".
+-- Valid placements: the meaning of "fits", with the clock and the slots that a call may use. Document 01, "The station text", "What is granted, and where it goes" and
+-- "What demand 3 speaks of".
 -- Assumes nothing.
-use Prim.Native.Nat.{ℕ, suc, _<_}
+use Prim.Native.Nat.{ℕ, suc, _-_, _<_}
 use mathlib.Core.Path.{_≡_}
 use mathlib.Core.Bool.{Bool, true, false, not, _&&_, _||_}
 use mathlib.Core.List.{List}
 use lib.ListN.{length, getD}
 use lib.Dec.{leb, eqb}
 use Rattle.laws.specs.Sums.{sum, only}
-use Rattle.station.specs.Head.{Head, Job, presetAt}
+use Rattle.station.specs.Head.{Head, Job, presetAt, within}
 use Rattle.placing.specs.Table.{Cells, Each, WellFormed, cells, holding, isCall, isOptional, isEmpty, emptyCell, callCell, optionalCell, numberAt, presetCount, numberIn}
 
 -- "Valid for a plan: a sound table without call cells."
@@ -15,9 +16,19 @@ pub record ValidPlan (h : Head) (t : Cells) : Type 0 where
   pub wellFormed : WellFormed h t
   pub no-calls : Each h (λ s b. isCall (t s b) ≡ false)
 
--- "A call uses slots from the clock on." Slot s is the paper's slot s + 1.
+-- "Clock t means that slot t is about to begin; it starts at 1 and ends at S + 1": the first clock, and the clocks of a frame of so many slots.
+abbrev pub firstClock : ℕ
+firstClock = 1
+
+abbrev pub clockIn : ℕ → ℕ → Bool
+clockIn slots c = within firstClock (suc slots) c
+
+-- "A call uses slots from the clock on." Slot s is the paper's slot s + 1: the first one that a call may use, and all that it may.
+abbrev pub firstSlot : ℕ → ℕ
+firstSlot clock = clock - 1
+
 abbrev pub usable : ℕ → ℕ → Bool
-usable clock s = leb clock (suc s)
+usable clock s = leb (firstSlot clock) s
 
 -- what stands past the last job: no job at all
 abbrev pub noJob : Job

@@ -26,6 +26,7 @@ ghost use Rattle.placing.specs.Valid.{jobAt};
 ghost use Rattle.placing.specs.Types.{jobsIn};
 ghost use Rattle.placing.specs.Outcomes.{jobsOutside};
 ghost use Rattle.placing.specs.Claims.{Running, CallClaim};
+ghost use Rattle.placing.specs.State.{stateOf};
 ghost use Rattle.placing.specs.Causes.{callJobs};
 ghost use Rattle.placing.specs.method.Counts.{CountsOf};
 ghost use Rattle.placing.specs.CallDone.{CarriedOut, CallDone};
@@ -71,7 +72,7 @@ fn carry_out(
     n: usize,
 ) -> CallAnswer
     ensures { λ r. ⌜ (validRecord head presets ≡ true → 512 ≤ length (now (table .entry)) → n ≤ 8 → jobsOutside (jobsIn n jobs) ≡ false
-        → CarriedOut (headIn head presets) clock (jobsIn n jobs) (now (table .entry)) (now (table .exit)) r) ⌝ }
+        → CarriedOut (headIn head presets) (jobsIn n jobs) (stateOf (now (table .entry)) clock) (now (table .exit)) r) ⌝ }
 {
     let slots = head.slots;
     let bridges = head.bridges;
@@ -114,9 +115,9 @@ pub fn call_by_counts(
     held: &mut usize,
     capacities: &mut [usize; 9],
 ) -> CallAnswer
-    ensures { λ r. ⌜ (validRecord head presets ≡ true → Running (headIn head presets) clock (now (table .entry))
+    ensures { λ r. ⌜ (validRecord head presets ≡ true → Running (headIn head presets) (stateOf (now (table .entry)) clock)
         → CountsOf (headIn head presets) clock (cell (headIn head presets) (now (table .entry))) (now (used .entry)) (now (held .entry)) (now (capacities .entry))
-        → CallDone head presets clock (callJobs n jobs) (now (table .entry)) (now (table .exit)) r
+        → CallDone head presets (callJobs n jobs) (stateOf (now (table .entry)) clock) (now (table .exit)) r
         × CountsOf (headIn head presets) clock (cell (headIn head presets) (now (table .exit))) (now (used .exit)) (now (held .exit)) (now (capacities .exit))) ⌝ }
 {
     if let Cause::Met(r) = cause_by_counts(used, *held, capacities, jobs, n) {
@@ -139,8 +140,8 @@ pub fn call_by_value(
     jobs: [Job; 8],
     n: usize,
 ) -> CallAnswer
-    ensures done { λ r. ⌜ CallDone head presets clock (callJobs n jobs) (now (table .entry)) (now (table .exit)) r ⌝ }
-    ensures claim { λ _. ⌜ CallClaim (headIn head presets) clock (callJobs n jobs) (now (table .entry)) ⌝ }
+    ensures done { λ r. ⌜ CallDone head presets (callJobs n jobs) (stateOf (now (table .entry)) clock) (now (table .exit)) r ⌝ }
+    ensures claim { λ _. ⌜ CallClaim (headIn head presets) (callJobs n jobs) (stateOf (now (table .entry)) clock) ⌝ }
 {
     if let Cause::Met(r) = frame_cause(head, presets, table, clock) {
         return CallAnswer::Refused(r);
@@ -172,7 +173,7 @@ fn call_counted(
     jobs: [Job; 8],
     n: usize,
 ) -> CallAnswer
-    ensures { λ r. ⌜ CallEntered records head bank clock (callJobs n jobs) (now (table .entry)) (now (table .exit)) r ⌝ }
+    ensures { λ r. ⌜ CallEntered records head bank (callJobs n jobs) (stateOf (now (table .entry)) clock) (now (table .exit)) r ⌝ }
 {
     if records < 32 {
         return CallAnswer::Refused(Refusal::TooShort);
@@ -190,8 +191,8 @@ pub fn call(
     jobs: [Job; 8],
     n: usize,
 ) -> CallAnswer
-    ensures done { λ r. ⌜ CallEntered (length (now (presets .entry))) head (now (presets .entry)) clock (callJobs n jobs) (now (table .entry)) (now (table .exit)) r ⌝ }
-    ensures claim { λ _. ⌜ CallClaim (headIn head (now (presets .entry))) clock (callJobs n jobs) (now (table .entry)) ⌝ }
+    ensures done { λ r. ⌜ CallEntered (length (now (presets .entry))) head (now (presets .entry)) (callJobs n jobs) (stateOf (now (table .entry)) clock) (now (table .exit)) r ⌝ }
+    ensures claim { λ _. ⌜ CallClaim (headIn head (now (presets .entry))) (callJobs n jobs) (stateOf (now (table .entry)) clock) ⌝ }
 {
     let records = record_count(presets);
     let bank = load(presets);

@@ -6,12 +6,21 @@ use station::check::valid_record;
 use station::types::Head;
 use station::types::Preset;
 use station::types::Refusal;
+ghost use Prim.Native.Nat.{_≤_};
 ghost use mathlib.Core.Path.{_≡_};
+ghost use mathlib.Core.Bool.{true};
+ghost use lib.ListN.{length};
 ghost use Rattle.station.specs.Refusal.{firstOf};
+ghost use Rattle.station.specs.Types.{headIn, validRecord};
+ghost use Rattle.placing.specs.Valid.{clockIn};
+ghost use Rattle.placing.specs.State.{stateOf, wellFormedFrame};
 ghost use Rattle.placing.specs.Causes.{causeIn, frameCausesOf};
 
 // How many cells a lent table has at the least.
 const CELLS: usize = 512;
+
+// The first clock.
+pub const FIRST_CLOCK: usize = 1;
 
 // What trying some causes gives: the first one that is met, or none.
 pub enum Cause {
@@ -19,25 +28,43 @@ pub enum Cause {
     Passed,
 }
 
+// Whether a frame of so many slots has the clock: 1 to S + 1.
+pub fn clock_in(slots: usize, clock: usize) -> bool
+    ensures { λ r. ⌜ r ≡ clockIn slots clock ⌝ }
+{
+    if clock < FIRST_CLOCK {
+        return false;
+    }
+    if slots < clock - 1 {
+        return false;
+    }
+    true
+}
+
+// Whether the frame is one that 11 lets pass: a well-formed table, and a clock of the frame.
+fn well_formed_frame(head: Head, presets: [Preset; 32], table: &[u16], clock: usize) -> bool
+    requires { ⌜ (validRecord head presets ≡ true) × (512 ≤ length (now table)) ⌝ }
+    ensures { λ r. ⌜ r ≡ wellFormedFrame (headIn head presets) (stateOf (now (table .entry)) clock) ⌝ }
+{
+    let slots = head.slots;
+    if !well_formed(head, presets, table) {
+        return false;
+    }
+    clock_in(slots, clock)
+}
+
 // The causes of a running frame: 8 for a table below 512 cells, 2 for a head record that no text yields, 11 for a table that is not well-formed or a clock
 // outside 1 to S + 1.
 pub fn frame_cause(head: Head, presets: [Preset; 32], table: &[u16], clock: usize) -> Cause
-    ensures { λ r. ⌜ causeIn r ≡ firstOf (frameCausesOf head presets clock (now (table .entry))) ⌝ }
+    ensures { λ r. ⌜ causeIn r ≡ firstOf (frameCausesOf head presets (stateOf (now (table .entry)) clock)) ⌝ }
 {
-    let slots = head.slots;
     if table.len() < CELLS {
         return Cause::Met(Refusal::TooShort);
     }
     if !valid_record(head, presets) {
         return Cause::Met(Refusal::OutOfLimits);
     }
-    if !well_formed(head, presets, table) {
-        return Cause::Met(Refusal::NotWellFormed);
-    }
-    if clock < 1 {
-        return Cause::Met(Refusal::NotWellFormed);
-    }
-    if slots + 1 < clock {
+    if !well_formed_frame(head, presets, table, clock) {
         return Cause::Met(Refusal::NotWellFormed);
     }
     Cause::Passed

@@ -115,8 +115,8 @@ fn mark_presets(head: Head, presets: [Preset; 32], used: &mut [u8; 256])
     }
 }
 
-// Marks the numbers of the first n jobs. More than eight are no call's, and mark nothing.
-pub fn mark_jobs(used: &mut [u8; 256], jobs: [Job; 8], n: usize)
+// Marks the numbers of the first n jobs, eight at the most.
+pub(crate) fn mark_jobs(used: &mut [u8; 256], jobs: [Job; 8], n: usize)
     ensures { λ _. ⌜ (length (now (used .entry)) ≡ 256 → n ≤ 8 → MarkedBeside (λ i. jobNumber jobs i % 256) (now (used .entry)) n (now (used .exit))) ⌝ }
 {
     if 8 < n {
@@ -131,7 +131,8 @@ pub fn mark_jobs(used: &mut [u8; 256], jobs: [Job; 8], n: usize)
     }
 }
 
-// Counts a table and a clock: the numbers that are used, the job numbers, and the capacities of the cells that a call may use. Beyond the limits all is 0.
+// Counts a table and a clock: the numbers that are used, the job numbers, and the capacities of the cells that a call may use. It promises something of
+// a head record that some text yields and a table that is not too short, and is safe for every other.
 pub fn counts_of(head: Head, presets: [Preset; 32], table: &[u16], clock: usize) -> Counts
     ensures { λ r. ⌜ (validRecord head presets ≡ true → 512 ≤ length (now (table .entry)) → CountsOf (headIn head presets) clock (cell (headIn head presets) (now (table .entry))) (r .used) (r .jobs) (r .capacities)) ⌝ }
 {

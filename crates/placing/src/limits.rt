@@ -3,7 +3,7 @@ ghost use mathlib.Core.Path.{_≡_};
 ghost use Rattle.placing.specs.method.Limits.{inLimits};
 
 // Whether a frame of `slots` slots and `bridges` bridges with `n` presets or jobs, and a table of `cells` cells, are within the limits.
-pub fn in_limits(slots: usize, bridges: usize, n: usize, cells: usize) -> bool
+pub(crate) fn in_limits(slots: usize, bridges: usize, n: usize, cells: usize) -> bool
     ensures { λ r. ⌜ r ≡ inLimits slots bridges n cells ⌝ }
 {
     if 64 < slots {

@@ -16,7 +16,7 @@ ghost use Rattle.placing.specs.method.Rule.{CleanFrom, placedWithin};
 // `first[i]` slots and `late[i]` in the others. A free bridge that nobody takes becomes 0; one that is not free keeps its cell, and so does all past the frame.
 // From slot `clean` on the free bridges are to be empty already: none is emptied there, and once every job has its cells, nothing is looked at there.
 // Of a mask the first `bridges` bridges count. Where the frame, k or the table is beyond the limits, nothing is written.
-pub fn place(
+pub(crate) fn place(
     table: &mut [u16],
     slots: usize,
     bridges: usize,

@@ -28,14 +28,14 @@ ghost use Rattle.placing.specs.Call.{lengths};
 ghost use Rattle.placing.specs.method.Search.{Starts, Evicts, searchable, unfit, Searched};
 
 // The answer: whether the call fits, how many cells are evicted, and for each slot the mask of the bridges that its jobs may use.
-pub struct Evicted {
+pub(crate) struct Evicted {
     pub fits: bool,
     pub count: usize,
     pub free: [u8; 64],
 }
 
 // What the jobs demand: how many they are, the sums of the r longest for r from 0 to as many, and the number of slots in which they are to have it.
-pub struct Demand {
+pub(crate) struct Demand {
     pub slots: usize,
     pub jobs: usize,
     pub sums: [usize; 9],
@@ -43,7 +43,7 @@ pub struct Demand {
 
 // What the search keeps: for each slot the mask of the bridges that the jobs may use and the number of them, the capacities for 0 to 8, the shortage, the least
 // number of jobs that are short by as much, and how many cells are evicted so far.
-pub struct Search {
+pub(crate) struct Search {
     pub free: [u8; 64],
     pub counts: [usize; 64],
     pub capacities: [usize; 9],
@@ -122,7 +122,7 @@ fn unfit() -> Evicted
 
 // The eviction search: for jobs with the first k needs, whether the call fits, how many cells are evicted, and which bridges its jobs may use. Where the
 // frame, the table or k is beyond the limits, nothing is read and the call does not fit.
-pub fn evict(
+pub(crate) fn evict(
     table: &[u16],
     head: Head,
     presets: [Preset; 32],

@@ -29,13 +29,21 @@ fn listing(text: &[u8], table: &mut [u16], out: &mut [u8]) -> usize
     }
 }
 
+// Reads standard input into a buffer, as far as that has room, and answers how many bytes it is. The buffer takes one byte more than a text may have: a longer text is then
+// seen to be too long, and none is cut to one that is not.
+fn read_text(buffer: &mut [u8]) -> usize
+    requires { ⌜ 32769 ≤ length (now buffer) ⌝ }
+    ensures { λ n. ⌜ n ≤ length (now (buffer .exit)) ⌝ }
+{
+    io::read_full(0, buffer)
+}
+
 fn main() {
-    // one byte more than a text may have, so that a longer one is seen to be too long
     let mut input = [0u8; 32769];
     let mut table = [0u16; 512];
     // no text has a longer listing
     let mut output = [0u8; 655360];
-    let n = io::read_full(0, &mut input);
+    let n = read_text(&mut input);
     let text = &input[0..n];
     let k = listing(text, &mut table, &mut output);
     let printed = &output[0..k];

@@ -15,17 +15,18 @@ use Rattle.station.specs.Refusal.{Refusal, tooShort, firstOf}
 use Rattle.station.specs.Types.{headIn}
 use Rattle.station.specs.declared.types.Preset as record-of-preset
 use Rattle.station.specs.declared.types.Head as record-of-head
+use Rattle.placing.specs.State.{State, stateOf}
 use Rattle.placing.specs.Claims.{Running}
 use Rattle.placing.specs.Causes.{causesOf}
-use Rattle.frame.specs.Event.{Event, refused, State, Outcome}
+use Rattle.frame.specs.Event.{Event, refused, Outcome}
 use Rattle.frame.specs.Types.{answerIn}
 use Rattle.frame.specs.declared.types.Outcome as result
 use Rattle.frame.specs.Demands.{EventIs, stopped, clockSet, placed}
 use Rattle.frame.proofs.Theorems.{event-is, demand-3, done-running}
-use Rattle.frame.specs.EventDone.{stateOf, eventMeant, EventDone}
+use Rattle.frame.specs.EventDone.{eventMeant, EventDone}
 use Rattle.planner.specs.Layout.{recordsIn, frameNumbers, headOfNumbers, clockOfNumbers, clockOver}
 use Rattle.planner.proofs.RoundTrip.{clock-head, clock-new, clock-same}
-use Rattle.planner.specs.Exports.{headOn, RunningOn, eventOn, answerNumber, answerCount, EventLeaves, EventPromise}
+use Rattle.planner.specs.Exports.{headOn, stateOn, RunningOn, eventOn, answerNumber, answerCount, EventLeaves, EventPromise}
 
 -- a refusal changes nothing
 is-keeps : {h : Head} {st : State} {e : Event} {o : Outcome} → EventIs h st e o → 0 < answerNumber (o .answer) → o .after ≡ st
@@ -43,7 +44,7 @@ refused-keeps head ps st e l = go (firstOf (causesOf head ps (st .table))) refl
 
 module _ (f p t l : List ℕ) where
   abbrev state : State
-  state = stateOf t (clockOfNumbers f)
+  state = stateOn f t
 
   on-short-frame : length f < frameNumbers → eventOn f p t l ≡ record { answer = refused tooShort; after = state }
   unfolding eventOn firstOf
@@ -73,14 +74,14 @@ module _ (f p t l : List ℕ) where
   pub event-short-presets : frameNumbers ≤ length f → length p < 128 → Done f t 0 8
   event-short-presets k s = event-stopped (on-short-presets k s)
 
-  module _ {f₁ t₁ : List ℕ} {x : result.Outcome} (k : frameNumbers ≤ length f) (s : 128 ≤ length p) (d : EventDone (headOfNumbers f) (recordsIn p) t (clockOfNumbers f) (Event.line l) t₁ x)
+  module _ {f₁ t₁ : List ℕ} {x : result.Outcome} (k : frameNumbers ≤ length f) (s : 128 ≤ length p) (d : EventDone (headOfNumbers f) (recordsIn p) state (Event.line l) t₁ x)
       (a : f₁ ≡ clockOver (x .clock) f) where
     -- the head of the frame is as it was, and its clock the new one
-    frame-again : Running (headOn f p) (x .clock) t₁ → RunningOn f₁ p t₁
+    frame-again : Running (headOn f p) (stateOf t₁ (x .clock)) → RunningOn f₁ p t₁
     frame-again run =
         let head : headOfNumbers f₁ ≡ headOfNumbers f = ap headOfNumbers a ∙ clock-head (x .clock) f in
         let clock : clockOfNumbers f₁ ≡ x .clock = ap clockOfNumbers a ∙ clock-new (x .clock) f k in
-        subst (λ (h : record-of-head.Head). Running (headIn h (recordsIn p)) (clockOfNumbers f₁) t₁) (sym head) (subst (λ (c : ℕ). Running (headOn f p) c t₁) (sym clock) run)
+        subst (λ (h : record-of-head.Head). Running (headIn h (recordsIn p)) (stateOn f₁ t₁)) (sym head) (subst (λ (c : ℕ). Running (headOn f p) (stateOf t₁ c)) (sym clock) run)
 
     same : {r : ℕ} → r ≡ answerNumber (answerIn (x .answer)) → 0 < r → (f₁ ≡ f) × (t₁ ≡ t)
     same e z =
@@ -98,11 +99,11 @@ module _ (f p t l : List ℕ) where
         frame = a ∙ ap (λ (c : ℕ). clockOver c f) (d .clock);
         table = d .table;
       }),
-      record { unchanged = same e₂; kept = λ run. frame-again (done-running (headOfNumbers f) (recordsIn p) (clockOfNumbers f) t (Event.line l) d run); claim = demand-3 (headOn f p) state (Event.line l ∷ []) },
+      record { unchanged = same e₂; kept = λ run. frame-again (done-running (headOfNumbers f) (recordsIn p) state (Event.line l) d run); claim = demand-3 (headOn f p) state (Event.line l ∷ []) },
     )
 
   -- the same of what was read of the frame and of the presets
   pub event-handed : (hd : record-of-head.Head) (ps : List record-of-preset.Preset) (c : ℕ) (x : result.Outcome) {f₁ t₁ : List ℕ} {n r : ℕ} → frameNumbers ≤ length f → 128 ≤ length p
-      → hd ≡ headOfNumbers f → ps ≡ recordsIn p → c ≡ clockOfNumbers f → EventDone hd ps t c (Event.line l) t₁ x
+      → hd ≡ headOfNumbers f → ps ≡ recordsIn p → c ≡ clockOfNumbers f → EventDone hd ps (stateOf t c) (Event.line l) t₁ x
       → f₁ ≡ clockOver (x .clock) f → n ≡ answerCount (answerIn (x .answer)) → r ≡ answerNumber (answerIn (x .answer)) → Done f₁ t₁ n r
   event-handed hd ps c x k s a b e d f₂ n r = event-run {x = x} k s (rw (a, b, e) at d) f₂ n r

@@ -28,6 +28,7 @@ use Rattle.placing.specs.method.Grants.{filled}
 use Rattle.placing.specs.declared.plan.Planned as result
 use Rattle.placing.specs.declared.plan.PlanAnswer.the-variants.{Granted, Refused}
 use Rattle.placing.specs.PlanDone.{planMeant, repliedIn, grantsIn, PlanDone}
+use Rattle.frame.specs.Text.{startOf}
 use Rattle.frame.proofs.Theorems.{planned-running}
 use Rattle.planner.specs.Layout.{recordsIn, frameNumbers, headOfNumbers}
 use Rattle.planner.specs.Exports.{headOn, planOn, planNumber, grantsAfter, PlanLeaves, PlanPromise}
@@ -42,7 +43,7 @@ of-keeps h t l = go (firstOf (planCauses h t)) refl
     go (some r) q = rw (q, planOf) refl
 
 -- and any other leaves that of a running frame with the first clock
-of-runs : (h : Head) (t : List ℕ) (a : PlanAnswer) → planOf h t .answer ≡ a → planNumber a ≡ 0 → Running h 1 (planOf h t .table)
+of-runs : (h : Head) (t : List ℕ) (a : PlanAnswer) → planOf h t .answer ≡ a → planNumber a ≡ 0 → Running h (startOf (planOf h t .table))
 of-runs h t (PlanAnswer.granted g) e z = planned-running h t g e
 of-runs h t (PlanAnswer.refused r) e z = absurd (number-some r z)
 
@@ -55,11 +56,11 @@ module _ (head : record-of-head.Head) (ps : List record-of-preset.Preset) (t : L
       go none q = rw (q, planMeant) (of-keeps (headIn head ps) t (rw (q, planMeant) at l))
       go (some r) q = rw (q, planMeant) refl
 
-  plan-runs : planNumber (planMeant head ps t .answer) ≡ 0 → Running (headIn head ps) 1 (planMeant head ps t .table)
+  plan-runs : planNumber (planMeant head ps t .answer) ≡ 0 → Running (headIn head ps) (startOf (planMeant head ps t .table))
   unfolding planMeant
   plan-runs z = go (firstOf (causesOf head ps t)) refl
     where
-      go : (c : Option Refusal) → firstOf (causesOf head ps t) ≡ c → Running (headIn head ps) 1 (planMeant head ps t .table)
+      go : (c : Option Refusal) → firstOf (causesOf head ps t) ≡ c → Running (headIn head ps) (startOf (planMeant head ps t .table))
       go none q = rw (q, planMeant) (of-runs (headIn head ps) t (planOf (headIn head ps) t .answer) refl (rw (q, planMeant) at z))
       go (some r) q = absurd (number-some r (rw (q, planMeant) at z))
 
@@ -110,7 +111,7 @@ module _ (f p t g : List ℕ) where
       record {
         unchanged = λ z. d .table ∙ plan-keeps (headOfNumbers f) (recordsIn p) t (omega (arith, z, e));
         claim = plan-claim (headOn f p) t;
-        running = λ z. subst (Running (headOn f p) 1) (sym (d .table)) (plan-runs (headOfNumbers f) (recordsIn p) t (sym e ∙ z));
+        running = λ z. subst (λ (u : List ℕ). Running (headOn f p) (startOf u)) (sym (d .table)) (plan-runs (headOfNumbers f) (recordsIn p) t (sym e ∙ z));
       },
     )
 

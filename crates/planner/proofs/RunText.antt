@@ -113,8 +113,8 @@ module _ (text f p t out : List ℕ) where
     ran-left (notRead n r) e z = absurd (number-some r z)
     ran-left (notPlanned h n r) e z = absurd (number-some r z)
     ran-left (ran h n g r) e z =
-        let after : Running h (r .after .clock) (r .after .table) =
-        subst (λ (y : Run). Running h (y .after .clock) (y .after .table)) (sym (text-claim text t out .events h n g r e)) (text-claim text t out .demand3 h n g r e .running) in
+        let after : Running h (r .after) =
+        subst (λ (y : Run). Running h (y .after)) (sym (text-claim text t out .events h n g r e)) (text-claim text t out .demand3 h n g r e .running) in
         let end : endIn (x .ended) ≡ endOf (ran h n g r) out = d .ended ∙ ap (λ (w : Whole). endOf w out) e in
         let head : x .head ≡ headRecord h = d .head ∙ ap (λ (w : Whole). headAfter w (headOfNumbers f)) e in
         let clock : x .clock ≡ r .after .clock = d .clock ∙ ap (λ (w : Whole). clockAfter w (clockOfNumbers f)) e in

@@ -18,15 +18,16 @@ use Rattle.station.specs.Types.{headIn}
 use Rattle.station.specs.declared.types.Head as record-of-head
 use Rattle.station.specs.ReadHead.{headRecord, recordOf}
 use Rattle.station.specs.WriteHead as writing
+use Rattle.placing.specs.State.{State, stateOf}
 use Rattle.placing.specs.Claims.{Running, PlanClaim}
 use Rattle.placing.specs.Outcomes.{PlanAnswer, PlanOutcome}
 use Rattle.placing.specs.method.Grants.{filled}
 use Rattle.placing.specs.PlanDone.{planMeant}
 use Rattle.frame.specs.Event.{Event, Answer, now, taken, refused, Outcome}
-use Rattle.frame.specs.Text.{Whole, notRead, notPlanned, ran, wholeOf}
+use Rattle.frame.specs.Text.{Whole, notRead, notPlanned, ran, startOf, wholeOf}
 use Rattle.frame.specs.Listing.{listingOf}
 use Rattle.frame.specs.Demands.{Demand3}
-use Rattle.frame.specs.EventDone.{stateOf, eventMeant}
+use Rattle.frame.specs.EventDone.{eventMeant}
 use Rattle.frame.specs.TextDone.{wholeBeside, End, listed, refusedAt, endOf, tableAfter, outputAfter, TextClaim}
 use Rattle.frame.specs.WriteListing.{listingCause, listingMeant}
 use Rattle.planner.specs.Layout.{recordsIn, bytesOver, frameNumbers, headOfNumbers, clockOfNumbers, headOver, numbersOver, clockOver}
@@ -37,9 +38,13 @@ use Rattle.planner.specs.Layout.{recordsIn, bytesOver, frameNumbers, hea
 abbrev pub headOn : List ℕ → List ℕ → Head
 headOn frame presets = headIn (headOfNumbers frame) (recordsIn presets)
 
+-- the state that the numbers of a frame and a table stand for
+abbrev pub stateOn : List ℕ → List ℕ → State
+stateOn frame t = stateOf t (clockOfNumbers frame)
+
 -- a running frame that 8, 2 and 11 let pass
 abbrev pub RunningOn : List ℕ → List ℕ → List ℕ → Type 0
-RunningOn frame presets t = Running (headOn frame presets) (clockOfNumbers frame) t
+RunningOn frame presets t = Running (headOn frame presets) (stateOn frame t)
 
 -- "preset list below 32 records" is 8, and so is a frame below sixteen numbers
 abbrev pub shortCauses : List ℕ → List ℕ → List (Option Refusal)
@@ -103,8 +108,8 @@ pub record TextPromise (text frame presets t out frame₁ presets₁ t₁ : List
 unfoldable pub eventOn : List ℕ → List ℕ → List ℕ → List ℕ → Outcome
 eventOn frame presets t l =
     elim (firstOf (shortCauses frame presets)) [
-      | none ↦ eventMeant (headOfNumbers frame) (recordsIn presets) (stateOf t (clockOfNumbers frame)) (Event.line l)
-      | some r ↦ record { answer = refused r; after = stateOf t (clockOfNumbers frame) }
+      | none ↦ eventMeant (headOfNumbers frame) (recordsIn presets) (stateOn frame t) (Event.line l)
+      | some r ↦ record { answer = refused r; after = stateOn frame t }
     ]
 
 -- 0, or the number of the refusal
@@ -166,7 +171,7 @@ pub record PlanPromise (frame presets t t₁ : List ℕ) (r : ℕ) : Type 0 wher
   -- 5 exactly when no valid plan exists, best for every k
   pub claim : PlanClaim (headOn frame presets) t
   -- "It starts from an accepted head with its plan and the first clock": with the clock 1 the table is one of a running frame
-  pub running : r ≡ 0 → Running (headOn frame presets) 1 t₁
+  pub running : r ≡ 0 → Running (headOn frame presets) (startOf t₁)
 
 -- ---- planner_listing
 

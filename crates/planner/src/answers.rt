@@ -13,14 +13,14 @@ ghost use Rattle.frame.specs.TextDone.{endIn};
 ghost use Rattle.planner.specs.Exports.{endNumber, endPlace, answerNumber, answerCount, writtenNumber, writtenCount};
 
 // The paper's number of a cause.
-pub fn refusal_number(cause: Refusal) -> u32
+pub(crate) fn refusal_number(cause: Refusal) -> u32
     ensures { λ r. ⌜ r ≡ numberOf (refusalIn cause) ⌝ }
 {
     cause_number(cause) as u32
 }
 
 // Whether a text ran.
-pub fn end_number(ended: Ended) -> u32
+pub(crate) fn end_number(ended: Ended) -> u32
     ensures { λ r. ⌜ r ≡ endNumber (endIn ended) ⌝ }
 {
     match ended {
@@ -30,7 +30,7 @@ pub fn end_number(ended: Ended) -> u32
 }
 
 // How many bytes the listing has in the output, or the line at fault.
-pub fn end_place(ended: Ended) -> u64
+pub(crate) fn end_place(ended: Ended) -> u64
     ensures { λ r. ⌜ r ≡ endPlace (endIn ended) ⌝ }
 {
     match ended {
@@ -40,7 +40,7 @@ pub fn end_place(ended: Ended) -> u64
 }
 
 // Whether an event was carried out.
-pub fn answer_number(answer: Answer) -> u32
+pub(crate) fn answer_number(answer: Answer) -> u32
     ensures { λ r. ⌜ r ≡ answerNumber (answerIn answer) ⌝ }
 {
     match answer {
@@ -51,7 +51,7 @@ pub fn answer_number(answer: Answer) -> u32
 }
 
 // The new clock, or how many cells were evicted; 0 where the event was refused.
-pub fn answer_count(answer: Answer) -> u64
+pub(crate) fn answer_count(answer: Answer) -> u64
     ensures { λ r. ⌜ r ≡ answerCount (answerIn answer) ⌝ }
 {
     match answer {
@@ -62,7 +62,7 @@ pub fn answer_count(answer: Answer) -> u64
 }
 
 // Whether a listing was written.
-pub fn written_number(answer: Writing) -> u32
+pub(crate) fn written_number(answer: Writing) -> u32
     ensures { λ r. ⌜ r ≡ writtenNumber (writing.answerIn answer) ⌝ }
 {
     match answer {
@@ -72,7 +72,7 @@ pub fn written_number(answer: Writing) -> u32
 }
 
 // How many bytes of a listing were written; 0 where the text was refused.
-pub fn written_count(answer: Writing) -> u64
+pub(crate) fn written_count(answer: Writing) -> u64
     ensures { λ r. ⌜ r ≡ writtenCount (writing.answerIn answer) ⌝ }
 {
     match answer {

@@ -5,7 +5,7 @@ ghost use mathlib.Core.Path.{_≡_};
 ghost use lib.Seq.{sets};
 
 // Writes 32 grants over the first 32 bytes, as far as there are so many.
-pub fn save_grants(grants: &mut [u8], granted: [u8; PRESETS])
+pub(crate) fn save_grants(grants: &mut [u8], granted: [u8; PRESETS])
     ensures { λ _. ⌜ now (grants .exit) ≡ sets (now (grants .entry)) 0 granted ⌝ }
 {
     let mut i = 0;

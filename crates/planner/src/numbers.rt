@@ -2,6 +2,7 @@
 // that is written there. Past the end of the numbers zeros are read and nothing is written, so that each function takes every slice.
 use frame::text::Ended;
 use station::types::Head;
+use station::types::NO_HEAD;
 ghost use mathlib.Core.Path.{_≡_};
 ghost use lib.ListN.{getD, set};
 ghost use lib.Seq.{sets};
@@ -29,7 +30,7 @@ fn set_number(numbers: &mut [u64], i: usize, given: u64)
 }
 
 // The head of a frame.
-pub fn head_of(frame: &[u64]) -> Head
+pub(crate) fn head_of(frame: &[u64]) -> Head
     ensures { λ r. ⌜ r ≡ headOfNumbers (now (frame .entry)) ⌝ }
 {
     let busy = [
@@ -42,23 +43,23 @@ pub fn head_of(frame: &[u64]) -> Head
         number_at(frame, 10),
         number_at(frame, 11),
     ];
-    Head {
-        slots: number_at(frame, 0) as usize,
-        bridges: number_at(frame, 1) as usize,
-        busy,
-        count: number_at(frame, 2) as usize,
-    }
+    let mut head = NO_HEAD;
+    head.slots = number_at(frame, 0) as usize;
+    head.bridges = number_at(frame, 1) as usize;
+    head.busy = busy;
+    head.count = number_at(frame, 2) as usize;
+    head
 }
 
 // The clock of a frame.
-pub fn clock_of(frame: &[u64]) -> usize
+pub(crate) fn clock_of(frame: &[u64]) -> usize
     ensures { λ r. ⌜ r ≡ clockOfNumbers (now (frame .entry)) ⌝ }
 {
     number_at(frame, 3) as usize
 }
 
 // Writes the clock of a frame, and nothing else.
-pub fn save_clock(frame: &mut [u64], clock: usize)
+pub(crate) fn save_clock(frame: &mut [u64], clock: usize)
     ensures { λ _. ⌜ now (frame .exit) ≡ clockOver clock (now (frame .entry)) ⌝ }
 {
     set_number(frame, 3, clock as u64);
@@ -99,7 +100,7 @@ fn clear_reserved(frame: &mut [u64])
 
 // Writes the head and the clock that a text leaves, and 0 to the reserved places where it ran. A refusal leaves those as they are, so that one which leaves the head
 // and the clock too changes nothing.
-pub fn save_run(frame: &mut [u64], ended: Ended, head: Head, clock: usize)
+pub(crate) fn save_run(frame: &mut [u64], ended: Ended, head: Head, clock: usize)
     ensures { λ _. ⌜ now (frame .exit) ≡ frameLeft (endIn ended) head clock (now (frame .entry)) ⌝ }
 {
     save_head(frame, head, clock);

@@ -1,7 +1,7 @@
 // The preset records that a caller lends as bytes, four bytes a record: out of them by value, and back. Past the end of the bytes zeros are read and nothing is
 // written, so that each function takes every slice.
 use crate::sizes::PRESETS;
-use station::types::NO_RECORD;
+use station::types::NO_PRESETS;
 use station::types::Preset;
 ghost use mathlib.Core.Path.{_≡_};
 ghost use mathlib.Core.List.{[], _∷_};
@@ -21,7 +21,7 @@ fn byte_at(bytes: &[u8], i: usize) -> u8
 }
 
 // Replaces the byte at a place; past the end nothing changes.
-pub fn set_byte(bytes: &mut [u8], i: usize, given: u8)
+pub(crate) fn set_byte(bytes: &mut [u8], i: usize, given: u8)
     ensures { λ _. ⌜ now (bytes .exit) ≡ set (now (bytes .entry)) i given ⌝ }
 {
     if i < bytes.len() {
@@ -44,10 +44,10 @@ fn preset_at(presets: &[u8], i: usize) -> Preset
 }
 
 // The 32 records of the first 128 bytes.
-pub fn load_presets(presets: &[u8]) -> [Preset; PRESETS]
+pub(crate) fn load_presets(presets: &[u8]) -> [Preset; PRESETS]
     ensures { λ r. ⌜ r ≡ recordsIn (now (presets .entry)) ⌝ }
 {
-    let mut bank = [NO_RECORD; PRESETS];
+    let mut bank = NO_PRESETS;
     let mut i = 0;
     while i < PRESETS {
         bank[i] = preset_at(presets, i);
@@ -69,7 +69,7 @@ fn set_preset(presets: &mut [u8], i: usize, given: Preset)
 }
 
 // Writes 32 records over the first 128 bytes.
-pub fn save_presets(presets: &mut [u8], bank: [Preset; PRESETS])
+pub(crate) fn save_presets(presets: &mut [u8], bank: [Preset; PRESETS])
     ensures { λ _. ⌜ now (presets .exit) ≡ bytesOver bank (now (presets .entry)) ⌝ }
 {
     let mut i = 0;

@@ -3,6 +3,7 @@ use second_planner::packed::field;
 use second_planner::tables::NO_TABLE;
 use station::types::Head;
 use station::types::Job;
+use station::types::NO_HEAD;
 use station::types::Preset;
 use station::types::Refusal;
 
@@ -46,12 +47,12 @@ pub fn head_of(frame: usize, presets: usize) -> Head {
         0,
         0,
     ];
-    Head {
-        slots: field(frame, 6) % 16,
-        bridges: field(frame, 6) / 16,
-        busy,
-        count: presets >> 24,
-    }
+    let mut head = NO_HEAD;
+    head.slots = field(frame, 6) % 16;
+    head.bridges = field(frame, 6) / 16;
+    head.busy = busy;
+    head.count = presets >> 24;
+    head
 }
 
 // The record of a line.

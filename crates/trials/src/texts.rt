@@ -8,7 +8,7 @@ use station::heads::ReadAnswer;
 use station::heads::read_head_by_value;
 use station::types::Head;
 use station::types::NO_HEAD;
-use station::types::NO_RECORD;
+use station::types::NO_PRESETS;
 use station::types::Preset;
 use station::write::Writing;
 use station::write::write_head_by_value;
@@ -49,7 +49,7 @@ fn show_head(head: Head, presets: [Preset; 32]) {
 
 // Reads the head of a text and writes what the reader says.
 fn show(text: &[u8]) {
-    let read = read_head_by_value(text, NO_HEAD, [NO_RECORD; 32]);
+    let read = read_head_by_value(text, NO_HEAD, NO_PRESETS);
     let answer = read.answer;
     match answer {
         ReadAnswer::Accepted(lines, bytes) => {

@@ -21,11 +21,12 @@ use Rattle.station.specs.declared.types.Head as record-of-head
 use Rattle.station.specs.declared.types.Refusal.the-variants.{TooShort}
 use Rattle.station.specs.Records.{loaded}
 use Rattle.station.proofs.Theorems.{loaded-whole}
+use Rattle.placing.specs.State.{State, stateOf}
 use Rattle.placing.specs.Claims.{Running}
 use Rattle.frame.specs.declared.types.Answer.the-variants.{Refused}
 use Rattle.frame.specs.declared.types.Outcome as result
-use Rattle.frame.specs.Event.{Event, refused, State, Outcome, eventOf}
-use Rattle.frame.specs.EventDone.{stateOf, eventMeant, Yields, EventDone}
+use Rattle.frame.specs.Event.{Event, refused, Outcome, eventOf}
+use Rattle.frame.specs.EventDone.{eventMeant, Yields, EventDone}
 use Rattle.frame.proofs.Demands.{demand-3}
 use Rattle.frame.proofs.event.EventAnswers.{done-running}
 use Rattle.frame.specs.EventEntry.{eventListed, EventListed, EventEntry}
@@ -41,14 +42,14 @@ module _ (n : ℕ) (head : record-of-head.Head) (ps : List record-of-preset.Pres
   unfolding eventListed firstOf
   listed-enough l = rw (ltb-no n 32 l, eventListed) refl
 
-module _ (n : ℕ) (head : record-of-head.Head) (ps : List record-of-preset.Preset) (t : List ℕ) (c : ℕ) (e : Event) where
-  pub event-few : n < 32 → EventListed n head ps t c e t (record { answer = Refused TooShort; clock = c })
+module _ (n : ℕ) (head : record-of-head.Head) (ps : List record-of-preset.Preset) (st : State) (e : Event) where
+  pub event-few : n < 32 → EventListed n head ps st e (st .table) (record { answer = Refused TooShort; clock = st .clock })
   event-few l =
-      subst (λ (o : Outcome). Yields o t (record { answer = Refused TooShort; clock = c })) (sym (listed-few n head ps (stateOf t c) e l))
+      subst (λ (o : Outcome). Yields o (st .table) (record { answer = Refused TooShort; clock = st .clock })) (sym (listed-few n head ps st e l))
       (record { answer = refl; table = refl; clock = refl })
 
-  pub event-enough : {u : List ℕ} {r : result.Outcome} → 32 ≤ n → EventDone head ps t c e u r → EventListed n head ps t c e u r
-  event-enough {u} {r} l d = subst (λ (o : Outcome). Yields o u r) (sym (listed-enough n head ps (stateOf t c) e l)) d
+  pub event-enough : {u : List ℕ} {r : result.Outcome} → 32 ≤ n → EventDone head ps st e u r → EventListed n head ps st e u r
+  event-enough {u} {r} l d = subst (λ (o : Outcome). Yields o u r) (sym (listed-enough n head ps st e l)) d
 
 -- ---- the first 32 records by value
 
@@ -82,35 +83,35 @@ module _ (head : record-of-head.Head) (st : State) (e : Event) where
       go (is-true few) = meant-head (loaded ps) ps (head-list head ps (le-of (head .count) 32 few) long)
       go (is-false many) = meant-many (loaded ps) ps many
 
-module _ (head : record-of-head.Head) (ps : List record-of-preset.Preset) (t : List ℕ) (c : ℕ) (e : Event) where
-  listed-list : eventListed (length ps) head (loaded ps) (stateOf t c) e ≡ eventListed (length ps) head ps (stateOf t c) e
+module _ (head : record-of-head.Head) (ps : List record-of-preset.Preset) (st : State) (e : Event) where
+  listed-list : eventListed (length ps) head (loaded ps) st e ≡ eventListed (length ps) head ps st e
   listed-list = go (is (ltb (length ps) 32))
     where
-      go : Is (ltb (length ps) 32) → eventListed (length ps) head (loaded ps) (stateOf t c) e ≡ eventListed (length ps) head ps (stateOf t c) e
+      go : Is (ltb (length ps) 32) → eventListed (length ps) head (loaded ps) st e ≡ eventListed (length ps) head ps st e
       go (is-true l) =
           let few = lt-of (length ps) 32 l in
-          listed-few (length ps) head (loaded ps) (stateOf t c) e few ∙ sym (listed-few (length ps) head ps (stateOf t c) e few)
+          listed-few (length ps) head (loaded ps) st e few ∙ sym (listed-few (length ps) head ps st e few)
       go (is-false l) =
           let long = ge-of (length ps) 32 l in
-          listed-enough (length ps) head (loaded ps) (stateOf t c) e long
-          ∙ meant-list head (stateOf t c) e ps long
-          ∙ sym (listed-enough (length ps) head ps (stateOf t c) e long)
+          listed-enough (length ps) head (loaded ps) st e long
+          ∙ meant-list head st e ps long
+          ∙ sym (listed-enough (length ps) head ps st e long)
 
   module _ {u : List ℕ} {r : result.Outcome} where
-    pub event-list : EventListed (length ps) head (loaded ps) t c e u r → EventListed (length ps) head ps t c e u r
+    pub event-list : EventListed (length ps) head (loaded ps) st e u r → EventListed (length ps) head ps st e u r
     event-list d = subst (λ (o : Outcome). Yields o u r) listed-list d
 
     -- a frame that 11 lets pass is one afterwards
-    event-running : EventListed (length ps) head ps t c e u r → Running (headIn head ps) c t → Running (headIn head ps) (r .clock) u
+    event-running : EventListed (length ps) head ps st e u r → Running (headIn head ps) st → Running (headIn head ps) (stateOf u (r .clock))
     event-running d run = go (is (ltb (length ps) 32))
       where
-        go : Is (ltb (length ps) 32) → Running (headIn head ps) (r .clock) u
+        go : Is (ltb (length ps) 32) → Running (headIn head ps) (stateOf u (r .clock))
         go (is-true l) =
-            let y : Yields (record { answer = refused tooShort; after = stateOf t c }) u r =
-            subst (λ (o : Outcome). Yields o u r) (listed-few (length ps) head ps (stateOf t c) e (lt-of (length ps) 32 l)) d in
+            let y : Yields (record { answer = refused tooShort; after = st }) u r =
+            subst (λ (o : Outcome). Yields o u r) (listed-few (length ps) head ps st e (lt-of (length ps) 32 l)) d in
             rw (y .clock, y .table) run
         go (is-false l) =
-            done-running head ps c t e (subst (λ (o : Outcome). Yields o u r) (listed-enough (length ps) head ps (stateOf t c) e (ge-of (length ps) 32 l)) d) run
+            done-running head ps st e (subst (λ (o : Outcome). Yields o u r) (listed-enough (length ps) head ps st e (ge-of (length ps) 32 l)) d) run
 
-    pub event-entry : EventListed (length ps) head (loaded ps) t c e u r → EventEntry head ps t c e u r
-    event-entry d = let done = event-list d in record { done = done; kept = event-running done; claim = demand-3 (headIn head ps) (stateOf t c) (e ∷ []) }
+    pub event-entry : EventListed (length ps) head (loaded ps) st e u r → EventEntry head ps st e u r
+    event-entry d = let done = event-list d in record { done = done; kept = event-running done; claim = demand-3 (headIn head ps) st (e ∷ []) }

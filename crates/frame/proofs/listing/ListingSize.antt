@@ -24,9 +24,10 @@ use Rattle.station.proofs.Theorems.{number-small, digits-length}
 use Rattle.placing.specs.Table.{cell, kindOf, numberIn, isOptional}
 use Rattle.placing.specs.Valid.{optionalCount}
 use Rattle.placing.specs.Outcomes.{PlanAnswer, planOf}
+use Rattle.placing.specs.State.{State}
 use Rattle.placing.specs.Claims.{Running}
-use Rattle.placing.proofs.Theorems.{plan-claim}
-use Rattle.frame.specs.Event.{Event, Answer, now, taken, refused, State, Outcome, eventOf, runOf}
+use Rattle.placing.proofs.Theorems.{clock-to, plan-claim}
+use Rattle.frame.specs.Event.{Event, Answer, now, taken, refused, Outcome, eventOf, runOf}
 use Rattle.frame.specs.Text.{Whole, notRead, notPlanned, ran, startOf, eventsOf, wholeOf}
 use Rattle.frame.specs.Demands.{Ends, EventIs, stopped, clockSet, placed, totalTaken}
 use Rattle.frame.specs.Demands.{too-short, head-refused, is-not-planned, is-planned}
@@ -131,15 +132,15 @@ grants-size g i (p ∷ ps) f =
 -- ---- the answers
 
 -- a clock that is set is a running frame's, so at most S + 1
-now-small : (h : Head) (st : State) (e : Event) → Running h (st .clock) (st .table) → (t : ℕ) → eventOf h st e .answer ≡ now t → t < 100
+now-small : (h : Head) (st : State) (e : Event) → Running h st → (t : ℕ) → eventOf h st e .answer ≡ now t → t < 100
 now-small h st e run t q = go (eventOf h st e) (event-is h st e) q (event-running h st e run)
   where
-    go : (o : Outcome) → EventIs h st e o → o .answer ≡ now t → Running h (o .after .clock) (o .after .table) → t < 100
+    go : (o : Outcome) → EventIs h st e o → o .answer ≡ now t → Running h (o .after) → t < 100
     go _ (stopped r f) p w = absurd (let z : _≡_ {A = ℕ} 0 1 = cc in omega arith)
-    go _ (clockSet c asks f) p w = let same : c ≡ t = cc in omega (arith, w .clock-high, w .valid .slots-high)
+    go _ (clockSet c asks f) p w = let same : c ≡ t = cc in omega (arith, clock-to (h .slots) c (w .wellFormed .clock), w .valid .slots-high)
     go _ (placed jobs asks f) p w = absurd (let z : _≡_ {A = ℕ} 0 1 = cc in omega arith)
 
-one-size : (h : Head) (st : State) (e : Event) (n : ℕ) (rest : List Answer) → Running h (st .clock) (st .table) → n < 100000
+one-size : (h : Head) (st : State) (e : Event) (n : ℕ) (rest : List Answer) → Running h st → n < 100000
     → (a : Answer) → eventOf h st e .answer ≡ a → totalTaken (a ∷ rest) < 1000
     → (length (answerLine n a) ≤ 19) × (totalTaken rest < 1000)
 unfolding totalTaken
@@ -148,7 +149,7 @@ one-size h st e n rest run l (taken k) q m = (taken-size n k (omega arith), omeg
 one-size h st e n rest run l (refused r) q m = (stopped-size n r l, m)
 
 -- every answer has at most 19 bytes
-pub answers-size : (h : Head) (st : State) (es : List Event) (n : ℕ) → Running h (st .clock) (st .table) → n + length es < 100000
+pub answers-size : (h : Head) (st : State) (es : List Event) (n : ℕ) → Running h st → n + length es < 100000
     → totalTaken (runOf h st es .answers) < 1000 → length (answerLines n (runOf h st es .answers)) ≤ 19 * length es
 unfolding runOf answerLines
 answers-size h st [] n run l m = omega arith
@@ -227,7 +228,7 @@ ran-size text t h n g m a =
     λ j l.
     let none : 0 + j ≡ j = omega arith in (
       omega (arith, v .limits j l .number-high),
-      rw none (omega (arith, plan-claim h t .reported g a j l, run .wellFormed .most j l, v .limits j l .optional)),
+      rw none (omega (arith, plan-claim h t .reported g a j l, run .wellFormed .cells .most j l, v .limits j l .optional)),
     ) in
     let a₁ = grantedLines g 0 (h .presets) in
     let a₂ = answerLines n (runOf h st es .answers) in

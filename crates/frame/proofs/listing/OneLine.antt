@@ -38,6 +38,7 @@ use Rattle.frame.specs.Types.{answerIn}
 use Rattle.frame.proofs.types.Answer.{the-type}
 use Rattle.frame.proofs.types.Answer.Laws.{the-laws}
 use Rattle.frame.specs.Event.{Answer, now, taken, refused}
+use Rattle.frame.specs.Text.{startOf}
 use Rattle.frame.specs.Listing.{refusedLine, grantedLine, answerLine, cellText, cellTexts, slotLine}
 use Rattle.frame.specs.WroteLine.{lineWritten, outputShort, slotCauses, slotWritten, WroteLine}
 use Rattle.frame.specs.method.SlotLines.{lineOfSlot}
@@ -127,18 +128,18 @@ module _ (head : record-of-head.Head) (ps : List record-of-preset.Preset) (t : L
   abbrev slotOutside : Bool
   slotOutside = not (within 1 (head .slots) s)
 
-  refused-with : (r : cause.Refusal) → firstOf (frameCausesOf head ps 1 t ++ (try outOfLimits slotOutside ∷ [])) ≡ some (refusalIn r)
+  refused-with : (r : cause.Refusal) → firstOf (frameCausesOf head ps (startOf t) ++ (try outOfLimits slotOutside ∷ [])) ≡ some (refusalIn r)
       → WroteLine (slotWritten head ps t s out) (writing.Refused r) out
   refused-with r e =
       line-refused (slotCauses head ps t s out) (slotLine h t (s - 1)) out r (passed tooShort (ltb (length out) 8192) _ (ltb-no (length out) 8192 long) ∙ e)
 
   -- a cause of the table or of the head record
-  pub slot-stopped : (r : cause.Refusal) → some (refusalIn r) ≡ firstOf (frameCausesOf head ps 1 t) → WroteLine (slotWritten head ps t s out) (writing.Refused r) out
-  slot-stopped r e = refused-with r (append-some (frameCausesOf head ps 1 t) _ (refusalIn r) (sym e))
+  pub slot-stopped : (r : cause.Refusal) → some (refusalIn r) ≡ firstOf (frameCausesOf head ps (startOf t)) → WroteLine (slotWritten head ps t s out) (writing.Refused r) out
+  slot-stopped r e = refused-with r (append-some (frameCausesOf head ps (startOf t)) _ (refusalIn r) (sym e))
 
-  module _ (free : none ≡ firstOf (frameCausesOf head ps 1 t)) where
+  module _ (free : none ≡ firstOf (frameCausesOf head ps (startOf t))) where
     outside : slotOutside ≡ true → WroteLine (slotWritten head ps t s out) (writing.Refused OutOfLimits) out
-    outside e = refused-with OutOfLimits (append-none (frameCausesOf head ps 1 t) _ (sym free) ∙ met outOfLimits slotOutside [] e)
+    outside e = refused-with OutOfLimits (append-none (frameCausesOf head ps (startOf t)) _ (sym free) ∙ met outOfLimits slotOutside [] e)
 
     -- no slot has the number
     pub slot-low : s < 1 → WroteLine (slotWritten head ps t s out) (writing.Refused OutOfLimits) out
@@ -151,11 +152,11 @@ module _ (head : record-of-head.Head) (ps : List record-of-preset.Preset) (t : L
     pub slot-written : {after : List ℕ} {n : ℕ} → 1 ≤ s → s ≤ head .slots → Wrote out 0 (lineOfSlot (head .bridges) t (s - 1)) after n
         → WroteLine (slotWritten head ps t s out) (writing.Written n) after
     slot-written m l w =
-        let v = record-valid head ps (frame-known head ps 1 t (sym free) .1) in
+        let v = record-valid head ps (frame-known head ps (startOf t) (sym free) .1) in
         let low : s - 1 < 64 = omega (arith, v .slots-high) in
         line-written (slotCauses head ps t s out) (slotLine h t (s - 1)) out
         (passed tooShort (ltb (length out) 8192) _ (ltb-no (length out) 8192 long)
-        ∙ append-none (frameCausesOf head ps 1 t) _ (sym free)
+        ∙ append-none (frameCausesOf head ps (startOf t)) _ (sym free)
         ∙ passed outOfLimits slotOutside [] (rw (leb-yes 1 s m, leb-yes s (head .slots) l) refl)
         ∙ first-of-none)
         (slot-fits h t (s - 1) low (v .bridges-high)) long (rw (slot-line-head h t (s - 1) low (v .bridges-high)) at w)

@@ -67,7 +67,7 @@ form-bytes : (f : Form) → 0 < length (print f)
 unfolding print bytes
 form-bytes (frameLine s b) = omega arith
 form-bytes (busyLine b p) = omega arith
-form-bytes (presetLine n p m o) = omega arith
+form-bytes (presetLine p) = omega arith
 form-bytes (clockLine t) = omega arith
 form-bytes (callLine p) = omega arith
 

@@ -2,31 +2,32 @@
 --
 -- In order: a clock (`clockCauses`, `clockAnswer`, `clockAfter`, `ClockDone`); what an event line asks for, as it was read (`askedIn`), and what that comes to (`lineOutcome`, `lineMeant`).
 -- Assumes nothing.
-use Prim.Native.Nat.{ℕ, suc}
+use Prim.Native.Nat.{ℕ}
 use mathlib.Core.Path.{_≡_}
 use mathlib.Core.Bool.{not}
 use mathlib.Core.Option.{Option, none, some}
 use mathlib.Core.List.{List, [], _∷_}
 use lib.Dec.{ltb}
-use Rattle.station.specs.Head.{within}
 use Rattle.station.specs.Refusal.{Refusal, outOfLimits, clockBack, try, firstOf}
 use Rattle.station.specs.Form.{form}
-use Rattle.station.specs.Types.{refusalIn}
+use Rattle.station.specs.Types.{headIn, refusalIn}
 use Rattle.station.specs.declared.types.Job as record-of-job
 use Rattle.station.specs.declared.types.Preset as record-of-preset
 use Rattle.station.specs.declared.types.Head as record-of-head
 use Rattle.station.specs.Event.{eventIn}
 use Rattle.station.specs.declared.events.Event as read
 use Rattle.station.specs.declared.events.Event.the-variants.{SetClock, Place, Fault}
+use Rattle.placing.specs.Valid.{clockIn}
+use Rattle.placing.specs.State.{State}
 use Rattle.placing.specs.Causes.{callJobs}
 use Rattle.placing.specs.CallDone.{callMeant}
 use Rattle.frame.specs.declared.types.Outcome as result
-use Rattle.frame.specs.Event.{Event, Asked, setClock, place, fault, Answer, now, refused, answerOf, State, Outcome, eventOf}
+use Rattle.frame.specs.Event.{Event, Asked, setClock, place, fault, Answer, now, refused, answerOf, Outcome, clockState}
 use Rattle.frame.specs.Types.{answerIn}
 
 -- The causes of a clock itself, on a frame of so many slots at the clock c: "t below 1 or above S + 1" and "a clock below the present one".
 abbrev pub clockCauses : ℕ → ℕ → ℕ → List (Option Refusal)
-clockCauses slots c t = try outOfLimits (not (within 1 (suc slots) t)) ∷ try clockBack (ltb t c) ∷ []
+clockCauses slots c t = try outOfLimits (not (clockIn slots t)) ∷ try clockBack (ltb t c) ∷ []
 
 -- what a clock that is asked for answers: the first of them, or the new clock
 unfoldable pub clockAnswer : ℕ → ℕ → ℕ → Answer
@@ -50,14 +51,12 @@ askedIn (Fault r) js = fault (refusalIn r)
 -- What that comes to: a clock is refused by its own causes alone or set, and the table stays; a call is what `callMeant` says, which tries the causes of the
 -- frame itself, and the clock stays; a fault changes nothing.
 unfoldable pub lineOutcome : record-of-head.Head → List record-of-preset.Preset → State → Asked → Outcome
-lineOutcome head ps st (setClock t) = record {
-  answer = clockAnswer (head .slots) (st .clock) t;
-  after = record { table = st .table; clock = clockAfter (head .slots) (st .clock) t };
-}
-lineOutcome head ps st (place jobs) = record {
-  answer = answerOf (callMeant head ps (st .clock) jobs (st .table) .answer);
-  after = record { table = callMeant head ps (st .clock) jobs (st .table) .table; clock = st .clock };
-}
+lineOutcome head ps st (setClock t) =
+    elim (firstOf (clockCauses (head .slots) (st .clock) t)) [
+      | none ↦ record { answer = now t; after = clockState (headIn head ps) t st }
+      | some r ↦ record { answer = refused r; after = st }
+    ]
+lineOutcome head ps st (place jobs) = record { answer = answerOf (callMeant head ps jobs st .answer); after = callMeant head ps jobs st .after }
 lineOutcome head ps st (fault r) = record { answer = refused r; after = st }
 
 -- An event line, by what was read of it. On a frame that meets none of its own causes this is `eventOf` of the line: `line-event` of proofs/Running.

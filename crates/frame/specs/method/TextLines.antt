@@ -22,7 +22,7 @@ use Rattle.frame.specs.Listing.{answerLines}
 -- are within the text, which is not too long.
 pub record LinesStart (head : record-of-head.Head) (ps : List record-of-preset.Preset) (text : List ℕ) (from first : ℕ) (t : List ℕ) : Type 0 where
   pub valid : validRecord head ps ≡ true
-  pub running : Running (headIn head ps) 1 t
+  pub running : Running (headIn head ps) (startOf t)
   pub few : first ≤ from
   pub inside : from ≤ length text
   pub short : length text ≤ 32768

@@ -3,6 +3,7 @@ use crate::types::Answer;
 use crate::types::Outcome;
 use placing::call::CallAnswer;
 use placing::call::call_by_counts;
+use placing::check::clock_in;
 use placing::counts::usable::pass_slots;
 use station::events::Event;
 use station::events::read_event;
@@ -11,6 +12,7 @@ use station::types::Preset;
 use station::types::Refusal;
 ghost use mathlib.Core.Path.{_≡_};
 ghost use mathlib.Core.Bool.{true};
+ghost use Rattle.placing.specs.State.{stateOf};
 ghost use Rattle.station.specs.Types.{headIn, validRecord};
 ghost use Rattle.placing.specs.Table.{cell};
 ghost use Rattle.placing.specs.Claims.{Running};
@@ -18,20 +20,14 @@ ghost use Rattle.placing.specs.method.Counts.{CountsOf};
 ghost use Rattle.placing.specs.CallDone.{takenIn};
 ghost use Rattle.frame.specs.Types.{answerIn};
 ghost use Rattle.frame.specs.Event.{answerOf};
-ghost use Rattle.frame.specs.EventDone.{stateOf, Yields};
+ghost use Rattle.frame.specs.EventDone.{Yields};
 ghost use Rattle.frame.specs.method.EventParts.{ClockDone, lineMeant};
 
 // A clock that is asked for on a frame of so many slots: 2 where it is outside 1 to S + 1, 6 where it is below the present one, else it is the new clock.
-pub fn asked_clock(slots: usize, clock: usize, to: usize) -> Outcome
+pub(crate) fn asked_clock(slots: usize, clock: usize, to: usize) -> Outcome
     ensures { λ r. ⌜ ClockDone slots clock to r ⌝ }
 {
-    if to < 1 {
-        return Outcome {
-            answer: Answer::Refused(Refusal::OutOfLimits),
-            clock,
-        };
-    }
-    if slots < to - 1 {
+    if !clock_in(slots, to) {
         return Outcome {
             answer: Answer::Refused(Refusal::OutOfLimits),
             clock,
@@ -68,7 +64,7 @@ fn call_outcome(answer: CallAnswer, clock: usize) -> Outcome
 // An event line on a running frame, by what it asks for alone: its clock is set, its call placed by the counts of the table and the clock, or its fault handed back. The
 // counts afterwards are those of what it leaves. It is a part of `event_by_value` and of the loop over a text's lines: they have tried the frame's own causes, and the loop
 // keeps the counts between events.
-pub fn event_by_counts(
+pub(crate) fn event_by_counts(
     head: Head,
     presets: [Preset; 32],
     table: &mut [u16],
@@ -78,7 +74,7 @@ pub fn event_by_counts(
     capacities: &mut [usize; 9],
     line: &[u8],
 ) -> Outcome
-    ensures { λ r. ⌜ (validRecord head presets ≡ true → Running (headIn head presets) clock (now (table .entry))
+    ensures { λ r. ⌜ (validRecord head presets ≡ true → Running (headIn head presets) (stateOf (now (table .entry)) clock)
         → CountsOf (headIn head presets) clock (cell (headIn head presets) (now (table .entry))) (now (used .entry)) (now (held .entry)) (now (capacities .entry))
         → Yields (lineMeant head presets (stateOf (now (table .entry)) clock) (now (line .entry))) (now (table .exit)) r
         × CountsOf (headIn head presets) (r .clock) (cell (headIn head presets) (now (table .exit))) (now (used .exit)) (now (held .exit)) (now (capacities .exit))) ⌝ }

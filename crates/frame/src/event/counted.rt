@@ -6,11 +6,12 @@ use crate::types::Outcome;
 use station::types::Head;
 use station::types::Preset;
 use station::types::Refusal;
+ghost use Rattle.placing.specs.State.{stateOf};
 ghost use Rattle.frame.specs.Event.{Event};
 ghost use Rattle.frame.specs.EventEntry.{EventListed};
 
 // Sets the clock; refused with 8 for fewer than 32 records.
-pub fn clock_counted(
+pub(crate) fn clock_counted(
     records: usize,
     head: Head,
     bank: [Preset; 32],
@@ -18,7 +19,7 @@ pub fn clock_counted(
     clock: usize,
     t: usize,
 ) -> Outcome
-    ensures { λ r. ⌜ EventListed records head bank (now (table .entry)) clock (Event.clock t) (now (table .entry)) r ⌝ }
+    ensures { λ r. ⌜ EventListed records head bank (stateOf (now (table .entry)) clock) (Event.clock t) (now (table .entry)) r ⌝ }
 {
     if records < 32 {
         return Outcome {
@@ -30,7 +31,7 @@ pub fn clock_counted(
 }
 
 // One event line; refused with 8 for fewer than 32 records.
-pub fn event_counted(
+pub(crate) fn event_counted(
     records: usize,
     head: Head,
     bank: [Preset; 32],
@@ -38,7 +39,7 @@ pub fn event_counted(
     clock: usize,
     line: &[u8],
 ) -> Outcome
-    ensures { λ r. ⌜ EventListed records head bank (now (table .entry)) clock (Event.line (now (line .entry))) (now (table .exit)) r ⌝ }
+    ensures { λ r. ⌜ EventListed records head bank (stateOf (now (table .entry)) clock) (Event.line (now (line .entry))) (now (table .exit)) r ⌝ }
 {
     if records < 32 {
         return Outcome {

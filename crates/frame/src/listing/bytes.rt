@@ -37,7 +37,7 @@ fn number_line(out: &mut [u8], at: usize, start: &[u8], n: usize) -> usize
 }
 
 // Writes `(refused N C)`, the line and the cause's number. Answers the next place.
-pub fn refused_line(out: &mut [u8], at: usize, line: usize, cause: Refusal) -> usize
+pub(crate) fn refused_line(out: &mut [u8], at: usize, line: usize, cause: Refusal) -> usize
     ensures { λ r. ⌜ Wrote (now (out .entry)) at (refusedLine line (refusalIn cause)) (now (out .exit)) r ⌝ }
 {
     let n = cause_number(cause);
@@ -46,7 +46,7 @@ pub fn refused_line(out: &mut [u8], at: usize, line: usize, cause: Refusal) -> u
 }
 
 // Writes the line of an answer: `(now T)`, `(taken K)`, or the refused line. Answers the next place.
-pub fn answer_line(out: &mut [u8], at: usize, line: usize, answer: Answer) -> usize
+pub(crate) fn answer_line(out: &mut [u8], at: usize, line: usize, answer: Answer) -> usize
     ensures { λ r. ⌜ Wrote (now (out .entry)) at (answerLine line (answerIn answer)) (now (out .exit)) r ⌝ }
 {
     match answer {
@@ -57,7 +57,7 @@ pub fn answer_line(out: &mut [u8], at: usize, line: usize, answer: Answer) -> us
 }
 
 // Writes `(granted N G)`, a preset's number and how many optional slots it has. Answers the next place.
-pub fn granted_line(out: &mut [u8], at: usize, preset: usize, slots: usize) -> usize
+pub(crate) fn granted_line(out: &mut [u8], at: usize, preset: usize, slots: usize) -> usize
     ensures { λ r. ⌜ Wrote (now (out .entry)) at (grantedLine preset slots) (now (out .exit)) r ⌝ }
 {
     let numbers = word(out, at, b"(granted ");
@@ -87,7 +87,7 @@ fn first_granted(
 }
 
 // Writes the granted lines of the first `count` presets, in file order; a count above 32 is as 32. Answers the next place.
-pub fn granted_lines(
+pub(crate) fn granted_lines(
     out: &mut [u8],
     at: usize,
     presets: [Preset; 32],
@@ -158,7 +158,13 @@ fn slot_cells(out: &mut [u8], at: usize, bridges: usize, table: &[u16], slot: us
 
 // Writes the line of a slot, counted from 0: `(slot N` and its cells. Writes nothing for a slot from 64 on or above 8 bridges, which no frame has.
 // Answers the next place.
-pub fn slot_line(out: &mut [u8], at: usize, bridges: usize, table: &[u16], slot: usize) -> usize
+pub(crate) fn slot_line(
+    out: &mut [u8],
+    at: usize,
+    bridges: usize,
+    table: &[u16],
+    slot: usize,
+) -> usize
     ensures { λ r. ⌜ Wrote (now (out .entry)) at (lineOfSlot bridges (now (table .entry)) slot) (now (out .exit)) r ⌝ }
 {
     if 64 <= slot {
@@ -188,7 +194,13 @@ fn first_slots(out: &mut [u8], at: usize, slots: usize, bridges: usize, table: &
 }
 
 // Writes the lines of all slots. Writes nothing for more than 64 slots or 8 bridges, which no frame has. Answers the next place.
-pub fn slot_lines(out: &mut [u8], at: usize, slots: usize, bridges: usize, table: &[u16]) -> usize
+pub(crate) fn slot_lines(
+    out: &mut [u8],
+    at: usize,
+    slots: usize,
+    bridges: usize,
+    table: &[u16],
+) -> usize
     ensures { λ r. ⌜ Wrote (now (out .entry)) at (linesOfSlots slots bridges (now (table .entry))) (now (out .exit)) r ⌝ }
 {
     if 64 < slots {

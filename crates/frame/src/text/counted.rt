@@ -23,7 +23,7 @@ fn refused_at_start(cause: Refusal, head: Head, bank: [Preset; 32], clock: usize
 }
 
 // Runs a whole text; refused with 10 for more than 32,768 bytes, and then with 8 for fewer than 32 records.
-pub fn text_counted(
+pub(crate) fn text_counted(
     records: usize,
     text: &[u8],
     head: Head,
@@ -44,14 +44,14 @@ pub fn text_counted(
 }
 
 // The records that a text leaves.
-pub fn bank_of(run: TextRun) -> [Preset; 32]
+pub(crate) fn bank_of(run: TextRun) -> [Preset; 32]
     ensures { λ r. ⌜ r ≡ run .presets ⌝ }
 {
     run.presets
 }
 
 // What a text leaves beside the records.
-pub fn answer_of(run: TextRun) -> TextAnswer
+pub(crate) fn answer_of(run: TextRun) -> TextAnswer
     ensures { λ r. ⌜ r ≡ answerOf run ⌝ }
 {
     let ended = run.ended;

@@ -1,6 +1,7 @@
 // The lines of a text after its head: each is one event, and has one line of answer.
 use crate::event::asked::event_by_counts;
 use crate::listing::bytes::answer_line;
+use placing::check::FIRST_CLOCK;
 use placing::counts::counts_of;
 use station::lines::line_at;
 use station::types::Head;
@@ -9,15 +10,15 @@ ghost use Rattle.station.specs.Types.{headIn};
 ghost use Rattle.frame.specs.method.TextLines.{LinesStart, RanLines};
 
 // What the lines leave beside the table and the output: the clock, and the place after the last answer.
-pub struct Lines {
+pub(crate) struct Lines {
     pub clock: usize,
     pub place: usize,
 }
 
-// Runs the lines of a text from byte `from` on, `first` lines having gone before: each is an event on what the last one left, from clock 1 on, and its answer is
+// Runs the lines of a text from byte `from` on, `first` lines having gone before: each is an event on what the last one left, from the first clock on, and its answer is
 // written at once. The frame meets none of its own causes at the start and so at no line: they are not tried again. What a call's causes are decided by is counted
 // once, and each event brings it up to what it leaves.
-pub fn run_lines(
+pub(crate) fn run_lines(
     text: &[u8],
     from: usize,
     first: usize,
@@ -32,7 +33,7 @@ pub fn run_lines(
 {
     let mut at = from;
     let mut n = first;
-    let mut clock = 1;
+    let mut clock = FIRST_CLOCK;
     let mut next = place;
     let counts = counts_of(head, presets, table, clock);
     let mut used = counts.used;

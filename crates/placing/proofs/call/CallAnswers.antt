@@ -29,14 +29,15 @@ use Rattle.placing.specs.declared.check.Cause.the-variants.{Met, Passed}
 use Rattle.placing.specs.declared.call.CallAnswer as reply
 use Rattle.placing.specs.declared.call.CallAnswer.the-variants.{Taken, Refused}
 use Rattle.placing.specs.Table.{cell, callCell}
+use Rattle.placing.specs.State.{State}
 use Rattle.placing.specs.Valid.{jobAt}
-use Rattle.placing.specs.Call.{lengths, evictedSet, callFits, called}
+use Rattle.placing.specs.Call.{lengths, evictedSet, callFits}
 use Rattle.placing.specs.Types.{jobsIn}
 use Rattle.placing.specs.method.Jobs.{jobNumber}
 use Rattle.placing.specs.method.Limits.{inLimits}
 use Rattle.placing.specs.method.Rule.{placedIn, placedWithin}
 use Rattle.placing.specs.method.Search.{Evicts}
-use Rattle.placing.specs.Outcomes.{written, frameCauses, jobsOutside, jobCauses, callCauses, CallAnswer, CallOutcome, callOf}
+use Rattle.placing.specs.Outcomes.{frameCauses, jobsOutside, jobCauses, callCauses, CallAnswer, CallOutcome, calledState, callOf}
 use Rattle.placing.specs.Causes.{causeIn, callJobs, causesOf, frameCausesOf}
 use Rattle.placing.specs.CallDone.{callMeant, carriedOut, CarriedOut, CallDone}
 use Rattle.placing.proofs.Causes.{of-running}
@@ -61,161 +62,161 @@ cells-are js long n few e cells h i l =
 
 -- ---- the carrying out
 
-module _ (h : Head) (clock : ℕ) (jobs : List Job) (t : List ℕ) where
+module _ (h : Head) (jobs : List Job) (st : State) where
   abbrev notFeasible : CallOutcome
-  notFeasible = record { answer = CallAnswer.refused callNotFeasible; table = t }
+  notFeasible = record { answer = CallAnswer.refused callNotFeasible; after = st }
 
   abbrev takenBy : CallOutcome
-  takenBy = record { answer = CallAnswer.taken (ones (evictedSet h clock jobs (cell h t))); table = written h (called h clock jobs (cell h t)) t }
+  takenBy = record { answer = CallAnswer.taken (ones (evictedSet h (st .clock) jobs (cell h (st .table)))); after = calledState h jobs st }
 
-  carried-no : callFits h clock jobs (cell h t) ≡ false → carriedOut h clock jobs t ≡ notFeasible
+  carried-no : callFits h (st .clock) jobs (cell h (st .table)) ≡ false → carriedOut h jobs st ≡ notFeasible
   unfolding carriedOut
   carried-no e = rw e refl
 
-  carried-yes : callFits h clock jobs (cell h t) ≡ true → carriedOut h clock jobs t ≡ takenBy
+  carried-yes : callFits h (st .clock) jobs (cell h (st .table)) ≡ true → carriedOut h jobs st ≡ takenBy
   unfolding carriedOut
   carried-yes e = rw e refl
 
-  pub carried-refused : callFits h clock jobs (cell h t) ≡ false → CarriedOut h clock jobs t t (Refused CallNotFeasible)
+  pub carried-refused : callFits h (st .clock) jobs (cell h (st .table)) ≡ false → CarriedOut h jobs st (st .table) (Refused CallNotFeasible)
   carried-refused e =
       record {
         answer = sym (ap (λ (o : CallOutcome). o .answer) (carried-no e));
-        table = sym (ap (λ (o : CallOutcome). o .table) (carried-no e));
+        table = sym (ap (λ (o : CallOutcome). o .after .table) (carried-no e));
       }
 
-  pub carried-taken : (found : Evicted) → Evicts h clock jobs (cell h t) found → found .fits ≡ true → (needs : List ℕ) (k : ℕ) (late : List ℕ) {u : List ℕ}
-      → inLimits (h .slots) (h .bridges) k (length t) ≡ true
+  pub carried-taken : (found : Evicted) → Evicts h (st .clock) jobs (cell h (st .table)) found → found .fits ≡ true → (needs : List ℕ) (k : ℕ) (late : List ℕ) {u : List ℕ}
+      → inLimits (h .slots) (h .bridges) k (length (st .table)) ≡ true
       → lengths jobs ≡ take k needs
       → ((i : ℕ) → i < length jobs → at late i ≡ callCell (jobAt jobs i .number))
-      → u ≡ placedWithin (h .slots) (h .bridges) (found .free) needs k (replicate 32 0) late late t
-      → CarriedOut h clock jobs t u (Taken (found .count))
+      → u ≡ placedWithin (h .slots) (h .bridges) (found .free) needs k (replicate 32 0) late late (st .table)
+      → CarriedOut h jobs st u (Taken (found .count))
   carried-taken found ev fits needs k late {u} limits en el eu =
       record {
         answer = ap CallAnswer.taken (ev .count) ∙ sym (ap (λ (o : CallOutcome). o .answer) (carried-yes yes));
         table = eu
-            ∙ placed-within (h .slots) (h .bridges) (found .free) needs k (replicate 32 0) late late t limits
-            ∙ ap (λ (c : List ℕ). placedIn (h .slots) (h .bridges) (found .free) c (replicate 32 0) late late t) (sym en)
-            ∙ placed-called h clock jobs (found .free) (replicate 32 0) late late t (ev .free) (λ i l. zeros 32 i) el
-            ∙ sym (ap (λ (o : CallOutcome). o .table) (carried-yes yes));
+            ∙ placed-within (h .slots) (h .bridges) (found .free) needs k (replicate 32 0) late late (st .table) limits
+            ∙ ap (λ (c : List ℕ). placedIn (h .slots) (h .bridges) (found .free) c (replicate 32 0) late late (st .table)) (sym en)
+            ∙ placed-called h (st .clock) jobs (found .free) (replicate 32 0) late late (st .table) (ev .free) (λ i l. zeros 32 i) el
+            ∙ sym (ap (λ (o : CallOutcome). o .after .table) (carried-yes yes));
       }
     where
-      yes : callFits h clock jobs (cell h t) ≡ true
+      yes : callFits h (st .clock) jobs (cell h (st .table)) ≡ true
       yes = sym (ev .fits) ∙ fits
 
 -- ---- the outcome
 
-module _ (h : Head) (clock : ℕ) (jobs : List Job) (t : List ℕ) where
-  of-stopped : (r : Refusal) → firstOf (frameCauses h clock t ++ callCauses h clock jobs (cell h t)) ≡ some r
-      → callOf h clock jobs t ≡ record { answer = CallAnswer.refused r; table = t }
+module _ (h : Head) (jobs : List Job) (st : State) where
+  of-stopped : (r : Refusal) → firstOf (frameCauses h st ++ callCauses h (st .clock) jobs (cell h (st .table))) ≡ some r
+      → callOf h jobs st ≡ record { answer = CallAnswer.refused r; after = st }
   unfolding callOf
   of-stopped r e = rw (e, callOf) refl
 
-  of-passed : firstOf (frameCauses h clock t ++ callCauses h clock jobs (cell h t)) ≡ none → callOf h clock jobs t ≡ takenBy h clock jobs t
+  of-passed : firstOf (frameCauses h st ++ callCauses h (st .clock) jobs (cell h (st .table))) ≡ none → callOf h jobs st ≡ takenBy h jobs st
   unfolding callOf
   of-passed e = rw (e, callOf) refl
 
-module _ (head : record-of-head.Head) (ps : List record-of-preset.Preset) (clock : ℕ) (jobs : List Job) (t : List ℕ) where
+module _ (head : record-of-head.Head) (ps : List record-of-preset.Preset) (jobs : List Job) (st : State) where
   abbrev h″ : Head
   h″ = headIn head ps
 
-  meant-stopped : (r : Refusal) → firstOf (causesOf head ps t) ≡ some r → callMeant head ps clock jobs t ≡ record { answer = CallAnswer.refused r; table = t }
+  meant-stopped : (r : Refusal) → firstOf (causesOf head ps (st .table)) ≡ some r → callMeant head ps jobs st ≡ record { answer = CallAnswer.refused r; after = st }
   unfolding callMeant
   meant-stopped r e = rw (e, callMeant) refl
 
-  meant-call : firstOf (causesOf head ps t) ≡ none → callMeant head ps clock jobs t ≡ callOf h″ clock jobs t
+  meant-call : firstOf (causesOf head ps (st .table)) ≡ none → callMeant head ps jobs st ≡ callOf h″ jobs st
   unfolding callMeant
   meant-call e = rw (e, callMeant) refl
 
   -- a cause of the frame is met
-  call-stopped : (r : Refusal) → firstOf (frameCausesOf head ps clock t) ≡ some r
-      → callMeant head ps clock jobs t ≡ record { answer = CallAnswer.refused r; table = t }
-  call-stopped r e = go (firstOf (causesOf head ps t)) refl
+  call-stopped : (r : Refusal) → firstOf (frameCausesOf head ps st) ≡ some r
+      → callMeant head ps jobs st ≡ record { answer = CallAnswer.refused r; after = st }
+  call-stopped r e = go (firstOf (causesOf head ps (st .table))) refl
     where
-      go : (o : Option Refusal) → firstOf (causesOf head ps t) ≡ o → callMeant head ps clock jobs t ≡ record { answer = CallAnswer.refused r; table = t }
+      go : (o : Option Refusal) → firstOf (causesOf head ps (st .table)) ≡ o → callMeant head ps jobs st ≡ record { answer = CallAnswer.refused r; after = st }
       go none q =
           meant-call q
-          ∙ of-stopped h″ clock jobs t r
-          (append-some (frameCauses h″ clock t) (callCauses h″ clock jobs (cell h″ t)) r (sym (same-frame head ps clock t q) ∙ e))
+          ∙ of-stopped h″ jobs st r
+          (append-some (frameCauses h″ st) (callCauses h″ (st .clock) jobs (cell h″ (st .table))) r (sym (same-frame head ps st q) ∙ e))
       go (some p) q =
-          let w : some p ≡ some r = sym (append-some (causesOf head ps t) (eleven head ps clock t) p q) ∙ e in
+          let w : some p ≡ some r = sym (append-some (causesOf head ps (st .table)) (eleven head ps st) p q) ∙ e in
           meant-stopped r (q ∙ w)
 
   -- ---- a law for each answer
 
-  refused-done : (q : refusal.Refusal) → callMeant head ps clock jobs t ≡ record { answer = CallAnswer.refused (refusalIn q); table = t }
-      → CallDone head ps clock jobs t t (Refused q)
+  refused-done : (q : refusal.Refusal) → callMeant head ps jobs st ≡ record { answer = CallAnswer.refused (refusalIn q); after = st }
+      → CallDone head ps jobs st (st .table) (Refused q)
   refused-done q e =
-      record { answer = sym (ap (λ (o : CallOutcome). o .answer) e); table = sym (ap (λ (o : CallOutcome). o .table) e) }
+      record { answer = sym (ap (λ (o : CallOutcome). o .answer) e); table = sym (ap (λ (o : CallOutcome). o .after .table) e) }
 
   -- a cause of the frame is met
-  pub frame-refused : {w : cause.Cause} (q : refusal.Refusal) → causeIn w ≡ firstOf (frameCausesOf head ps clock t) → w ≡ Met q → CallDone head ps clock jobs t t (Refused q)
+  pub frame-refused : {w : cause.Cause} (q : refusal.Refusal) → causeIn w ≡ firstOf (frameCausesOf head ps st) → w ≡ Met q → CallDone head ps jobs st (st .table) (Refused q)
   frame-refused q e m = refused-done q (call-stopped (refusalIn q) (sym e ∙ ap causeIn m))
 
-  module _ (v : validRecord head ps ≡ true) (run : Running h″ clock t) where
+  module _ (v : validRecord head ps ≡ true) (run : Running h″ st) where
     abbrev own : List (Option Refusal)
-    own = callCauses h″ clock jobs (cell h″ t)
+    own = callCauses h″ (st .clock) jobs (cell h″ (st .table))
 
-    only-own : firstOf (frameCauses h″ clock t ++ own) ≡ firstOf own
-    only-own = append-none (frameCauses h″ clock t) own (of-running h″ clock t run)
+    only-own : firstOf (frameCauses h″ st ++ own) ≡ firstOf own
+    only-own = append-none (frameCauses h″ st) own (of-running h″ st run)
 
-    meant : callMeant head ps clock jobs t ≡ callOf h″ clock jobs t
-    meant = meant-call (causes-none head ps t (run .long) v)
+    meant : callMeant head ps jobs st ≡ callOf h″ jobs st
+    meant = meant-call (causes-none head ps (st .table) (run .long) v)
 
     -- a cause of the call is met
-    pub counted-refused : {w : cause.Cause} (q : refusal.Refusal) → causeIn w ≡ firstOf own → w ≡ Met q → CallDone head ps clock jobs t t (Refused q)
-    counted-refused q e m = refused-done q (meant ∙ of-stopped h″ clock jobs t (refusalIn q) (only-own ∙ sym e ∙ ap causeIn m))
+    pub counted-refused : {w : cause.Cause} (q : refusal.Refusal) → causeIn w ≡ firstOf own → w ≡ Met q → CallDone head ps jobs st (st .table) (Refused q)
+    counted-refused q e m = refused-done q (meant ∙ of-stopped h″ jobs st (refusalIn q) (only-own ∙ sym e ∙ ap causeIn m))
 
     -- none is, so that the call fits
-    fits : firstOf own ≡ none → callFits h″ clock jobs (cell h″ t) ≡ true
+    fits : firstOf own ≡ none → callFits h″ (st .clock) jobs (cell h″ (st .table)) ≡ true
     fits e =
-        let before = append-left-none (jobCauses h″ jobs (cell h″ t)) seven e in
-        true-of-not _ (first-none callNotFeasible (not (callFits h″ clock jobs (cell h″ t))) [] (sym (append-none (jobCauses h″ jobs (cell h″ t)) seven before) ∙ e) .0)
+        let before = append-left-none (jobCauses h″ jobs (cell h″ (st .table))) seven e in
+        true-of-not _ (first-none callNotFeasible (not (callFits h″ (st .clock) jobs (cell h″ (st .table)))) [] (sym (append-none (jobCauses h″ jobs (cell h″ (st .table))) seven before) ∙ e) .0)
       where
         seven : List (Option Refusal)
-        seven = try callNotFeasible (not (callFits h″ clock jobs (cell h″ t))) ∷ []
+        seven = try callNotFeasible (not (callFits h″ (st .clock) jobs (cell h″ (st .table)))) ∷ []
 
     pub counted-done : {w : cause.Cause} {js : List Job} {u : List ℕ} {r : reply.CallAnswer} → causeIn w ≡ firstOf own → w ≡ Passed → jobs ≡ js
-        → CarriedOut h″ clock js t u r → CallDone head ps clock jobs t u r
+        → CarriedOut h″ js st u r → CallDone head ps jobs st u r
     counted-done {w} {js} {u} {r} e m same d =
         let free = sym e ∙ ap causeIn m in
-        let o : callMeant head ps clock jobs t ≡ carriedOut h″ clock js t =
+        let o : callMeant head ps jobs st ≡ carriedOut h″ js st =
         meant
-        ∙ of-passed h″ clock jobs t (only-own ∙ free)
-        ∙ sym (carried-yes h″ clock jobs t (fits free))
-        ∙ ap (λ (l : List Job). carriedOut h″ clock l t) same in
+        ∙ of-passed h″ jobs st (only-own ∙ free)
+        ∙ sym (carried-yes h″ jobs st (fits free))
+        ∙ ap (λ (l : List Job). carriedOut h″ l st) same in
         record {
           answer = d .answer ∙ sym (ap (λ (x : CallOutcome). x .answer) o);
-          table = d .table ∙ sym (ap (λ (x : CallOutcome). x .table) o);
+          table = d .table ∙ sym (ap (λ (x : CallOutcome). x .after .table) o);
         }
 
     -- the answer and the table of a call that none is met by
-    counted-answer : {w : cause.Cause} → causeIn w ≡ firstOf own → w ≡ Passed → callOf h″ clock jobs t .answer ≡ CallAnswer.taken (ones (evictedSet h″ clock jobs (cell h″ t)))
-    counted-answer e m = ap (λ (o : CallOutcome). o .answer) (of-passed h″ clock jobs t (only-own ∙ sym e ∙ ap causeIn m))
+    counted-answer : {w : cause.Cause} → causeIn w ≡ firstOf own → w ≡ Passed → callOf h″ jobs st .answer ≡ CallAnswer.taken (ones (evictedSet h″ (st .clock) jobs (cell h″ (st .table))))
+    counted-answer e m = ap (λ (o : CallOutcome). o .answer) (of-passed h″ jobs st (only-own ∙ sym e ∙ ap causeIn m))
 
-    counted-table : {u : List ℕ} {r : reply.CallAnswer} → CallDone head ps clock jobs t u r → u ≡ callOf h″ clock jobs t .table
-    counted-table d = d .table ∙ ap (λ (o : CallOutcome). o .table) meant
+    counted-table : {u : List ℕ} {r : reply.CallAnswer} → CallDone head ps jobs st u r → u ≡ callOf h″ jobs st .after .table
+    counted-table d = d .table ∙ ap (λ (o : CallOutcome). o .after .table) meant
 
 -- ---- the counts afterwards
 
 -- the numbers of the jobs were marked and counted, and the capacities counted anew
-pub counted-after : (head : record-of-head.Head) (ps : List record-of-preset.Preset) (clock : ℕ) (js : List record-of-job.Job) (n : ℕ) (t : List ℕ) → length js ≡ 8
-    → validRecord head ps ≡ true → Running (headIn head ps) clock t
-    → {w : cause.Cause} → causeIn w ≡ firstOf (callCauses (headIn head ps) clock (callJobs n js) (cell (headIn head ps) t)) → w ≡ Passed
-    → {u : List ℕ} {r : reply.CallAnswer} → CallDone head ps clock (callJobs n js) t u r
-    → {marks after xs ys : List ℕ} {held : ℕ} → CountsOf (headIn head ps) clock (cell (headIn head ps) t) marks held xs
+pub counted-after : (head : record-of-head.Head) (ps : List record-of-preset.Preset) (js : List record-of-job.Job) (n : ℕ) (st : State) → length js ≡ 8
+    → validRecord head ps ≡ true → Running (headIn head ps) st
+    → {w : cause.Cause} → causeIn w ≡ firstOf (callCauses (headIn head ps) (st .clock) (callJobs n js) (cell (headIn head ps) (st .table))) → w ≡ Passed
+    → {u : List ℕ} {r : reply.CallAnswer} → CallDone head ps (callJobs n js) st u r
+    → {marks after xs ys : List ℕ} {held : ℕ} → CountsOf (headIn head ps) (st .clock) (cell (headIn head ps) (st .table)) marks held xs
     → (length marks ≡ 256 → n ≤ 8 → MarkedBeside (λ i. jobNumber js i % 256) marks n after)
-    → (inLimits (head .slots) (head .bridges) 0 (length u) ≡ true → CapacitiesAt u (head .slots) (head .bridges) clock ys)
-    → CountsOf (headIn head ps) clock (cell (headIn head ps) u) after (held + n) ys
-counted-after head ps clock js n t long v run e m {u} d {after = after} {ys = ys} {held = held} was marks counted =
+    → (inLimits (head .slots) (head .bridges) 0 (length u) ≡ true → CapacitiesAt u (head .slots) (head .bridges) (st .clock) ys)
+    → CountsOf (headIn head ps) (st .clock) (cell (headIn head ps) u) after (held + n) ys
+counted-after head ps js n st long v run e m {u} d {after = after} {ys = ys} {held = held} was marks counted =
     let h = headIn head ps in
     let valid = record-valid head ps v in
-    let known = cause-known js long n h clock (cell h t) (sym e ∙ ap causeIn m) in
+    let known = cause-known js long n h (st .clock) (cell h (st .table)) (sym e ∙ ap causeIn m) in
     let same = call-jobs js long n (known .0) in
-    let table : u ≡ callOf h clock (jobsIn n js) t .table =
-    counted-table head ps clock (callJobs n js) t v run d ∙ ap (λ (l : List Job). callOf h clock l t .table) same in
-    let taken = ap (λ (l : List Job). callOf h clock l t .answer) (sym same) ∙ counted-answer head ps clock (callJobs n js) t v run e m in
-    let size : 512 ≤ length u = omega (arith, ap length table, call-claim h clock (jobsIn n js) t .past .long, run .long) in
+    let table : u ≡ callOf h (jobsIn n js) st .after .table =
+    counted-table head ps (callJobs n js) st v run d ∙ ap (λ (l : List Job). callOf h l st .after .table) same in
+    let taken = ap (λ (l : List Job). callOf h l st .answer) (sym same) ∙ counted-answer head ps (callJobs n js) st v run e m in
+    let size : 512 ≤ length u = omega (arith, ap length table, call-claim h (jobsIn n js) st .past .long, run .long) in
     let free = counted (in-limits (head .slots) (head .bridges) 0 (length u) (valid .slots-high) (valid .bridges-high) (omega arith) size) in
-    subst (λ (l : List ℕ). CountsOf h clock (cell h l) after (held + n) ys) (sym table)
-    (counts-taken h clock t js long n (known .0) (known .1) taken was (marks (was .marks-long) (known .0))
-    (subst (λ (l : List ℕ). CapacitiesAt l (head .slots) (head .bridges) clock ys) table free))
+    subst (λ (l : List ℕ). CountsOf h (st .clock) (cell h l) after (held + n) ys) (sym table)
+    (counts-taken h st js long n (known .0) (known .1) taken was (marks (was .marks-long) (known .0))
+    (subst (λ (l : List ℕ). CapacitiesAt l (head .slots) (head .bridges) (st .clock) ys) table free))

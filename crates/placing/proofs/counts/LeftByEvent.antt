@@ -2,7 +2,7 @@
 --
 -- In order: the clock moved (`counts-passed`); a call was taken (`counts-taken`).
 -- Assumes nothing.
-use Prim.Native.Nat.{ℕ, _+_, _%_, _≤_, _<_}
+use Prim.Native.Nat.{ℕ, _+_, _%_, _≤_}
 use native.Mathlib.Omega.{arith}
 use mathlib.Core.Path.{_≡_, sym, _∙_, ap, ap₂}
 use mathlib.Core.Bool.{Bool, false, _||_}
@@ -14,11 +14,12 @@ use Rattle.laws.proofs.Counts.{count-ext}
 use Rattle.station.specs.Head.{Head, Job}
 use Rattle.station.specs.declared.types.Job as record-job
 use Rattle.placing.specs.Table.{cell, isUsed}
+use Rattle.placing.specs.State.{State}
 use Rattle.placing.specs.Types.{jobsIn}
 use Rattle.placing.specs.Outcomes.{jobsOutside, CallAnswer, callOf}
 use Rattle.placing.proofs.UsedNumbers.{numberOf, isOneOf, left-isUsed, left-jobCount}
 use Rattle.placing.proofs.ClaimsHold.{call-accepted, call-claim}
-use Rattle.placing.specs.method.Jobs.{jobNumber, marked}
+use Rattle.placing.specs.method.Jobs.{jobNumber}
 use Rattle.placing.specs.method.Counts.{CountsOf, CapacitiesAt, MarkedBeside}
 use Rattle.placing.proofs.counts.MarkedNumbers.{or-comm}
 use Rattle.placing.proofs.counts.usable.UsableCells.{capacity-is}
@@ -38,7 +39,7 @@ counts-passed h c d t was passed =
     }
 
 -- a call of the first n jobs was taken
-module _ (h : Head) (clock : ℕ) (t : List ℕ) (js : List record-job.Job) (long : length js ≡ 8) (n : ℕ) (few : n ≤ 8) (e : jobsOutside (jobsIn n js) ≡ false) where
+module _ (h : Head) (st : State) (js : List record-job.Job) (long : length js ≡ 8) (n : ℕ) (few : n ≤ 8) (e : jobsOutside (jobsIn n js) ≡ false) where
   abbrev jobs : List Job
   jobs = jobsIn n js
 
@@ -53,23 +54,23 @@ module _ (h : Head) (clock : ℕ) (t : List ℕ) (js : List record-job.Job) (lon
       let same : numberOf jobs i ≡ jobNumber js i % 256 = omega (arith, number-of js long n few i l) in
       ap (λ (k : ℕ). eqb k m) same))
 
-  pub counts-taken : {q : ℕ} {marks after xs ys : List ℕ} {held : ℕ} → callOf h clock jobs t .answer ≡ CallAnswer.taken q
-      → CountsOf h clock (cell h t) marks held xs
+  pub counts-taken : {q : ℕ} {marks after xs ys : List ℕ} {held : ℕ} → callOf h jobs st .answer ≡ CallAnswer.taken q
+      → CountsOf h (st .clock) (cell h (st .table)) marks held xs
       → MarkedBeside (λ i. jobNumber js i % 256) marks n after
-      → CapacitiesAt (callOf h clock jobs t .table) (h .slots) (h .bridges) clock ys
-      → CountsOf h clock (cell h (callOf h clock jobs t .table)) after (held + n) ys
+      → CapacitiesAt (callOf h jobs st .after .table) (h .slots) (h .bridges) (st .clock) ys
+      → CountsOf h (st .clock) (cell h (callOf h jobs st .after .table)) after (held + n) ys
   counts-taken {q} {marks} {held = held} taken was beside x =
-      let known = call-accepted h clock jobs t q taken in
-      let u = cell h (callOf h clock jobs t .table) in
-      let valid = call-claim h clock jobs t .valid q taken in
+      let known = call-accepted h jobs st q taken in
+      let u = cell h (callOf h jobs st .after .table) in
+      let valid = call-claim h jobs st .valid q taken in
       record {
         marks-long = beside .long;
         used = λ m l.
             beside .which m l
             ∙ ap₂ (λ (a b : Bool). a || b) (sym (numbers-are m)) (was .used m l)
-            ∙ or-comm (isOneOf (length jobs) (numberOf jobs) m) (isUsed h (cell h t) m)
-            ∙ sym (left-isUsed h clock jobs (cell h t) u (known .1) valid (known .2) m);
-        jobs = omega (arith, was .jobs, left-jobCount h clock jobs (cell h t) u (known .1) valid (known .2), jobs-length js long n few);
+            ∙ or-comm (isOneOf (length jobs) (numberOf jobs) m) (isUsed h (cell h (st .table)) m)
+            ∙ sym (left-isUsed h (st .clock) jobs (cell h (st .table)) u (known .1) valid (known .2) m);
+        jobs = omega (arith, was .jobs, left-jobCount h (st .clock) jobs (cell h (st .table)) u (known .1) valid (known .2), jobs-length js long n few);
         long = x .long;
-        capacities = λ k l. x .right k l ∙ capacity-is h clock (callOf h clock jobs t .table) k;
+        capacities = λ k l. x .right k l ∙ capacity-is h (st .clock) (callOf h jobs st .after .table) k;
       }

@@ -1,15 +1,15 @@
 -- The check of a table as the code does it: in one pass over the cells, each by the cells before it and the presets' numbers, then by the presets and by
 -- the number of jobs. That it is the test `wellFormed` of specs/Table.antt is proved in proofs/check/table/SameTest.antt. Document 01, "The table".
 -- Assumes nothing.
-use Prim.Native.Nat.{ℕ, zero, suc, _+_, _*_, _-_, _≤_}
+use Prim.Native.Nat.{ℕ, zero, suc, _+_, _*_, _-_, _≤_, _<_}
 use mathlib.Core.Path.{_≡_}
-use mathlib.Core.Bool.{Bool, not, cond, _&&_, _||_}
+use mathlib.Core.Bool.{Bool, true, false, not, cond, _&&_, _||_}
 use mathlib.Core.List.{List}
-use lib.ListN.{length, getD, set, replicate}
+use lib.ListN.{getD, set, replicate}
 use lib.Dec.{ltb, leb, eqb}
 use Rattle.laws.specs.Sums.{count, every}
 use Rattle.station.specs.Head.{Head, Preset, taken, noPreset}
-use Rattle.placing.specs.Table.{numberIn, presetCount}
+use Rattle.placing.specs.Table.{numberIn, presetCount, eachCell}
 
 -- ---- counts
 
@@ -34,7 +34,7 @@ tally t n = counted 768 (λ i. placeOf (getD t i 0)) n
 unfoldable pub numbered : List Preset → ℕ → List ℕ
 numbered ps n = counted 256 (λ i. getD ps i noPreset .number) n
 
--- ---- a slot
+-- ---- a cell
 
 -- What one cell may hold, by the counts `ns` of the presets' numbers and the counts c of the cells before it: busy just where the head says so; else empty, a
 -- call cell with a number that no preset has, an optional cell of a preset, or a mandatory one that has no optional cell before it.
@@ -53,18 +53,19 @@ differs t start n a = ltb (getD t (start + a) 0) 512 || not (eqb (numberIn (getD
 abbrev pub isNew : List ℕ → ℕ → ℕ → Bool
 isNew t start b = ltb (getD t (start + b) 0) 512 || every b (differs t start (numberIn (getD t (start + b) 0)))
 
--- cell (s, b) of a frame with these bridges and busy masks, by the cells before it; then the whole slot
+-- cell (s, b) of a frame with these bridges and busy masks, by the cells before it
 abbrev pub fitsAt : ℕ → List ℕ → List ℕ → List ℕ → ℕ → ℕ → Bool
 fitsAt bridges busy ns t s b =
     cellFits ns (tally t (s * bridges + b)) (taken (getD busy b 0) s) (getD t (s * bridges + b) 0) && isNew t (s * bridges) b
 
-unfoldable pub slotFits : ℕ → List ℕ → List ℕ → List ℕ → ℕ → Bool
-slotFits bridges busy ns t s = every bridges (fitsAt bridges busy ns t s)
+-- ---- the first cell at fault
 
--- For each number one more than the last slot that has it, or 0. Before slot s none is above s.
-pub record Marks (s : ℕ) (last : List ℕ) : Type 0 where
-  pub size : length last ≡ 256
-  pub most : (n : ℕ) → getD last n 0 ≤ s
+-- Document 01: "scan of slots and bridges stops at the first cell at fault". `at` is the place of the first cell, slot by slot and in each slot bridge by bridge,
+-- that does not fit by the cells before it; where every cell fits, it is the number of the frame's cells.
+pub record FirstFault (slots bridges : ℕ) (busy ns t : List ℕ) (at : ℕ) : Type 0 where
+  pub most : at ≤ slots * bridges
+  pub before : (s b : ℕ) → b < bridges → s * bridges + b < at → fitsAt bridges busy ns t s b ≡ true
+  pub fault : (s b : ℕ) → s < slots → b < bridges → s * bridges + b ≡ at → fitsAt bridges busy ns t s b ≡ false
 
 -- ---- the presets and the jobs, by the counts of the whole table
 
@@ -84,6 +85,6 @@ hasCall c n = ltb 0 (getD c (512 + n) 0)
 -- "A sound table has ..": what the code computes of a head and a table
 unfoldable pub checked : Head → List ℕ → Bool
 checked h t =
-    every (h .slots) (slotFits (h .bridges) (h .busy) (numbered (h .presets) (presetCount h)) t)
+    eachCell h (fitsAt (h .bridges) (h .busy) (numbered (h .presets) (presetCount h)) t)
     && every (presetCount h) (presetMet (h .presets) (tally t (h .slots * h .bridges)))
     && leb (count 256 (hasCall (tally t (h .slots * h .bridges)))) 64

@@ -13,7 +13,7 @@ ghost use Prim.Native.Nat.{_+_, _*_, _<_, _≤_};
 ghost use lib.ListN.{length};
 ghost use Rattle.laws.specs.Sums.{every, count};
 ghost use Rattle.station.specs.Types.{headIn, presetIn, validRecord};
-ghost use Rattle.placing.specs.method.Check.{tally, numbered, cellFits, slotFits, Marks, isMet, presetMet, hasCall};
+ghost use Rattle.placing.specs.method.Check.{tally, numbered, cellFits, FirstFault, isMet, presetMet, hasCall};
 ghost use Rattle.placing.specs.Table.{cell, wellFormed};
 
 // The cells that have numbers are counted by value, from the first mandatory cell on: how many counts there are, and where those of the optional and of the
@@ -54,42 +54,39 @@ fn cell_fits(v: u16, busy: bool, numbers: &[u8; 256], counts: &[u16; COUNTS]) ->
     counts[optional] == 0
 }
 
-// Whether every cell of the slot may stand there, by the cells before it. Those that have numbers are counted, and their numbers get the slot's mark in `last`,
-// so that a number which has it already stands in the slot twice.
-fn slot_fits(
-    table: &[u16],
-    slot: usize,
-    bridges: usize,
-    busy: &[u64; 8],
-    numbers: &[u8; 256],
-    counts: &mut [u16; COUNTS],
-    last: &mut [u8; 256],
-) -> bool
-    requires { ⌜ (slot < 64) × (bridges ≤ 8) × (512 ≤ length (now table)) × (now counts ≡ tally (now table) (slot * bridges)) × Marks slot (now last) ⌝ }
-    ensures { λ r. ⌜ (r ≡ slotFits bridges (now (busy .entry)) (now (numbers .entry)) (now (table .entry)) slot) × (r ≡ true → now (counts .exit) ≡ tally (now (table .entry)) (slot * bridges + bridges)) × Marks (slot + 1) (now (last .exit)) ⌝ }
+// The first cell at fault, slot by slot and in each slot bridge by bridge, as its place in the table; the number of the frame's cells where none is. Each cell is
+// judged by the cells before it, so those behind the first at fault are not looked at. The cells before it that have numbers are counted, and their numbers get the
+// slot's mark in `last`, so that a number which has it already stands in the slot twice.
+fn scan(head: Head, numbers: &[u8; 256], table: &[u16], counts: &mut [u16; COUNTS]) -> usize
+    requires { ⌜ (head .slots ≤ 64) × (head .bridges ≤ 8) × (512 ≤ length (now table)) × (now counts ≡ tally (now table) 0) ⌝ }
+    ensures { λ r. ⌜ FirstFault (head .slots) (head .bridges) (head .busy) (now (numbers .entry)) (now (table .entry)) r × (now (counts .exit) ≡ tally (now (table .entry)) r) ⌝ }
 {
-    let start = slot * bridges;
-    let mark = slot as u8 + 1;
-    let mut b = 0;
-    while b < bridges {
-        let at = start + b;
-        let v = table[at];
-        let taken = (busy[b] >> slot) % 2 == 1;
-        if !cell_fits(v, taken, numbers, counts) {
-            return false;
-        }
-        if MANDATORY <= v {
-            let n = number_in(v);
-            if last[n] == mark {
-                return false;
+    let slots = head.slots;
+    let bridges = head.bridges;
+    let busy = head.busy;
+    let mut last = [0u8; 256];
+    let mut at = 0;
+    'frame: for s in 0..slots {
+        let mark = s as u8 + 1;
+        for b in 0..bridges {
+            let v = table[at];
+            let taken = (busy[b] >> s) % 2 == 1;
+            if !cell_fits(v, taken, numbers, counts) {
+                break 'frame;
             }
-            last[n] = mark;
-            let place = (v - MANDATORY) as usize;
-            counts[place] += 1;
+            if MANDATORY <= v {
+                let n = number_in(v);
+                if last[n] == mark {
+                    break 'frame;
+                }
+                last[n] = mark;
+                let place = (v - MANDATORY) as usize;
+                counts[place] += 1;
+            }
+            at += 1;
         }
-        b += 1;
     }
-    true
+    at
 }
 
 // How many presets have each number.
@@ -153,23 +150,16 @@ fn job_count(counts: &[u16; COUNTS]) -> u16
     jobs
 }
 
-// Whether the table is well-formed: slot by slot, each cell by the cells before it, then by the presets and by the number of jobs.
+// Whether the table is well-formed: no cell at fault, then the presets' counts, then the number of jobs.
 pub fn well_formed(head: Head, presets: [Preset; 32], table: &[u16]) -> bool
     requires { ⌜ (validRecord head presets ≡ true) × (512 ≤ length (now table)) ⌝ }
     ensures { λ r. ⌜ r ≡ wellFormed (headIn head presets) (cell (headIn head presets) (now (table .entry))) ⌝ }
 {
-    let slots = head.slots;
-    let bridges = head.bridges;
-    let busy = head.busy;
+    let cells = head.slots * head.bridges;
     let numbers = preset_numbers(head, presets);
     let mut counts = [0u16; COUNTS];
-    let mut last = [0u8; 256];
-    let mut s = 0;
-    while s < slots {
-        if !slot_fits(table, s, bridges, &busy, &numbers, &mut counts, &mut last) {
-            return false;
-        }
-        s += 1;
+    if scan(head, &numbers, table, &mut counts) < cells {
+        return false;
     }
     if !presets_met(head, presets, &counts) {
         return false;

@@ -92,7 +92,7 @@ fn jobs_fit(capacities: &[usize; 9], jobs: [Job; 8], n: usize) -> bool
 
 // The causes of a call of the first n jobs itself, by the counts of the table and the clock: 2 for a ninth job, for none, or for one outside its limits, 4 for a number
 // that is used or twice in the call, 9 for more than 64 job numbers, 7 where the call does not fit.
-pub fn cause_by_counts(
+pub(crate) fn cause_by_counts(
     used: &[u8; 256],
     held: usize,
     capacities: &[usize; 9],

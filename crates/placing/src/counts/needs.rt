@@ -10,7 +10,7 @@ ghost use Rattle.placing.specs.Call.{lengths};
 ghost use Rattle.placing.specs.Outcomes.{jobsOutside};
 
 // The lengths of the eight job records, and 0 past them. Of jobs within their limits they are the jobs' own.
-pub fn job_needs(jobs: [Job; 8]) -> [u8; 32]
+pub(crate) fn job_needs(jobs: [Job; 8]) -> [u8; 32]
     ensures { λ r. ⌜ ((n : ℕ) → n ≤ 8 → jobsOutside (jobsIn n jobs) ≡ false → lengths (jobsIn n jobs) ≡ take n r) ⌝ }
 {
     let mut all = [0u8; 32];

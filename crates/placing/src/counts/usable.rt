@@ -11,6 +11,7 @@ ghost use mathlib.Core.Bool.{true};
 ghost use lib.ListN.{length, getD};
 ghost use Rattle.laws.specs.Sums.{bit};
 ghost use Rattle.laws.specs.method.Capacities.{ByFree};
+ghost use Rattle.placing.specs.Valid.{clockIn};
 ghost use Rattle.placing.specs.method.Limits.{inLimits};
 ghost use Rattle.placing.specs.method.Counts.{freeCell, freeIn, slotFree, CapacitiesAt};
 
@@ -61,8 +62,8 @@ fn count_slots(table: &[u16], slots: usize, bridges: usize, clock: usize) -> [us
     with
 }
 
-// The capacities for 0 to 8 of the cells that a call may use, of a table and a clock. Beyond the limits all are 0.
-pub fn capacities_at(slots: usize, bridges: usize, table: &[u16], clock: usize) -> [usize; 9]
+// The capacities for 0 to 8 of the cells that a call may use, of a table and a clock within the limits.
+pub(crate) fn capacities_at(slots: usize, bridges: usize, table: &[u16], clock: usize) -> [usize; 9]
     ensures { λ r. ⌜ (inLimits slots bridges 0 (length (now (table .entry))) ≡ true → CapacitiesAt (now (table .entry)) slots bridges clock r) ⌝ }
 {
     if !in_limits(slots, bridges, 0, table.len()) {
@@ -83,7 +84,8 @@ fn take_slot(capacities: &mut [usize; 9], x: usize)
     }
 }
 
-// Takes the slots from one clock up to another off the capacities: a call cannot use them any more. Beyond the limits nothing changes.
+// Takes the slots from one clock up to another off the capacities: a call cannot use them any more. It promises something
+// within the limits, where the second clock is not below the first, and is safe for every other input.
 pub fn pass_slots(
     slots: usize,
     bridges: usize,
@@ -92,7 +94,7 @@ pub fn pass_slots(
     to: usize,
     capacities: &mut [usize; 9],
 )
-    ensures { λ _. ⌜ (inLimits slots bridges 0 (length (now (table .entry))) ≡ true → 1 ≤ from → from ≤ to → to ≤ slots + 1
+    ensures { λ _. ⌜ (inLimits slots bridges 0 (length (now (table .entry))) ≡ true → clockIn slots from ≡ true → clockIn slots to ≡ true → from ≤ to
         → CapacitiesAt (now (table .entry)) slots bridges from (now (capacities .entry)) → CapacitiesAt (now (table .entry)) slots bridges to (now (capacities .exit))) ⌝ }
 {
     if !in_limits(slots, bridges, 0, table.len()) {

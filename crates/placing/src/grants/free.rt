@@ -30,7 +30,7 @@ fn slot_free(busy: &[u64; 8], bridges: usize, s: usize) -> u8
 }
 
 // The bridges that a plan may use in each slot of the frame; 0 past the frame.
-pub fn plan_free(head: Head) -> [u8; 64]
+pub(crate) fn plan_free(head: Head) -> [u8; 64]
     requires { ⌜ (head .slots ≤ 64) × (head .bridges ≤ 8) ⌝ }
     ensures { λ r. ⌜ r ≡ freeMasks (head .slots) (head .bridges) (head .busy) ⌝ }
 {

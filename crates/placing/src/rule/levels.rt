@@ -13,7 +13,7 @@ ghost use Rattle.station.specs.Head.{taken};
 ghost use Rattle.placing.specs.method.Rule.{without, firstOf, Levelled, Served};
 
 // Puts the first k jobs into levels in which nobody stands, and answers the highest level of a job, or 0.
-pub fn enter(levels: &mut [u32; 256], needs: &[u8; 32], k: usize) -> usize
+pub(crate) fn enter(levels: &mut [u32; 256], needs: &[u8; 32], k: usize) -> usize
     requires { ⌜ (k ≤ 32) × (now levels ≡ replicate 256 0) ⌝ }
     ensures { λ r. ⌜ (length (now (levels .exit)) ≡ 256)
         × ((l i : ℕ) → taken (at (now (levels .exit)) l) i ≡ (ltb i k && eqb (at (now (needs .entry)) i) l))
@@ -31,7 +31,7 @@ pub fn enter(levels: &mut [u32; 256], needs: &[u8; 32], k: usize) -> usize
 }
 
 // The highest level from `from` down in which somebody stands that is not in the mask `served`, or 0.
-pub fn highest(levels: &[u32; 256], from: usize, served: u32) -> usize
+pub(crate) fn highest(levels: &[u32; 256], from: usize, served: u32) -> usize
     requires { ⌜ from < 256 ⌝ }
     ensures { λ r. ⌜ (r ≤ from) × ((l : ℕ) → r < l → l ≤ from → without (at (now (levels .entry)) l) served ≡ 0) ⌝ }
 {
@@ -47,7 +47,7 @@ pub fn highest(levels: &[u32; 256], from: usize, served: u32) -> usize
 }
 
 // The first jobs of a mask, and how many more were asked for.
-pub struct First {
+pub(crate) struct First {
     pub jobs: u32,
     pub more: u32,
 }
@@ -75,7 +75,7 @@ fn first_of(mask: u32, d: u32) -> First
 }
 
 // The jobs that get one of d cells, where nobody stands above level `top`. Each of them moves to the level below; there it is passed over, since it has got a cell.
-pub fn choose(levels: &mut [u32; 256], top: usize, d: u32) -> u32
+pub(crate) fn choose(levels: &mut [u32; 256], top: usize, d: u32) -> u32
     requires { ⌜ (top < 256) × (length (now levels) ≡ 256) ⌝ }
     ensures { λ r. ⌜ (length (now (levels .exit)) ≡ 256)
         × ((c : ℕ → ℕ) → Levelled (now (levels .entry)) c → ((i : ℕ) → i < 32 → c i ≤ top) → Served (now (levels .exit)) c d r) ⌝ }

@@ -9,7 +9,7 @@ ghost use Rattle.laws.specs.Sums.{count};
 ghost use Rattle.station.specs.Head.{taken};
 
 // How many of the first `bridges` bridges are free; what the mask has past them does not count.
-pub fn count_free(mask: u8, bridges: usize) -> u32
+pub(crate) fn count_free(mask: u8, bridges: usize) -> u32
     requires { ⌜ bridges ≤ 8 ⌝ }
     ensures { λ r. ⌜ r ≡ count bridges (taken mask) ⌝ }
 {
@@ -17,14 +17,14 @@ pub fn count_free(mask: u8, bridges: usize) -> u32
 }
 
 // The next free bridge, that is the lowest one, or 8 if none is free.
-pub fn next_free(mask: u8) -> usize
+pub(crate) fn next_free(mask: u8) -> usize
     ensures { λ r. ⌜ r ≡ trailingZeros 8 mask ⌝ }
 {
     index(u8::trailing_zeros(mask))
 }
 
 // The mask without its next free bridge, or 0 if none is free.
-pub fn without_next(mask: u8) -> u8
+pub(crate) fn without_next(mask: u8) -> u8
     ensures { λ r. ⌜ r ≡ bitAnd mask (mask - 1) ⌝ }
 {
     if mask == 0 {
@@ -34,14 +34,14 @@ pub fn without_next(mask: u8) -> u8
 }
 
 // The earliest job of a mask, or 32 if there is none.
-pub fn next_job(mask: u32) -> usize
+pub(crate) fn next_job(mask: u32) -> usize
     ensures { λ r. ⌜ r ≡ trailingZeros 32 mask ⌝ }
 {
     index(u32::trailing_zeros(mask))
 }
 
 // A mask without its lowest bit, or 0.
-pub fn without_lowest(mask: u32) -> u32
+pub(crate) fn without_lowest(mask: u32) -> u32
     ensures { λ r. ⌜ r ≡ bitAnd mask (mask - 1) ⌝ }
 {
     if mask == 0 {

@@ -46,7 +46,7 @@ fn empty_row(table: &mut [u16], start: usize, bridges: usize, mask: u8)
 
 // Writes the row that starts at `start`: the free bridges in ascending order take what the chosen jobs write, in their order, or 0; the others keep their cells.
 // A chosen job that finds no free bridge writes nothing. Where the free bridges are empty already, none is emptied: `empties` is then false.
-pub fn write_row(
+pub(crate) fn write_row(
     table: &mut [u16],
     start: usize,
     bridges: usize,

@@ -4,6 +4,7 @@ ghost use mathlib.Core.Path.{_≡_};
 ghost use lib.ListN.{length, getD};
 ghost use lib.Dec.{ltb};
 ghost use Rattle.laws.specs.Sums.{only};
+ghost use Rattle.placing.specs.Valid.{firstSlot};
 ghost use Rattle.placing.specs.method.Search.{emptyMask, slotMask};
 
 // The bit of a bridge in a mask.
@@ -35,8 +36,8 @@ fn empty_mask(table: &[u16], from: usize, bridges: usize) -> u8
 }
 
 // The first slot from the clock on, and `slots` where there is none.
-pub fn first_slot(clock: usize, slots: usize) -> usize
-    ensures { λ r. ⌜ r ≡ min (clock - 1) slots ⌝ }
+pub(crate) fn first_slot(clock: usize, slots: usize) -> usize
+    ensures { λ r. ⌜ r ≡ min (firstSlot clock) slots ⌝ }
 {
     if slots < clock {
         return slots;

@@ -21,9 +21,9 @@ pub(crate) fn excess(sums: &[usize; 9], capacities: &[usize; 9], k: usize) -> us
     most
 }
 
-// By how much the first k needs, at most eight, exceed the cells whose capacities for 0 to 8 are given: 0 exactly if they fit into them. More than eight
-// needs are not looked at.
-pub fn excess_over(needs: [u8; 32], k: usize, capacities: &[usize; 9]) -> usize
+// By how much the first k needs, at most eight, exceed the cells whose capacities for 0 to 8 are given: 0 exactly if they fit into them. Of
+// more than eight it promises nothing.
+pub(crate) fn excess_over(needs: [u8; 32], k: usize, capacities: &[usize; 9]) -> usize
     ensures { λ r. ⌜ (k ≤ 8 → ExcessOver needs k (now (capacities .entry)) r) ⌝ }
 {
     if 8 < k {

@@ -20,7 +20,7 @@ ghost use Rattle.placing.specs.Call.{Place, downward, evictionOrder};
 ghost use Rattle.placing.specs.method.Search.{searchOf, Stands, shortFor, keptIn, walked, Walked, Chain, Chains, Linked, answered, searchable};
 
 // The numbers of a search, beside its arrays, which the walk changes in place.
-pub struct Tally {
+pub(crate) struct Tally {
     pub short: usize,
     pub tight: usize,
     pub evicted: usize,

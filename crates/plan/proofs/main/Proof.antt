@@ -1,14 +1,14 @@
--- `plan::main` is safe: the output has room for every listing, and what is printed is inside it. Assumes nothing.
+-- `plan::main` is safe: the input has room for one byte more than a text may have, the output for every listing, and what is printed is inside it. Assumes nothing.
 use borrow.Author.Needs.{needs}
 use Rattle.plan.proofs.Printed.{array-long}
 use Rattle.plan.proofs.main.Statement.{statement}
 use Rattle.plan.proofs.main.Tie as tie
 
-slice-aggregate-read-full : tie.Need-slice-aggregate-read-full
-slice-aggregate-read-full c = search needs
+slice-aggregate-read-text : tie.Need-slice-aggregate-read-text
+slice-aggregate-read-text c = search needs
 
-read-full-requires : tie.Need-read-full-requires
-read-full-requires c κs = search needs
+read-text-requires : tie.Need-read-text-requires
+read-text-requires c κs = array-long 32769
 
 sub-text : tie.Need-sub-text
 sub-text c = search needs
@@ -47,8 +47,8 @@ pub main-spec : {M : Type 1} → statement M
 main-spec =
     tie.close
     (tie.spec
-    slice-aggregate-read-full
-    read-full-requires
+    slice-aggregate-read-text
+    read-text-requires
     sub-text
     part-text-start
     part-text-end

@@ -36,6 +36,7 @@ use denote.Triple.Spec.{Meets, tripleOf}
 use denote.Triple.Table.{entered, cited}
 use denote.Triple.Walked.{says, Stays, stay-dropped, gave-slice, walkOf, goes-dropped, goes-gave-slice, ends-at}
 use denote.Exit.{yes}
+use Rattle.placing.specs.State.{stateOf}
 use Rattle.station.specs.declared.types.Head.{Head}
 use Rattle.station.specs.declared.types.Preset.{Preset}
 use Rattle.station.proofs.types.Head as Hd
@@ -122,7 +123,7 @@ module _ {M : Type 1} (𝓤 : URA M) (H : Heap 𝓤) (A : Atoms 𝓤) (W : Given
   abbrev OwnLine : Fml
   OwnLine = ShrSlice (named 1) κ″ u8 .own y (u ∷ [])
 
-  exits : (r : Outcome) (zs : List ℕ) → Is Oc.the-row r (Oc′.lowered r ∷ []) → EventEntry h ys t c e zs r → length zs ≡ length t
+  exits : (r : Outcome) (zs : List ℕ) → Is Oc.the-row r (Oc′.lowered r ∷ []) → EventEntry h ys (stateOf t c) e zs r → length zs ≡ length t
       → ent 𝓤 (sep 𝓤 (A .lft κ q) (sep 𝓤 (A .lft κ′ q′) (sep 𝓤 (A .lft κ″ q″) (sem 𝓤 H A (finally u16 γ zs))))) (Post (Oc′.lowered r))
   exits r zs is entry l =
       qed W (‵ (flft κ q) ∷ ‵ (flft κ′ q′) ∷ ‵ (flft κ″ q″) ∷ ‵ (finally u16 γ zs) ∷ []) ∵
@@ -173,14 +174,14 @@ module _ {M : Type 1} (𝓤 : URA M) (H : Heap 𝓤) (A : Atoms 𝓤) (W : Given
         -- `event_counted`
         move ! (6 ∷ 4 ∷ 9 ∷ 7 ∷ []) $ join ! $ use3 W (raw (EventCounted 𝓤 H A mem run .pre (to-event bank))) (goes-event bank g is-bank) $
         -- [what it asks; the list's token; nothing said; true; nothing said; true; true; _9; …; _0; …]
-        asks ! fm event-counted.ended (event-counted.clauses 𝓤 H A mem run) known-event (to-event bank) (‵ (flft κ′ q′) ⊛ (‵ (flft κ″ q″) ⊛ ‵ ftrue)) refl (λ r zs. EventListed (length ys) h bank t c e (zs .1 .1 .1 .0) r) (λ r zs. refl) Oc′.lowered (Oc′.lowers .val-is)
+        asks ! fm event-counted.ended (event-counted.clauses 𝓤 H A mem run) known-event (to-event bank) (‵ (flft κ′ q′) ⊛ (‵ (flft κ″ q″) ⊛ ‵ ftrue)) refl (λ r zs. EventListed (length ys) h bank (stateOf t c) e (zs .1 .1 .1 .0) r) (λ r zs. refl) Oc′.lowered (Oc′.lowers .val-is)
         (and-then ! (reads ! (from ! (stop !)) (look ! 13 refl)) (and-then ! (reads ! (from ! (stop !)) (look ! 23 refl)) (and-then ! (reads ! (from ! (stop !)) (look ! 11 refl)) (and-then ! (reads ! (from ! (stop !)) (look ! 7 refl))
         (and-then ! (reads ! (from ! (stop !)) (look ! 17 refl)) (and-then ! (reads ! (from ! (stop !)) (look ! 15 refl)) (no-more !))))))) (λ r zs is d.
         land ! (from ! (stop !)) (init ! 26 refl (SL.lawful Oc.the-type Oc′.the-laws 𝓤 H A W .typed r _ is .0)) $
         returns ! (look ! 26 refl) $ leaves-fn ! 8 (full refl refl & full refl refl & full refl refl & full refl refl & full refl refl & full refl refl & full refl refl & full refl refl & full refl refl & full refl refl & none) $
         -- [the tokens of the table and the line; what is said of the table's last list; the list's token; …]
         split ! $ move ! (1 ∷ []) $ split ! $ move ! (3 ∷ []) $ fsplit ! $ drop ! $ fsplit ! $ drop ! $ fsplit ! $ drop ! $ fsplit ! $ fsplit ! $ move ! (1 ∷ []) $ feqL ! (λ l. move ! (5 ∷ []) $ split ! $ keep ! (0 ∷ 6 ∷ 4 ∷ 2 ∷ []) $
-        by ! (exits r (zs .1 .1 .1 .0) is (event-entry h ys t c e (subst (λ (ps : List Preset). EventListed (length ys) h ps t c e (zs .1 .1 .1 .0) r) e-bank d)) l)))))))))))))))
+        by ! (exits r (zs .1 .1 .1 .0) is (event-entry h ys (stateOf t c) e (subst (λ (ps : List Preset). EventListed (length ys) h ps (stateOf t c) e (zs .1 .1 .1 .0) r) e-bank d)) l)))))))))))))))
 
 meets : {M : Type 1} (𝓤 : URA M) (H : Heap 𝓤) (A : Atoms 𝓤) → Given 𝓤 H A → (mem : Memory → SProp 𝓤) (run : Routine → Fun 𝓤) (𝓣 : Tables 𝓤 H)
     → Triple 𝓤 (𝓣 .C #record-count) (Counts 𝓤 H A mem run) → Triple 𝓤 (𝓣 .C #load) (Loads 𝓤 H A mem run) → Triple 𝓤 (𝓣 .C #event-counted) (EventCounted 𝓤 H A mem run)

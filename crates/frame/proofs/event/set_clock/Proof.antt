@@ -35,6 +35,7 @@ use denote.Triple.Spec.{Meets, tripleOf}
 use denote.Triple.Table.{entered, cited}
 use denote.Triple.Walked.{says, Stays, stay-dropped, walkOf, goes-dropped, ends-at}
 use denote.Exit.{yes}
+use Rattle.placing.specs.State.{stateOf}
 use Rattle.station.specs.declared.types.Head.{Head}
 use Rattle.station.specs.declared.types.Preset.{Preset}
 use Rattle.station.proofs.types.Head as Hd
@@ -112,7 +113,7 @@ module _ {M : Type 1} (𝓤 : URA M) (H : Heap 𝓤) (A : Atoms 𝓤) (W : Given
   abbrev OwnTable : Fml
   OwnTable = ShrSlice (named 0) κ′ u16 .own x (w ∷ [])
 
-  exits : (r : Outcome) → Is Oc.the-row r (Oc′.lowered r ∷ []) → EventListed (length ys) h ys t c (Event.clock n) t r → ent 𝓤 (sep 𝓤 (A .lft κ q) (A .lft κ′ q′)) (Post (Oc′.lowered r))
+  exits : (r : Outcome) → Is Oc.the-row r (Oc′.lowered r ∷ []) → EventListed (length ys) h ys (stateOf t c) (Event.clock n) t r → ent 𝓤 (sep 𝓤 (A .lft κ q) (A .lft κ′ q′)) (Post (Oc′.lowered r))
   exits r is e =
       qed W (‵ (flft κ q) ∷ ‵ (flft κ′ q′) ∷ []) ∵
       suffices ! _ (ends-at 𝓤 H A set-clock.ended stayed (set-clock.clauses 𝓤 H A mem run) W bound (Oc′.lowered r) r (tt, (tt, (tt, (tt, (tt, tt))))) (tt, (tt, (tt, (tt, (tt, tt)))))) $ says ! e $
@@ -156,14 +157,14 @@ module _ {M : Type 1} (𝓤 : URA M) (H : Heap 𝓤) (A : Atoms 𝓤) (W : Given
         -- `clock_counted`
         move ! (4 ∷ 6 ∷ []) $ use2 W (raw (ClockCounted 𝓤 H A mem run .pre (to-clock bank))) (goes-clock bank g is-bank) $
         -- [what it asks; the list's token; nothing said; true; nothing said; true; the rest; _7; …; _6; …; _5; …; _4; …; _3; …; _2; …; _1; …; _0; …]
-        asks ! fm clock-counted.ended (clock-counted.clauses 𝓤 H A mem run) known-clock (to-clock bank) (‵ (flft κ′ q′) ⊛ ‵ ftrue) refl (λ r ws. EventListed (length ys) h bank t c (Event.clock n) t r) (λ r ws. refl) Oc′.lowered (Oc′.lowers .val-is)
+        asks ! fm clock-counted.ended (clock-counted.clauses 𝓤 H A mem run) known-clock (to-clock bank) (‵ (flft κ′ q′) ⊛ ‵ ftrue) refl (λ r ws. EventListed (length ys) h bank (stateOf t c) (Event.clock n) t r) (λ r ws. refl) Oc′.lowered (Oc′.lowers .val-is)
         (and-then ! (reads ! (from ! (stop !)) (look ! 9 refl)) (and-then ! (reads ! (from ! (stop !)) (look ! 19 refl)) (and-then ! (reads ! (from ! (stop !)) (look ! 7 refl)) (and-then ! (reads ! (from ! (stop !)) (look ! 15 refl))
         (and-then ! (reads ! (from ! (stop !)) (look ! 13 refl)) (and-then ! (reads ! (from ! (stop !)) (look ! 11 refl)) (no-more !))))))) (λ r _ is e.
         land ! (from ! (stop !)) (init ! 22 refl (SL.lawful Oc.the-type Oc′.the-laws 𝓤 H A W .typed r _ is .0)) $
         returns ! (look ! 22 refl) $ leaves-fn ! 8 (full refl refl & full refl refl & full refl refl & full refl refl & full refl refl & full refl refl & full refl refl & full refl refl & none) $
         -- [the table's token; nothing said; the list's token; …]
         split ! $ move ! (3 ∷ []) $ split ! $ keep ! (0 ∷ 2 ∷ []) $
-        by ! (exits r is (event-list h ys t c (Event.clock n) (subst (λ (ps : List Preset). EventListed (length ys) h ps t c (Event.clock n) t r) e-bank e))))))))))))))
+        by ! (exits r is (event-list h ys (stateOf t c) (Event.clock n) (subst (λ (ps : List Preset). EventListed (length ys) h ps (stateOf t c) (Event.clock n) t r) e-bank e))))))))))))))
 
 meets : {M : Type 1} (𝓤 : URA M) (H : Heap 𝓤) (A : Atoms 𝓤) → Given 𝓤 H A → (mem : Memory → SProp 𝓤) (run : Routine → Fun 𝓤) (𝓣 : Tables 𝓤 H)
     → Triple 𝓤 (𝓣 .C #record-count) (Counts 𝓤 H A mem run) → Triple 𝓤 (𝓣 .C #load) (Loads 𝓤 H A mem run) → Triple 𝓤 (𝓣 .C #clock-counted) (ClockCounted 𝓤 H A mem run)

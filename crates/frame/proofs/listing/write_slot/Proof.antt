@@ -7,13 +7,14 @@ use Rattle.station.specs.Refusal.{firstOf}
 use Rattle.station.specs.Types.{headIn}
 use Rattle.placing.specs.Causes.{causeIn, frameCausesOf}
 use Rattle.frame.specs.Listing.{slotLine}
+use Rattle.frame.specs.Text.{startOf}
 use Rattle.frame.proofs.listing.OneLine.{line-short, slot-stopped, slot-low, slot-high, slot-written}
 use borrow.Author.Needs.{needs}
 use Rattle.frame.proofs.listing.write_slot.Statement.{statement}
 use Rattle.frame.proofs.listing.write_slot.Tie as tie
 
 -- no cause of the frame is met
-free : (c : tie.After-enum-told) → let a = c .before .before .before .before .before .before .args in none ≡ firstOf (frameCausesOf (a .head) (a .presets) 1 (now (a .table)))
+free : (c : tie.After-enum-told) → let a = c .before .before .before .before .before .before .args in none ≡ firstOf (frameCausesOf (a .head) (a .presets) (startOf (now (a .table))))
 free c = sym (ap causeIn (c .enum-told .given .1)) ∙ c .before .before .frame-cause .ensures
 
 returns : tie.Need-returns

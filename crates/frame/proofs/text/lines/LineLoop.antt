@@ -20,13 +20,15 @@ use Rattle.station.specs.declared.types.Head as record-of-head
 use Rattle.station.proofs.Theorems.{line-some, line-within, lines-at, lines-past, left-all, left-wrote, left-none}
 use Rattle.placing.specs.Causes.{frameCausesOf}
 use Rattle.placing.specs.Table.{cell}
+use Rattle.placing.specs.Valid.{firstClock}
+use Rattle.placing.specs.State.{State, stateOf}
 use Rattle.placing.specs.Claims.{Running}
 use Rattle.placing.specs.method.Counts.{CountsOf}
 use Rattle.frame.specs.declared.types.Outcome as result
-use Rattle.frame.specs.Event.{Event, line, Answer, State, Outcome, eventOf, runOf}
+use Rattle.frame.specs.Event.{Event, line, Answer, Outcome, eventOf, runOf}
 use Rattle.frame.specs.Types.{answerIn}
 use Rattle.frame.specs.Listing.{answerLine, answerLines}
-use Rattle.frame.specs.EventDone.{stateOf, Yields}
+use Rattle.frame.specs.EventDone.{Yields}
 use Rattle.frame.specs.method.EventParts.{lineMeant}
 use Rattle.frame.specs.method.TextLines.{LinesStart, eventsFrom, linesRun, RanLines}
 use Rattle.frame.proofs.OneEvent.{event-running}
@@ -54,7 +56,7 @@ unfolding answerLines
 answers-none n = refl
 
 -- an event leaves the table's length
-event-size : (h : Head) (st : State) (e : Event) → Running h (st .clock) (st .table) → length (eventOf h st e .after .table) ≡ length (st .table)
+event-size : (h : Head) (st : State) (e : Event) → Running h st → length (eventOf h st e .after .table) ≡ length (st .table)
 unfolding runOf
 event-size h st e run = run-kept h st (e ∷ []) run .past .long
 
@@ -64,7 +66,7 @@ event-size h st e run = run-kept h st (e ∷ []) run .past .long
 -- So far n lines of the text were read, to the byte at; they left the table u, the clock c and the output l₁, whose next place is r. The counts are those of u and c.
 pub record AtEvent (head : record-of-head.Head) (ps : List record-of-preset.Preset) (text : List ℕ) (from first : ℕ) (t l : List ℕ) (place at n c r : ℕ) (u l₁ marks : List ℕ) (held : ℕ) (xs : List ℕ) : Type 0 where
   pub valid : validRecord head ps ≡ true
-  pub running : Running (headIn head ps) c u
+  pub running : Running (headIn head ps) (stateOf u c)
   pub counted : CountsOf (headIn head ps) c (cell (headIn head ps) u) marks held xs
   pub size : length u ≡ length t
   pub inside : at ≤ length text
@@ -77,8 +79,8 @@ pub record AtEvent (head : record-of-head.Head) (ps : List record-of-preset.Pres
 
 pub at-first : (head : record-of-head.Head) (ps : List record-of-preset.Preset) (text : List ℕ) (from first : ℕ) (t l : List ℕ) (place : ℕ)
     {marks xs : List ℕ} {held : ℕ} → LinesStart head ps text from first t
-    → (validRecord head ps ≡ true → 512 ≤ length t → CountsOf (headIn head ps) 1 (cell (headIn head ps) t) marks held xs)
-    → AtEvent head ps text from first t l place from first 1 place t l marks held xs
+    → (validRecord head ps ≡ true → 512 ≤ length t → CountsOf (headIn head ps) firstClock (cell (headIn head ps) t) marks held xs)
+    → AtEvent head ps text from first t l place from first firstClock place t l marks held xs
 at-first head ps text from first t l place s k = record {
   valid = s .valid;
   running = s .running;
@@ -104,8 +106,8 @@ module _ {head : record-of-head.Head} {ps : List record-of-preset.Preset} {text 
   all = answerLines first (linesRun h text from t .answers)
 
   -- the frame meets no cause
-  at-free : firstOf (frameCausesOf head ps c u) ≡ none
-  at-free = running-frame head ps c u (a .valid) (a .running)
+  at-free : firstOf (frameCausesOf head ps st) ≡ none
+  at-free = running-frame head ps st (a .valid) (a .running)
 
   -- ---- at a line
 
@@ -138,14 +140,14 @@ module _ {head : record-of-head.Head} {ps : List record-of-preset.Preset} {text 
 
     -- the event was answered, and its answer written
     pub at-next : {u₁ l₂ : List ℕ} {o : result.Outcome} {r₁ : ℕ} {marks₁ xs₁ : List ℕ} {held₁ : ℕ}
-        → (validRecord head ps ≡ true → Running h c u → CountsOf h c (cell h u) marks held xs
+        → (validRecord head ps ≡ true → Running h st → CountsOf h c (cell h u) marks held xs
         → Yields (lineMeant head ps st x) u₁ o × CountsOf h (o .clock) (cell h u₁) marks₁ held₁ xs₁)
         → Wrote l₁ r (answerLine (n + 1) (answerIn (o .answer))) l₂ r₁
         → AtEvent head ps text from first t l place (at + length x) (n + 1) (o .clock) r₁ u₁ l₂ marks₁ held₁ xs₁
     at-next {u₁} {l₂} {o} {r₁} d w =
         let left-by = d (a .valid) (a .running) (a .counted) in
-        let y = line-done head ps c u at-free x (left-by .0) in
-        let run : Running h (o .clock) u₁ = rw (y .clock, y .table) (event-running h st (line x) (a .running)) in
+        let y = line-done head ps st at-free x (left-by .0) in
+        let run : Running h (stateOf u₁ (o .clock)) = rw (y .clock, y .table) (event-running h st (line x) (a .running)) in
         let left : stateOf u₁ (o .clock) ≡ done .after =
         ap (λ (v : List ℕ). stateOf v (o .clock)) (y .table) ∙ ap (stateOf (done .after .table)) (y .clock) in
         let f = a .few in

@@ -41,6 +41,7 @@ use Rattle.station.specs.declared.types.Head.{Head}
 use Rattle.station.specs.declared.types.Job.{Job}
 use Rattle.station.proofs.types.Preset as T
 use Rattle.station.proofs.types.Head as hd
+use Rattle.placing.specs.State.{stateOf}
 use Rattle.placing.proofs.ClaimsHold.{call-claim}
 use Rattle.placing.specs.Causes.{callJobs}
 use Rattle.placing.specs.declared.call.CallAnswer.{CallAnswer}
@@ -141,11 +142,11 @@ module _ {M : Type 1} (𝓤 : URA M) (H : Heap 𝓤) (A : Atoms 𝓤) (W : Given
   abbrev vr : CallAnswer → Val
   vr = EL.val result.the-type result′.the-laws
 
-  exits : (r : CallAnswer) → Is result.the-row r (vr r ∷ []) → (zs : List ℕ) → CallEntered (length (s .now)) head (s .now) clock (callJobs n jobs) ys zs r → length zs ≡ length ys
+  exits : (r : CallAnswer) → Is result.the-row r (vr r ∷ []) → (zs : List ℕ) → CallEntered (length (s .now)) head (s .now) (callJobs n jobs) (stateOf ys clock) zs r → length zs ≡ length ys
       → ent 𝓤 (sep 𝓤 (A .lft κ₀ q₀) (sep 𝓤 (A .lft κ₁ q₁) (sem 𝓤 H A (finally u16 γ zs)))) (Post (vr r))
   exits r is-r zs e l =
       qed W (‵ (flft κ₀ q₀) ∷ ‵ (flft κ₁ q₁) ∷ ‵ (finally u16 γ zs) ∷ []) ∵
-      suffices ! _ (ends-at 𝓤 H A call.ended stayed (call.clauses 𝓤 H A mem run) W bound (vr r) r (tt, (tt, (zs, (tt, (tt, (tt, tt)))))) (tt, (tt, (l, (tt, (tt, (tt, tt))))))) $ says-both ! e (call-claim (headIn head (s .now)) clock (callJobs n jobs) ys) $
+      suffices ! _ (ends-at 𝓤 H A call.ended stayed (call.clauses 𝓤 H A mem run) W bound (vr r) r (tt, (tt, (zs, (tt, (tt, (tt, tt)))))) (tt, (tt, (l, (tt, (tt, (tt, tt))))))) $ says-both ! e (call-claim (headIn head (s .now)) (callJobs n jobs) (stateOf ys clock)) $
       nothing ! $ move ! (2 ∷ 0 ∷ []) $ join ! $ move ! (1 ∷ 0 ∷ []) $ join ! $ frame ! $
       nothing ! $ nothing ! $ fjoin ! $ nothing ! $ fjoin ! $ nothing ! $ fjoin ! $ move ! (1 ∷ 0 ∷ []) $ fjoin ! $ nothing ! $ fjoin ! $ nothing ! $ fjoin ! $ frame ! $
       owned ! result.the-row (Is result.the-row) (EL.makes result.the-type result′.the-plain 𝓤 H A) r _ is-r $ done !
@@ -176,7 +177,7 @@ module _ {M : Type 1} (𝓤 : URA M) (H : Heap 𝓤) (A : Atoms 𝓤) (W : Given
         assigns ! (addr ! (from ! (fld ! refl (hop ! (look-in ! 17 (sub ! 0 refl (whole !))) (stop !))))) (from ! (stop !)) (init ! 5 refl (tt, tt)) $
         assigns ! (agg ! (and-then ! (reads ! (from ! (stop !)) (look ! 5 refl)) (and-then ! (reads ! (from ! (fld ! refl (stop !))) (look-in ! 17 (sub ! 1 refl (whole !)))) (no-more !)))) (from ! (stop !)) (init ! 3 refl (tt, (tt, (record { fits = fit-t .0 }, tt)))) $
         move ! (1 ∷ 2 ∷ []) $ use2 W (raw (Counted 𝓤 H A mem run .pre (to-counted m bank))) (goes-counted m bank is-m is-b is) $
-        asks ! fm call-counted.ended (call-counted.clauses 𝓤 H A mem run) known-counted (to-counted m bank) (‵ (flft κ₁ q₁) ⊛ ‵ ftrue) refl (λ r ws. CallEntered m head bank clock (callJobs n jobs) ys (ws .1 .1 .1 .0) r) (λ r ws. refl) vr (EL.tells result.the-type result′.the-laws)
+        asks ! fm call-counted.ended (call-counted.clauses 𝓤 H A mem run) known-counted (to-counted m bank) (‵ (flft κ₁ q₁) ⊛ ‵ ftrue) refl (λ r ws. CallEntered m head bank (callJobs n jobs) (stateOf ys clock) (ws .1 .1 .1 .0) r) (λ r ws. refl) vr (EL.tells result.the-type result′.the-laws)
         (and-then ! (reads ! (from ! (stop !)) (look ! 8 refl)) (and-then ! (reads ! (from ! (stop !)) (look ! 20 refl)) (and-then ! (reads ! (from ! (stop !)) (look ! 6 refl)) (and-then ! (reads ! (from ! (stop !)) (look ! 2 refl))
         (and-then ! (reads ! (from ! (stop !)) (look ! 14 refl)) (and-then ! (reads ! (from ! (stop !)) (look ! 12 refl)) (and-then ! (reads ! (from ! (stop !)) (look ! 10 refl)) (no-more !))))))))
         (λ r ws is-r e. land ! (from ! (stop !)) (init ! 23 refl (EL.lawful result.the-type result′.the-laws 𝓤 H A W tt .typed r _ is-r .0)) $
@@ -185,7 +186,7 @@ module _ {M : Type 1} (𝓤 : URA M) (H : Heap 𝓤) (A : Atoms 𝓤) (W : Given
         leaves-fn ! 3 (full refl refl & full refl refl & full refl refl & full refl refl & full refl refl & full refl refl & full refl refl & full refl refl & full refl refl & full refl refl & full refl refl & none) $
         split ! $ move ! (1 ∷ []) $ drop ! $ move ! (1 ∷ []) $ fsplit ! $ drop ! $ fsplit ! $ drop ! $ fsplit ! $ drop ! $ fsplit ! $ fsplit ! $ move ! (1 ∷ []) $ feqL ! (λ l.
         -- [the last list; of the others nothing; κ₁; κ₀]
-        move ! (1 ∷ []) $ drop ! $ move ! (2 ∷ 1 ∷ 0 ∷ []) $ by ! (exits r is-r (ws .1 .1 .1 .0) (call-entered head (s .now) counts loads clock (callJobs n jobs) e) l))))))))))))))))
+        move ! (1 ∷ []) $ drop ! $ move ! (2 ∷ 1 ∷ 0 ∷ []) $ by ! (exits r is-r (ws .1 .1 .1 .0) (call-entered head (s .now) counts loads (callJobs n jobs) (stateOf ys clock) e) l))))))))))))))))
 
 meets : {M : Type 1} (𝓤 : URA M) (H : Heap 𝓤) (A : Atoms 𝓤) → Given 𝓤 H A → (mem : Memory → SProp 𝓤) (run : Routine → Fun 𝓤) (𝓣 : Tables 𝓤 H)
     → Triple 𝓤 (𝓣 .C #record-count) (Counts 𝓤 H A mem run) → Triple 𝓤 (𝓣 .C #load) (Loads 𝓤 H A mem run) → Triple 𝓤 (𝓣 .C #call-counted) (Counted 𝓤 H A mem run)

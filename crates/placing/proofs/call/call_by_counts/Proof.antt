@@ -2,6 +2,7 @@
 use native.Mathlib.Omega.{arith}
 use mathlib.Core.Path.{sym, _∙_, ap}
 use Rattle.station.specs.Types.{headIn}
+use Rattle.placing.specs.State.{stateOf}
 use Rattle.placing.specs.Table.{cell}
 use Rattle.placing.specs.Causes.{causeIn, callJobs}
 use Rattle.placing.proofs.counts.causes.CallCauses.{call-jobs, cause-known}
@@ -22,8 +23,8 @@ returns c =
     let k = c .before .before .before in
     let a = k .before .before .before .before .before .args in
     let h = headIn (a .head) (a .presets) in (
-      counted-refused (a .head) (a .presets) (a .clock) (callJobs (a .n) (a .jobs)) (a .table .now) v run (c .before .r .given .0 .0)
-          (k .cause-by-counts .ensures .0 h (a .clock) (cell h (a .table .now)) (run .valid) (run .wellFormed) right) (c .before .r .given .1),
+      counted-refused (a .head) (a .presets) (callJobs (a .n) (a .jobs)) (stateOf (a .table .now) (a .clock)) v run (c .before .r .given .0 .0)
+          (k .cause-by-counts .ensures .0 h (a .clock) (cell h (a .table .now)) (run .valid) (run .wellFormed .cells) right) (c .before .r .given .1),
       right,
     )
 
@@ -57,12 +58,12 @@ returns-2 c =
     let s = k .before .before .before .before .before in
     let a = s .args in
     let h = headIn (a .head) (a .presets) in
-    let tried = k .cause-by-counts .ensures .0 h (a .clock) (cell h (a .table .now)) (run .valid) (run .wellFormed) right in
+    let tried = k .cause-by-counts .ensures .0 h (a .clock) (cell h (a .table .now)) (run .valid) (run .wellFormed .cells) right in
     let known = cause-known (a .jobs) (omega (arith, s)) (a .n) h (a .clock) (cell h (a .table .now)) (sym tried ∙ ap causeIn (e .enum-told .given .1)) in
-    let done = counted-done (a .head) (a .presets) (a .clock) (callJobs (a .n) (a .jobs)) (a .table .now) v run tried (e .enum-told .given .1)
+    let done = counted-done (a .head) (a .presets) (callJobs (a .n) (a .jobs)) (stateOf (a .table .now) (a .clock)) v run tried (e .enum-told .given .1)
     (call-jobs (a .jobs) (omega (arith, s)) (a .n) (known .0)) (o .carry-out .ensures v (run .long) (known .0) (known .1)) in (
       done,
-      counted-after (a .head) (a .presets) (a .clock) (a .jobs) (a .n) (a .table .now) (omega (arith, s)) v run tried (e .enum-told .given .1) done right (m .mark-jobs .ensures)
+      counted-after (a .head) (a .presets) (a .jobs) (a .n) (stateOf (a .table .now) (a .clock)) (omega (arith, s)) v run tried (e .enum-told .given .1) done right (m .mark-jobs .ensures)
           (c .capacities-at .ensures),
     )
 

@@ -2,6 +2,7 @@
 use mathlib.Core.Path.{sym, _∙_, ap}
 use borrow.Author.Needs.{needs}
 use Rattle.station.specs.Types.{headIn}
+use Rattle.placing.specs.State.{stateOf}
 use Rattle.placing.proofs.ClaimsHold.{call-claim}
 use Rattle.placing.specs.Causes.{causeIn, callJobs}
 use Rattle.placing.proofs.check.FrameCauses.{frame-running}
@@ -22,8 +23,8 @@ returns : tie.Need-returns
 returns c =
     let k = c .before .before .before in
     let a = k .before .before .before .args in (
-      frame-refused (a .head) (a .presets) (a .clock) (callJobs (a .n) (a .jobs)) (a .table .now) (c .before .r .given .0 .0) (k .frame-cause .ensures) (c .before .r .given .1),
-      call-claim (headIn (a .head) (a .presets)) (a .clock) (callJobs (a .n) (a .jobs)) (a .table .now),
+      frame-refused (a .head) (a .presets) (callJobs (a .n) (a .jobs)) (stateOf (a .table .now) (a .clock)) (c .before .r .given .0 .0) (k .frame-cause .ensures) (c .before .r .given .1),
+      call-claim (headIn (a .head) (a .presets)) (callJobs (a .n) (a .jobs)) (stateOf (a .table .now) (a .clock)),
     )
 
 enum-told : tie.Need-enum-told
@@ -45,9 +46,9 @@ returns-2 c =
     let e = n .before .before in
     let k = e .before .before in
     let a = k .before .before .before .args in
-    let run = frame-running (a .head) (a .presets) (a .clock) (a .table .now) (sym (k .frame-cause .ensures) ∙ ap causeIn (e .enum-told .given .1)) in (
+    let run = frame-running (a .head) (a .presets) (stateOf (a .table .now) (a .clock)) (sym (k .frame-cause .ensures) ∙ ap causeIn (e .enum-told .given .1)) in (
       o .call-by-counts .ensures (run .0) (run .1) (n .counts-of .ensures (run .0) (run .1 .long)) .0,
-      call-claim (headIn (a .head) (a .presets)) (a .clock) (callJobs (a .n) (a .jobs)) (a .table .now),
+      call-claim (headIn (a .head) (a .presets)) (callJobs (a .n) (a .jobs)) (stateOf (a .table .now) (a .clock)),
     )
 
 pub call-by-value-spec : {M : Type 1} → statement M

@@ -7,6 +7,7 @@ use lib.ListN.{length}
 use borrow.Author.Needs.{needs}
 use Rattle.laws.proofs.Tests.{false-of-not, true-of-not}
 use Rattle.station.specs.Types.{headIn, validRecord}
+use Rattle.placing.specs.State.{stateOf}
 use Rattle.placing.specs.Types.{jobsIn}
 use Rattle.placing.specs.Outcomes.{jobsOutside}
 use Rattle.placing.specs.Table.{cell}
@@ -42,7 +43,7 @@ returns : tie.Need-returns
 returns c =
     λ v long few inside.
     let a = c .before .before .before .before .before .before .args in
-    carried-refused (headIn (a .head) (a .presets)) (a .clock) (jobsIn (a .n) (a .jobs)) (a .table .now)
+    carried-refused (headIn (a .head) (a .presets)) (jobsIn (a .n) (a .jobs)) (stateOf (a .table .now) (a .clock))
     (sym (searched (c .before .before) v long few inside .fits) ∙ false-of-not _ (c .if1 .taken))
 
 job-cells-requires : tie.Need-job-cells-requires
@@ -69,7 +70,7 @@ returns-2 c =
     let a = s .args in
     let h = headIn (a .head) (a .presets) in
     let valid = record-valid (a .head) (a .presets) v in
-    carried-taken h (a .clock) (jobsIn (a .n) (a .jobs)) (a .table .now) (e .evict .result) (searched e v long few inside) (true-of-not _ (f .if1 .left))
+    carried-taken h (jobsIn (a .n) (a .jobs)) (stateOf (a .table .now) (a .clock)) (e .evict .result) (searched e v long few inside) (true-of-not _ (f .if1 .left))
     (e .before .before .job-needs .result) (a .n) (k .job-cells .result)
     (in-limits (h .slots) (h .bridges) (a .n) (length (a .table .now)) (valid .slots-high) (valid .bridges-high) (omega (arith, few)) long)
     (e .before .before .job-needs .ensures (a .n) few inside)

@@ -1,12 +1,11 @@
 -- `check::frame_cause` meets its contract: a law for each answer. Assumes nothing.
-use native.Mathlib.Omega.{arith}
 use mathlib.Core.Path.{_≡_, sym, _∙_}
 use mathlib.Core.Bool.{true}
 use borrow.Author.Needs.{needs}
 use Rattle.laws.proofs.Tests.{false-of-not, true-of-not}
 use Rattle.station.specs.Types.{validRecord}
-use Rattle.placing.proofs.HeadRecord.{record-valid}
-use Rattle.placing.proofs.check.FrameCauses.{frame-short, frame-invalid, frame-not-formed, frame-low, frame-high, frame-passed}
+use Rattle.placing.specs.State.{stateOf}
+use Rattle.placing.proofs.check.FrameCauses.{frame-short, frame-invalid, frame-fault, frame-passed}
 use Rattle.placing.proofs.check.frame_cause.Statement.{statement}
 use Rattle.placing.proofs.check.frame_cause.Tie as tie
 
@@ -14,7 +13,7 @@ valid : (c : tie.Else2) → validRecord (c .before .before .before .before .args
 valid c = sym (c .before .valid-record .ensures) ∙ true-of-not _ (c .if2 .left)
 
 returns : tie.Need-returns
-returns c = let a = c .before .before .args in frame-short (a .head) (a .presets) (a .clock) (a .table .now) (c .if1 .taken)
+returns c = let a = c .before .before .args in frame-short (a .head) (a .presets) (stateOf (a .table .now) (a .clock)) (c .if1 .taken)
 
 valid-record-requires : tie.Need-valid-record-requires
 valid-record-requires c κs = search needs
@@ -22,41 +21,22 @@ valid-record-requires c κs = search needs
 returns-2 : tie.Need-returns-2
 returns-2 c =
     let a = c .before .before .before .before .args in
-    frame-invalid (a .head) (a .presets) (a .clock) (a .table .now) (c .before .before .if1 .left) (sym (c .before .valid-record .ensures) ∙ false-of-not _ (c .if2 .taken))
+    frame-invalid (a .head) (a .presets) (stateOf (a .table .now) (a .clock)) (c .before .before .if1 .left) (sym (c .before .valid-record .ensures) ∙ false-of-not _ (c .if2 .taken))
 
-well-formed-requires : tie.Need-well-formed-requires
-well-formed-requires c κs = (valid c, c .before .before .if1 .left)
+well-formed-frame-requires : tie.Need-well-formed-frame-requires
+well-formed-frame-requires c κs = (valid c, c .before .before .if1 .left)
 
 returns-3 : tie.Need-returns-3
 returns-3 c =
     let a = c .before .before .before .before .before .before .args in
-    frame-not-formed (a .head) (a .presets) (a .clock) (a .table .now) (c .before .before .before .before .if1 .left) (valid (c .before .before)) (sym (c .before .well-formed .ensures) ∙ false-of-not _ (c .if3 .taken))
+    frame-fault (a .head) (a .presets) (stateOf (a .table .now) (a .clock)) (c .before .before .before .before .if1 .left) (valid (c .before .before))
+    (sym (c .before .well-formed-frame .ensures) ∙ false-of-not _ (c .if3 .taken))
 
 returns-4 : tie.Need-returns-4
-returns-4 c = let a = c .before .before .before .before .before .before .before .args in frame-low (a .head) (a .presets) (a .clock) (a .table .now) (c .before .before .before .before .before .if1 .left) (valid (c .before .before .before)) (c .if4 .taken)
-
-add-if5 : tie.Need-add-if5
-add-if5 c = let a = c .before .before .before .before .before .before .before .args in omega (arith, record-valid (a .head) (a .presets) (valid (c .before .before .before)) .slots-high)
-
-returns-5 : tie.Need-returns-5
-returns-5 c = let a = c .before .before .before .before .before .before .before .before .args in frame-high (a .head) (a .presets) (a .clock) (a .table .now) (c .before .before .before .before .before .before .if1 .left) (valid (c .before .before .before .before)) (c .if5 .taken)
-
-returns-6 : tie.Need-returns-6
-returns-6 c =
-    let a = c .before .before .before .before .before .before .before .before .args in
-    frame-passed (a .head) (a .presets) (a .clock) (a .table .now) (c .before .before .before .before .before .before .if1 .left) (valid (c .before .before .before .before)) (sym (c .before .before .before .well-formed .ensures) ∙ true-of-not _ (c .before .before .if3 .left)) (c .before .if4 .left)
-    (c .if5 .left)
+returns-4 c =
+    let a = c .before .before .before .before .before .before .args in
+    frame-passed (a .head) (a .presets) (stateOf (a .table .now) (a .clock)) (c .before .before .before .before .if1 .left) (valid (c .before .before))
+    (sym (c .before .well-formed-frame .ensures) ∙ true-of-not _ (c .if3 .left))
 
 pub frame-cause-spec : {M : Type 1} → statement M
-frame-cause-spec =
-    tie.close
-    (tie.spec
-    returns
-    valid-record-requires
-    returns-2
-    well-formed-requires
-    returns-3
-    returns-4
-    add-if5
-    returns-5
-    returns-6)
+frame-cause-spec = tie.close (tie.spec returns valid-record-requires returns-2 well-formed-frame-requires returns-3 returns-4)

@@ -1,20 +1,20 @@
 -- Laws of the definitions of specs/method/Check.antt, as the functions of src/check/table.rt cite them.
 --
--- In order: counts by value (`counted`), then those of a table's cells; the counts of the presets'
--- numbers. The walk over a slot is in check/table/SlotWalk.antt; that the whole check is the test `wellFormed` is in check/table/SameTest.antt.
+-- In order: counts by value (`counted`), then those of a table's cells (`tally`); the counts of the presets' numbers (`numbered`), and a preset's cells (`met-exact`,
+-- `met-not`). The walk over the frame is in check/table/FrameWalk.antt; that the whole check is the test `wellFormed` is in check/table/SameTest.antt.
 -- Assumes nothing.
-use Prim.Native.Nat.{ℕ, zero, suc, _+_, _*_, _-_, _≤_, _<_}
+use Prim.Native.Nat.{ℕ, zero, suc, _+_, _-_, _≤_, _<_}
 use native.Mathlib.Numerals.{add-one}
 use native.Mathlib.Omega.{arith}
 use mathlib.Core.Path.{_≡_, refl, sym, _∙_, ap}
-use mathlib.Core.Bool.{Bool, true, false, _&&_}
-use mathlib.Core.List.{List, map}
-use lib.ListN.{length, take, getD, List·getD-map, length-map, replicate, length-set, length-replicate, getD-replicate, List·getD-eq-default}
-use lib.Seq.{length-take-le, getD-take, getD-set-same, getD-set-other, set-out}
+use mathlib.Core.Bool.{Bool, false, _&&_}
+use mathlib.Core.List.{List}
+use lib.ListN.{length, getD, replicate, length-set, length-replicate, getD-replicate, List·getD-eq-default}
+use lib.Seq.{getD-set-same, getD-set-other, set-out}
 use lib.Dec.{eqb, ltb, leb}
 use Rattle.laws.specs.Sums.{bit, sum, count}
-use Rattle.laws.proofs.Tests.{Is, is-true, is-false, is, test-ext, left-of, right-of}
-use Rattle.laws.proofs.Comparisons.{lt-of, ge-of, le-of, eq-of, ne-of, ltb-yes, ltb-no, eqb-yes, eqb-no}
+use Rattle.laws.proofs.Tests.{Is, is-true, is-false, is, test-ext}
+use Rattle.laws.proofs.Comparisons.{lt-of, ge-of, eq-of, ne-of, ltb-yes, ltb-no, eqb-yes, eqb-no}
 use Rattle.laws.proofs.Counts.{count-le, count-ext}
 use Rattle.station.specs.Head.{Preset, noPreset}
 use Rattle.placing.specs.method.Check.{bump, counted, placeOf, tally, numbered, isMet}

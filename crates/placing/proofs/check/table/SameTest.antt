@@ -3,7 +3,8 @@
 -- In order: the counts of a table as cells of the frame; a cell that fits, both ways; a table that passes the check is well-formed, and a well-formed one
 -- passes it; the two tests are one (`wellFormed-checked`); a law for each answer.
 -- Assumes nothing.
-use Prim.Native.Nat.{ℕ, _+_, _*_, _-_, _≤_, _<_}
+use Prim.Native.Nat.{ℕ, _+_, _*_, _-_, _/_, _%_, _≤_, _<_}
+use native.Mathlib.Nat.{mod-lt, div-add-mod', div-lt-iff-lt-mul}
 use native.Mathlib.Omega.{arith}
 use mathlib.Core.Path.{_≡_, refl, sym, _∙_, ap, ap₂}
 use mathlib.Core.Logic.{⊎-elim}
@@ -13,18 +14,19 @@ use lib.ListN.{getD}
 use lib.Dec.{ltb, leb, eqb}
 use Rattle.laws.specs.Sums.{bit, sum, count, every}
 use Rattle.laws.proofs.Tests.{Is, is-true, is-false, is, both, left-of, right-of, test-ext, end, _and_, conjunction, conjunction-at, all-conjunction, not-is-true}
-use Rattle.laws.proofs.Tests.{false-of-not, or-left, or-right, or-cases, fails-left, fails-right}
+use Rattle.laws.proofs.Tests.{false-of-not, or-left, or-right, or-cases, fails-left, fails-right, clash}
 use Rattle.laws.proofs.Comparisons.{lt-of, ge-of, le-of, gt-of, eq-of, ne-of, ltb-yes, ltb-no, leb-yes, leb-no, eqb-yes, eqb-no}
-use Rattle.laws.proofs.Every.{every-all, all-every, every-not}
+use Rattle.laws.proofs.Every.{every-all, all-every}
 use Rattle.laws.proofs.Sums.{term-le, sum-zero, sum-split, sum-rows}
 use Rattle.laws.proofs.Counts.{count-ext, count-none, count-some}
 use Rattle.station.specs.Head.{Head, Valid, busyAt, presetAt}
 use Rattle.placing.specs.Table.{Cells, Each, WellFormed, cell, holding, kindOf, numberIn, mandatoryCell, optionalCell, callCell, isBusy}
-use Rattle.placing.specs.Table.{isMandatory, isOptional, isCall, presetCount, numberAt, hasPreset, hasJob, jobCount, wellFormed}
-use Rattle.placing.specs.method.Check.{tally, numbered, cellFits, differs, isNew, fitsAt, slotFits, presetMet, hasCall, checked}
+use Rattle.placing.specs.Table.{isMandatory, isOptional, isCall, presetCount, numberAt, hasPreset, hasJob, jobCount, wellFormed, eachCell}
+use Rattle.placing.specs.method.Check.{tally, numbered, cellFits, differs, isNew, fitsAt, presetMet, hasCall, checked, FirstFault}
 use Rattle.placing.proofs.CountedCells.{cells-pos, cells-some, numberIn-lt, mandatory-of, call-of, numberIn-mandatory, numberIn-optional, numberIn-call}
 use Rattle.placing.proofs.CountedCells.{numberAt-low, numberAt-lt, preset-with, kindOf-mandatory}
-use Rattle.placing.proofs.WellFormed.{wellFormed-of, of-wellFormed}
+use Rattle.placing.proofs.WellFormed.{eachCell-all, all-eachCell, wellFormed-of, of-wellFormed}
+use Rattle.placing.proofs.WrittenTable.{place-below}
 use Rattle.placing.proofs.check.table.Counted.{tally-at, numbered-at}
 
 -- ---- the counts as cells of the frame
@@ -184,8 +186,8 @@ module _ (ns c : List ℕ) (v : ℕ) where
 
 -- the parts of `checked`, in its order
 module _ (h : Head) (t : List ℕ) where
-  abbrev by-slots : Bool
-  by-slots = every (h .slots) (slotFits (h .bridges) (h .busy) (numbers h) t)
+  abbrev by-cells : Bool
+  by-cells = eachCell h (fitsAt (h .bridges) (h .busy) (numbers h) t)
 
   abbrev by-presets : Bool
   by-presets = every (presetCount h) (presetMet (h .presets) (tally t (h .slots * h .bridges)))
@@ -194,19 +196,11 @@ module _ (h : Head) (t : List ℕ) where
   by-jobs = leb (count 256 (hasCall (tally t (h .slots * h .bridges)))) 64
 
   abbrev parts : List Bool
-  parts = by-slots ∷ by-presets ∷ by-jobs ∷ []
+  parts = by-cells ∷ by-presets ∷ by-jobs ∷ []
 
   parts-are : checked h t ≡ conjunction parts
   unfolding checked
   parts-are = refl
-
-slot-all : (m : ℕ) (busy ns t : List ℕ) (s : ℕ) → slotFits m busy ns t s ≡ true → (b : ℕ) → b < m → fitsAt m busy ns t s b ≡ true
-unfolding slotFits
-slot-all m busy ns t s e b l = every-all m (fitsAt m busy ns t s) e b l
-
-all-slot : (m : ℕ) (busy ns t : List ℕ) (s : ℕ) → ((b : ℕ) → b < m → fitsAt m busy ns t s b ≡ true) → slotFits m busy ns t s ≡ true
-unfolding slotFits
-all-slot m busy ns t s e = all-every m (fitsAt m busy ns t s) e
 
 module _ (h : Head) (valid : Valid h) (t : List ℕ) where
   abbrev T : Cells
@@ -225,8 +219,7 @@ module _ (h : Head) (valid : Valid h) (t : List ℕ) where
     part i = conjunction-at (parts h t) (sym (parts-are h t) ∙ e) i
 
     fits-both : Each h (λ s b. fitsAt (h .bridges) (h .busy) (numbers h) t s b ≡ true)
-    fits-both s b ls lb =
-        slot-all (h .bridges) (h .busy) (numbers h) t s (every-all (h .slots) (slotFits (h .bridges) (h .busy) (numbers h) t) (part 0) s ls) b lb
+    fits-both = eachCell-all h (fitsAt (h .bridges) (h .busy) (numbers h) t) (part 0)
 
     cell-at : Each h (λ s b. Fits (numbers h) (so-far s b) (busyAt h s b) (T s b))
     cell-at s b ls lb =
@@ -460,10 +453,9 @@ module _ (h : Head) (valid : Valid h) (t : List ℕ) where
     wellFormed-passes =
         parts-are h t
         ∙ all-conjunction (parts h t)
-        (all-every (h .slots) (slotFits (h .bridges) (h .busy) (numbers h) t)
-        (λ s ls. all-slot (h .bridges) (h .busy) (numbers h) t s
-        (λ b lb. both (cellFits (numbers h) (so-far s b) (busyAt h s b) (T s b)) (isNew t (s * h .bridges) b)
-        (of-fits (numbers h) (so-far s b) (T s b) (busyAt h s b) (cell-fits s b ls lb)) (new s b ls lb)))
+        (all-eachCell h (fitsAt (h .bridges) (h .busy) (numbers h) t)
+        (λ s b ls lb. both (cellFits (numbers h) (so-far s b) (busyAt h s b) (T s b)) (isNew t (s * h .bridges) b)
+        (of-fits (numbers h) (so-far s b) (T s b) (busyAt h s b) (cell-fits s b ls lb)) (new s b ls lb))
         and all-every (presetCount h) (presetMet (h .presets) all) met
         and leb-yes (count 256 (hasCall all)) 64 (omega (arith, jobs-counted h t, w .jobs))
         and end)
@@ -475,17 +467,38 @@ module _ (h : Head) (valid : Valid h) (t : List ℕ) where
 -- ---- the answers, one law for each
 
 module _ (h : Head) (valid : Valid h) (t : List ℕ) where
-  answer : wellFormed h (cell h t) ≡ (by-slots h t && by-presets h t && by-jobs h t)
+  answer : wellFormed h (cell h t) ≡ (by-cells h t && by-presets h t && by-jobs h t)
   answer = wellFormed-checked h valid t ∙ parts-are h t
 
-  pub slot-fails : (s : ℕ) → s < h .slots → slotFits (h .bridges) (h .busy) (numbers h) t s ≡ false → wellFormed h (cell h t) ≡ false
-  slot-fails s l e =
-      answer
-      ∙ fails-left (by-slots h t && by-presets h t) (by-jobs h t)
-      (fails-left (by-slots h t) (by-presets h t) (every-not (h .slots) (slotFits (h .bridges) (h .busy) (numbers h) t) s l e))
+  -- the first cell at fault is a cell of the frame: the table is not well-formed; it is none: every cell fits
+  module _ (at : ℕ) (f : FirstFault (h .slots) (h .bridges) (h .busy) (numbers h) t at) where
+    pub cell-fails : at < h .slots * h .bridges → wellFormed h (cell h t) ≡ false
+    cell-fails l = answer ∙ fails-left (by-cells h t && by-presets h t) (by-jobs h t) (fails-left (by-cells h t) (by-presets h t) (go (is (by-cells h t))))
+      where
+        s : ℕ
+        s = at / h .bridges
+
+        b : ℕ
+        b = at % h .bridges
+
+        ls : s < h .slots
+        ls = div-lt-iff-lt-mul (valid .bridges-low) .1 l
+
+        lb : b < h .bridges
+        lb = mod-lt at (valid .bridges-low)
+
+        go : Is (by-cells h t) → by-cells h t ≡ false
+        go (is-true e) =
+            absurd (clash (sym (eachCell-all h (fitsAt (h .bridges) (h .busy) (numbers h) t) e s b ls lb) ∙ f .fault s b ls lb (div-add-mod' at (h .bridges))))
+        go (is-false e) = e
+
+    pub cells-fit : h .slots * h .bridges ≤ at → by-cells h t ≡ true
+    cells-fit l =
+        all-eachCell h (fitsAt (h .bridges) (h .busy) (numbers h) t)
+        (λ s b ls lb. f .before s b lb (omega (arith, place-below (h .slots) (h .bridges) s b ls lb)))
 
   pub preset-fails : by-presets h t ≡ false → wellFormed h (cell h t) ≡ false
-  preset-fails e = answer ∙ fails-left (by-slots h t && by-presets h t) (by-jobs h t) (fails-right (by-slots h t) (by-presets h t) e)
+  preset-fails e = answer ∙ fails-left (by-cells h t && by-presets h t) (by-jobs h t) (fails-right (by-cells h t) (by-presets h t) e)
 
-  pub all-but-jobs : by-slots h t ≡ true → by-presets h t ≡ true → wellFormed h (cell h t) ≡ by-jobs h t
-  all-but-jobs p q = answer ∙ ap (λ (b : Bool). b && by-jobs h t) (both (by-slots h t) (by-presets h t) p q)
+  pub all-but-jobs : by-cells h t ≡ true → by-presets h t ≡ true → wellFormed h (cell h t) ≡ by-jobs h t
+  all-but-jobs p q = answer ∙ ap (λ (b : Bool). b && by-jobs h t) (both (by-cells h t) (by-presets h t) p q)

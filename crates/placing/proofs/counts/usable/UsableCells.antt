@@ -2,7 +2,7 @@
 --
 -- In order: a cell that a call may use (`free-..`), and those of a slot (`free-in-..`); slots before the clock and from it on (`slot-..`, `with-before`), and a slot that it passes (`pass-slot`); the capacities of the frame (`capacity-is`).
 -- Assumes nothing.
-use Prim.Native.Nat.{ℕ, suc, _+_, _*_, _-_, _≤_, _<_, min}
+use Prim.Native.Nat.{ℕ, _+_, _*_, _-_, _≤_, _<_, min}
 use native.Mathlib.Omega.{arith}
 use native.Mathlib.Nat.{mul-le-mul}
 use mathlib.Core.Path.{_≡_, refl, sym, _∙_, ap, ap₂}
@@ -15,14 +15,15 @@ use Rattle.laws.specs.Sums.{bit, only, count}
 use Rattle.laws.specs.Placement.{capacity}
 use Rattle.laws.specs.method.Capacities.{ByFree}
 use Rattle.laws.proofs.Tests.{Is, is, is-true, is-false, or-right}
-use Rattle.laws.proofs.Comparisons.{eq-of, ne-of, lt-of, ge-of, leb-yes, leb-no, eqb-yes, eqb-no}
+use Rattle.laws.proofs.Comparisons.{eq-of, ne-of, lt-of, ge-of, eqb-yes, eqb-no}
 use Rattle.laws.proofs.Sums.{sum-ext, sum-but}
 use Rattle.laws.proofs.Counts.{count-none, count-all, count-le}
 use Rattle.laws.proofs.Stores.{zeros}
 use Rattle.laws.proofs.Loops.{sum-none, sum-more}
 use Rattle.station.specs.Head.{Head}
+use Rattle.placing.proofs.WellFormedFrame.{usable-from, usable-before}
 use Rattle.placing.specs.Table.{cell, isEmpty, isOptional}
-use Rattle.placing.specs.Valid.{usable}
+use Rattle.placing.specs.Valid.{usable, firstSlot}
 use Rattle.placing.specs.Call.{usableCount}
 use Rattle.placing.specs.method.Counts.{freeCell, freeIn, slotFree, CapacitiesAt}
 
@@ -67,16 +68,16 @@ free-in-le t from n = count-le n (λ b. freeCell (getD t (from + b) 0))
 -- ---- capacities, and a slot that the clock passes
 
 -- a slot before the clock has no free cells, and one from it on has its own
-slot-before : (t : List ℕ) (bridges clock s : ℕ) → s + 1 < clock → slotFree t bridges clock s ≡ 0
+slot-before : (t : List ℕ) (bridges clock s : ℕ) → s < firstSlot clock → slotFree t bridges clock s ≡ 0
 unfolding slotFree
-slot-before t bridges clock s l = ap (λ (b : Bool). only b (freeIn t (s * bridges) bridges)) (leb-no clock (suc s) (omega arith))
+slot-before t bridges clock s l = ap (λ (b : Bool). only b (freeIn t (s * bridges) bridges)) (usable-before clock s l)
 
-pub slot-from : (t : List ℕ) (bridges clock s : ℕ) → clock ≤ s + 1 → slotFree t bridges clock s ≡ freeIn t (s * bridges) bridges
+pub slot-from : (t : List ℕ) (bridges clock s : ℕ) → firstSlot clock ≤ s → slotFree t bridges clock s ≡ freeIn t (s * bridges) bridges
 unfolding slotFree
-slot-from t bridges clock s l = ap (λ (b : Bool). only b (freeIn t (s * bridges) bridges)) (leb-yes clock (suc s) (omega arith))
+slot-from t bridges clock s l = ap (λ (b : Bool). only b (freeIn t (s * bridges) bridges)) (usable-from clock s l)
 
 -- the slots before the clock are counted as having none
-pub with-before : (t : List ℕ) (bridges clock n : ℕ) → n ≤ clock - 1 → ByFree (set (replicate 9 0) 0 n) n (slotFree t bridges clock)
+pub with-before : (t : List ℕ) (bridges clock n : ℕ) → n ≤ firstSlot clock → ByFree (set (replicate 9 0) 0 n) n (slotFree t bridges clock)
 with-before t bridges clock n l f low = go (is (eqb f 0))
   where
     none : (s : ℕ) → s < n → slotFree t bridges clock s ≡ 0

@@ -1,4 +1,5 @@
 -- `event::asked::event_by_counts` meets its contract: a law for what each line asks. Assumes nothing.
+use Rattle.placing.specs.State.{stateOf}
 use Rattle.frame.proofs.event.EventAnswers.{line-clock, line-place, line-fault, clock-counts}
 use borrow.Author.Needs.{needs}
 use Rattle.frame.proofs.event.asked.event_by_counts.Statement.{statement}
@@ -41,8 +42,8 @@ returns c =
     let r = k .before .before .before .before .before in
     let s = r .before .before .before in
     let a = s .args in (
-      line-clock (a .head) (a .presets) (a .clock) (a .table .now) (a .line .now) (r .read-event .ensures) (k .before .before .event .given .1) (k .asked-clock .ensures),
-      clock-counts (a .head) (a .presets) (a .clock) _ (a .table .now) (k .asked-clock .ensures) v run right (c .pass-slots .ensures),
+      line-clock (a .head) (a .presets) (stateOf (a .table .now) (a .clock)) (a .line .now) (r .read-event .ensures) (k .before .before .event .given .1) (k .asked-clock .ensures),
+      clock-counts (a .head) (a .presets) _ (stateOf (a .table .now) (a .clock)) (k .asked-clock .ensures) v run right (c .pass-slots .ensures),
     )
 
 same-length-2 : tie.Need-same-length-2
@@ -56,7 +57,7 @@ returns-2 c =
     let s = r .before .before .before in
     let a = s .args in
     let done = k .call-by-counts .ensures v run right in (
-      line-place (a .head) (a .presets) (a .clock) (a .table .now) (a .line .now) (r .read-event .ensures) (k .before .before .before .before .before .before .event2 .given .1) (done .0)
+      line-place (a .head) (a .presets) (stateOf (a .table .now) (a .clock)) (a .line .now) (r .read-event .ensures) (k .before .before .before .before .before .before .event2 .given .1) (done .0)
           (c .call-outcome .ensures .0) (c .call-outcome .ensures .1),
       rw (c .call-outcome .ensures .1) (done .1),
     )
@@ -67,7 +68,7 @@ returns-3 c =
     let r = c .before .before .before .before in
     let s = r .before .before .before in
     let a = s .args in
-    (line-fault (a .head) (a .presets) (a .clock) (a .table .now) (a .line .now) (r .read-event .ensures) (c .before .event3 .given .1), right)
+    (line-fault (a .head) (a .presets) (stateOf (a .table .now) (a .clock)) (a .line .now) (r .read-event .ensures) (c .before .event3 .given .1), right)
 
 pub event-by-counts-spec : {M : Type 1} → statement M
 event-by-counts-spec =

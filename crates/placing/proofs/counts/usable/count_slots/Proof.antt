@@ -8,6 +8,7 @@ use Rattle.laws.specs.Sums.{count}
 use Rattle.laws.specs.method.Capacities.{ByFree}
 use Rattle.laws.proofs.Counts.{count-le}
 use Rattle.laws.proofs.Capacities.{with-more}
+use Rattle.placing.specs.Valid.{firstSlot}
 use Rattle.placing.specs.method.Counts.{slotFree}
 use Rattle.placing.proofs.counts.usable.UsableCells.{eight-le, free-in-le, slot-from, with-before}
 use borrow.Author.Needs.{needs}
@@ -16,7 +17,7 @@ use Rattle.placing.proofs.counts.usable.count_slots.Tie as tie
 
 abbrev Inv-loop : tie.InvT-loop
 Inv-loop table slots bridges clock with₀ s₀ with s =
-    (min (clock - 1) slots ≤ s) × (s ≤ slots) × (length with ≡ 9) × ByFree with s (slotFree table bridges clock)
+    (min (firstSlot clock) slots ≤ s) × (s ≤ slots) × (length with ≡ 9) × ByFree with s (slotFree table bridges clock)
 
 abbrev μ-loop : tie.MeasureT-loop
 μ-loop table slots bridges clock with₀ s₀ with s = slots - s

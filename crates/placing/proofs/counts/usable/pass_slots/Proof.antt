@@ -2,8 +2,11 @@
 use native.Mathlib.Omega.{arith}
 use Prim.Native.Nat.{ℕ, _+_, _-_, _≤_, _<_, min}
 use mathlib.Core.Path.{_≡_, sym, _∙_, ap, subst}
+use mathlib.Core.Bool.{true}
 use lib.ListN.{length, getD}
 use Rattle.laws.proofs.Tests.{clash, false-of-not, true-of-not}
+use Rattle.placing.proofs.WellFormedFrame.{clock-from, clock-to}
+use Rattle.placing.specs.Valid.{clockIn}
 use Rattle.placing.proofs.limits.Within.{limits-of}
 use Rattle.placing.specs.method.Counts.{CapacitiesAt}
 use Rattle.placing.proofs.counts.usable.UsableCells.{eight-le, pass-slot}
@@ -14,7 +17,7 @@ use Rattle.placing.proofs.counts.usable.pass_slots.Tie as tie
 abbrev Inv-loop : tie.InvT-loop
 Inv-loop slots bridges table from to capacities₀ end s₀ capacities s =
     (from ≤ to → s ≤ end)
-    × (1 ≤ from → from ≤ to → to ≤ slots + 1 → CapacitiesAt table slots bridges from capacities₀ → CapacitiesAt table slots bridges (s + 1) capacities)
+    × (clockIn slots from ≡ true → clockIn slots to ≡ true → from ≤ to → CapacitiesAt table slots bridges from capacities₀ → CapacitiesAt table slots bridges (s + 1) capacities)
 
 abbrev μ-loop : tie.MeasureT-loop
 μ-loop slots bridges table from to capacities₀ end s₀ capacities s = end - s
@@ -36,8 +39,8 @@ loop-holds c =
     let a = c .before .before .before .before .before .args in
     let b = c .first-slot2 .ensures in (
       λ h. omega (arith, h, b, c .before .first-slot .ensures),
-      λ low up high right.
-          let e : a .from ≡ c .first-slot2 .result + 1 = omega (arith, b, low, up, high) in
+      λ in-from in-to up right.
+          let e : a .from ≡ c .first-slot2 .result + 1 = omega (arith, b, clock-from (a .slots) (a .from) in-from, clock-to (a .slots) (a .from) in-from) in
           subst (λ (k : ℕ). CapacitiesAt (a .table .now) (a .slots) (a .bridges) k (a .capacities .now)) e right,
     )
 
@@ -78,20 +81,20 @@ loop-again c =
     let l = f .before .before .loop in
     let a = f .before .before .before .before .before .before .before .before .args in (
       λ h. omega (arith, f .before .loop-test .taken),
-      λ low up high right.
-          let r = l .inv .1 low up high right in
+      λ in-from in-to up right.
+          let r = l .inv .1 in-from in-to up right in
           pass-slot (a .table .now) (a .slots) (a .bridges) (l .s) (omega (arith, f .before .loop-test .taken, f .before .before .before .before .first-slot .ensures)) r
           (c .take-slot .ensures .0) (λ k m. c .take-slot .ensures .1 (r .long) k m ∙ ap (λ (z : ℕ). getD (l .capacities) k 0 - min k z) (f .free-in .ensures)),
     )
 
 returns-2 : tie.Need-returns-2 Inv-loop μ-loop
 returns-2 c =
-    λ e low up high right.
+    λ e in-from in-to up right.
     let l = c .before .loop in
     let n = c .before .before .before in
     let a = n .before .before .before .before .args in
-    let same : l .s + 1 ≡ a .to = omega (arith, l .inv .0 up, c .loop-test .left, n .first-slot .ensures, low, up, high) in
-    subst (λ (k : ℕ). CapacitiesAt (a .table .now) (a .slots) (a .bridges) k (l .capacities)) same (l .inv .1 low up high right)
+    let same : l .s + 1 ≡ a .to = omega (arith, l .inv .0 up, c .loop-test .left, n .first-slot .ensures, clock-from (a .slots) (a .to) in-to, clock-to (a .slots) (a .to) in-to) in
+    subst (λ (k : ℕ). CapacitiesAt (a .table .now) (a .slots) (a .bridges) k (l .capacities)) same (l .inv .1 in-from in-to up right)
 
 pub pass-slots-spec : {M : Type 1} → statement M
 pass-slots-spec =
