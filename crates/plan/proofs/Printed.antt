@@ -1,5 +1,5 @@
 -- What the program prints of a text: the listing that the library wrote (`printed-listing`), or the one line of a text that it did not take
--- (`printed-refusal`); that this is there whole (`printed-bytes`, `printed-never`); how long the program's output is (`array-long`).
+-- (`printed-refusal`); that this is there whole (`printed-bytes`, `printed-never`); how long the program's input and output are (`array-long`).
 -- Assumes nothing.
 use Prim.Native.Nat.{ℕ, _≤_}
 use native.Mathlib.Omega.{arith}

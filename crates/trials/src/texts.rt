@@ -19,7 +19,7 @@ ghost use lib.ListN.{length};
 const BETWEEN: u8 = 35;
 
 // Writes `(word a b)` and the end of the line.
-fn line(word: &[u8], a: u64, b: u64) {
+pub fn line(word: &[u8], a: u64, b: u64) {
     io::write_all(1, b"(");
     io::write_all(1, word);
     io::write_all(1, b" ");
@@ -30,7 +30,7 @@ fn line(word: &[u8], a: u64, b: u64) {
 }
 
 // Writes the first n bytes of a text to standard output.
-fn write_first(text: &[u8], n: usize) {
+pub fn write_first(text: &[u8], n: usize) {
     if n <= text.len() {
         let part = &text[0..n];
         io::write_all(1, part);

@@ -1,0 +1,2 @@
+-- Steps for the walks by hand of lent.rt.
+pub mod Lending

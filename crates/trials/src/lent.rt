@@ -1,0 +1,88 @@
+// The entries of the three layers over a lent list of preset records: each function is handed 32 records, lends them for one call of an entry and answers what that does.
+// (A function that lends records is proved by a walk by hand, so that each of these is one call.)
+use frame::event::event;
+use frame::event::set_clock;
+use frame::text::TextAnswer;
+use frame::text::run_text;
+use frame::types::Outcome;
+use placing::call::CallAnswer;
+use placing::call::call;
+use placing::plan::Planned;
+use placing::plan::plan;
+use station::entries::HeadAnswer;
+use station::entries::read_head;
+use station::entries::write_head;
+use station::types::Head;
+use station::types::Job;
+use station::types::Preset;
+use station::write::Writing;
+
+// What reading a head answers.
+pub fn lent_read_head(text: &[u8], head: Head, presets: [Preset; 32]) -> HeadAnswer {
+    let mut list = presets;
+    read_head(text, head, &mut list)
+}
+
+// The records that reading a head leaves in the list.
+pub fn lent_records(text: &[u8], head: Head, presets: [Preset; 32]) -> [Preset; 32] {
+    let mut list = presets;
+    read_head(text, head, &mut list);
+    list
+}
+
+// Writes a head, whose presets stand in the list.
+pub fn lent_write_head(head: Head, presets: [Preset; 32], out: &mut [u8]) -> Writing {
+    write_head(head, &presets, out)
+}
+
+// Plans a head.
+pub fn lent_plan(head: Head, presets: [Preset; 32], table: &mut [u16]) -> Planned {
+    plan(head, &presets, table)
+}
+
+// A call of n jobs.
+pub fn lent_call(
+    head: Head,
+    presets: [Preset; 32],
+    table: &mut [u16],
+    clock: usize,
+    jobs: [Job; 8],
+    n: usize,
+) -> CallAnswer {
+    call(head, &presets, table, clock, jobs, n)
+}
+
+// A clock.
+pub fn lent_set_clock(
+    head: Head,
+    presets: [Preset; 32],
+    table: &[u16],
+    clock: usize,
+    t: usize,
+) -> Outcome {
+    set_clock(head, &presets, table, clock, t)
+}
+
+// An event line.
+pub fn lent_event(
+    head: Head,
+    presets: [Preset; 32],
+    table: &mut [u16],
+    clock: usize,
+    line: &[u8],
+) -> Outcome {
+    event(head, &presets, table, clock, line)
+}
+
+// A whole text.
+pub fn lent_run_text(
+    text: &[u8],
+    head: Head,
+    presets: [Preset; 32],
+    table: &mut [u16],
+    clock: usize,
+    out: &mut [u8],
+) -> TextAnswer {
+    let mut list = presets;
+    run_text(text, head, &mut list, table, clock, out)
+}

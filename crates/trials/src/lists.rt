@@ -1,0 +1,166 @@
+// The listing of document 01, its head read into a lent list of preset records and written from it, planned, and its events handed over one by one: each entry over a lent
+// list once. Then the whole text. What each answers is written, and the first eight cells of the table, which are the frame's, after each that changes it.
+use crate::lent::lent_call;
+use crate::lent::lent_event;
+use crate::lent::lent_plan;
+use crate::lent::lent_read_head;
+use crate::lent::lent_records;
+use crate::lent::lent_run_text;
+use crate::lent::lent_set_clock;
+use crate::lent::lent_write_head;
+use crate::texts::line;
+use crate::texts::write_first;
+use frame::text::Ended;
+use frame::text::TextAnswer;
+use frame::types::Answer;
+use frame::types::Outcome;
+use placing::call::CallAnswer;
+use placing::plan::PlanAnswer;
+use placing::plan::Planned;
+use station::causes::cause_number;
+use station::entries::HeadAnswer;
+use station::heads::ReadAnswer;
+use station::types::Head;
+use station::types::Job;
+use station::types::Preset;
+use station::write::Writing;
+
+// A head record and preset records of zeros.
+fn no_head() -> Head {
+    Head {
+        slots: 0,
+        bridges: 0,
+        busy: [0; 8],
+        count: 0,
+    }
+}
+
+fn no_presets() -> [Preset; 32] {
+    [Preset {
+        number: 0,
+        priority: 0,
+        mandatory: 0,
+        optional: 0,
+    }; 32]
+}
+
+// The job of the first call, and no others.
+fn jobs() -> [Job; 8] {
+    let mut jobs = [Job {
+        number: 0,
+        slots: 0,
+    }; 8];
+    jobs[0] = Job {
+        number: 9,
+        slots: 2,
+    };
+    jobs
+}
+
+fn wide(cell: u16) -> u64 {
+    cell as u64
+}
+
+// Writes the cells of four slots of two bridges.
+fn show_cells(table: &[u16; 512]) {
+    line(b"cells", wide(table[0]), wide(table[1]));
+    line(b"cells", wide(table[2]), wide(table[3]));
+    line(b"cells", wide(table[4]), wide(table[5]));
+    line(b"cells", wide(table[6]), wide(table[7]));
+}
+
+fn show_read(read: HeadAnswer) {
+    let answer = read.answer;
+    match answer {
+        ReadAnswer::Accepted(lines, bytes) => line(b"accepted", lines as u64, bytes as u64),
+        ReadAnswer::Refused(n, cause) => line(b"refused", n as u64, cause_number(cause) as u64),
+    }
+}
+
+// Writes the head that was written.
+fn show_written(written: Writing, out: &[u8]) {
+    match written {
+        Writing::Written(n) => write_first(out, n),
+        Writing::Refused(cause) => line(b"refused", 0, cause_number(cause) as u64),
+    }
+}
+
+// Writes the grants of the two presets.
+fn show_planned(planned: Planned) {
+    let answer = planned.answer;
+    let grants = planned.grants;
+    match answer {
+        PlanAnswer::Granted => line(b"granted", grants[0] as u64, grants[1] as u64),
+        PlanAnswer::Refused(cause) => line(b"refused", 0, cause_number(cause) as u64),
+    }
+}
+
+fn show_called(answer: CallAnswer) {
+    match answer {
+        CallAnswer::Taken(n) => line(b"taken", n as u64, 0),
+        CallAnswer::Refused(cause) => line(b"refused", 0, cause_number(cause) as u64),
+    }
+}
+
+// Writes what an event comes to, and the clock where it is accepted.
+fn show_outcome(outcome: Outcome) {
+    let answer = outcome.answer;
+    let clock = outcome.clock;
+    match answer {
+        Answer::Now(t) => line(b"now", t as u64, clock as u64),
+        Answer::Taken(n) => line(b"taken", n as u64, clock as u64),
+        Answer::Refused(cause) => line(b"refused", 0, cause_number(cause) as u64),
+    }
+}
+
+// Writes the listing of a text that ran.
+fn show_run(run: TextAnswer, out: &[u8]) {
+    let ended = run.ended;
+    match ended {
+        Ended::Ran(n) => write_first(out, n),
+        Ended::Refused(n, cause) => line(b"refused", n as u64, cause_number(cause) as u64),
+    }
+}
+
+// The head of a text read into the list and written from it.
+fn try_head(text: &[u8]) {
+    let mut out = [0u8; 8192];
+    let read = lent_read_head(text, no_head(), no_presets());
+    show_read(read);
+    let head = read.head;
+    let records = lent_records(text, no_head(), no_presets());
+    let written = lent_write_head(head, records, &mut out);
+    show_written(written, &out);
+}
+
+// Its plan, then a clock, a call and an event line, each on what the last one left.
+fn try_events(head: Head, records: [Preset; 32]) {
+    let mut table = [0u16; 512];
+    show_planned(lent_plan(head, records, &mut table));
+    show_cells(&table);
+    show_outcome(lent_set_clock(head, records, &table, 1, 2));
+    show_called(lent_call(head, records, &mut table, 2, jobs(), 1));
+    show_cells(&table);
+    show_outcome(lent_event(head, records, &mut table, 2, b"(call (10 1))\n"));
+    show_cells(&table);
+    show_outcome(lent_event(head, records, &mut table, 2, b"(call (11 1))\n"));
+}
+
+// The whole text, from records of zeros.
+fn try_text(text: &[u8]) {
+    let mut table = [0u16; 512];
+    let mut out = [0u8; 8192];
+    let run = lent_run_text(text, no_head(), no_presets(), &mut table, 1, &mut out);
+    show_run(run, &out);
+}
+
+// All of it.
+pub fn try_lists() {
+    let text =
+        b"(frame 4 2)\n(busy 2 (2 3))\n(preset 1 0 2 1)\n(preset 2 1 1 2)\n(clock 2)\n(call (9 2))\n(call (10 1))\n(call (11 1))\n";
+    io::write_all(1, b"(a lent list)\n");
+    try_head(text);
+    let read = lent_read_head(text, no_head(), no_presets());
+    try_events(read.head, lent_records(text, no_head(), no_presets()));
+    try_text(text);
+}
