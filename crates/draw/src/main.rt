@@ -18,27 +18,9 @@ use pictures::refused_text;
 use station::heads::ReadAnswer;
 use station::heads::read_head_by_value;
 use station::types::Head;
+use station::types::NO_HEAD;
+use station::types::NO_PRESETS;
 use station::types::Preset;
-
-// The head that is handed in where one is to be read.
-fn no_head() -> Head {
-    Head {
-        slots: 0,
-        bridges: 0,
-        busy: [0; 8],
-        count: 0,
-    }
-}
-
-// The preset records that are handed in where those of a head are to be read.
-fn no_presets() -> [Preset; 32] {
-    [Preset {
-        number: 0,
-        priority: 0,
-        mandatory: 0,
-        optional: 0,
-    }; 32]
-}
 
 // Draws a frame as the lines before the last event left it, and as this event leaves it. No event is one of no bytes: then it is the plan.
 fn draw_frame(
@@ -76,7 +58,7 @@ fn draw_text(text: &[u8], event: &[u8], line: usize) {
     let mut table = [0u16; 512];
     // the least output that is taken; the listing in it is not used
     let mut listing = [0u8; 8192];
-    let run = run_text_by_value(text, no_head(), no_presets(), &mut table, 1, &mut listing);
+    let run = run_text_by_value(text, NO_HEAD, NO_PRESETS, &mut table, 1, &mut listing);
     let ended = run.ended;
     let head = run.head;
     let presets = run.presets;
@@ -88,7 +70,7 @@ fn draw_text(text: &[u8], event: &[u8], line: usize) {
 
 // Draws a text. What its head is refused for, and its plan, is said in the picture.
 fn draw(text: &[u8]) {
-    let read = read_head_by_value(text, no_head(), no_presets());
+    let read = read_head_by_value(text, NO_HEAD, NO_PRESETS);
     let answer = read.answer;
     match answer {
         ReadAnswer::Accepted(_, bytes) => {

@@ -22,27 +22,10 @@ use station::entries::HeadAnswer;
 use station::heads::ReadAnswer;
 use station::types::Head;
 use station::types::Job;
+use station::types::NO_HEAD;
+use station::types::NO_PRESETS;
 use station::types::Preset;
 use station::write::Writing;
-
-// A head record and preset records of zeros.
-fn no_head() -> Head {
-    Head {
-        slots: 0,
-        bridges: 0,
-        busy: [0; 8],
-        count: 0,
-    }
-}
-
-fn no_presets() -> [Preset; 32] {
-    [Preset {
-        number: 0,
-        priority: 0,
-        mandatory: 0,
-        optional: 0,
-    }; 32]
-}
 
 // The job of the first call, and no others.
 fn jobs() -> [Job; 8] {
@@ -125,10 +108,10 @@ fn show_run(run: TextAnswer, out: &[u8]) {
 // The head of a text read into the list and written from it.
 fn try_head(text: &[u8]) {
     let mut out = [0u8; 8192];
-    let read = lent_read_head(text, no_head(), no_presets());
+    let read = lent_read_head(text, NO_HEAD, NO_PRESETS);
     show_read(read);
     let head = read.head;
-    let records = lent_records(text, no_head(), no_presets());
+    let records = lent_records(text, NO_HEAD, NO_PRESETS);
     let written = lent_write_head(head, records, &mut out);
     show_written(written, &out);
 }
@@ -150,7 +133,7 @@ fn try_events(head: Head, records: [Preset; 32]) {
 fn try_text(text: &[u8]) {
     let mut table = [0u16; 512];
     let mut out = [0u8; 8192];
-    let run = lent_run_text(text, no_head(), no_presets(), &mut table, 1, &mut out);
+    let run = lent_run_text(text, NO_HEAD, NO_PRESETS, &mut table, 1, &mut out);
     show_run(run, &out);
 }
 
@@ -160,7 +143,7 @@ pub fn try_lists() {
         b"(frame 4 2)\n(busy 2 (2 3))\n(preset 1 0 2 1)\n(preset 2 1 1 2)\n(clock 2)\n(call (9 2))\n(call (10 1))\n(call (11 1))\n";
     io::write_all(1, b"(a lent list)\n");
     try_head(text);
-    let read = lent_read_head(text, no_head(), no_presets());
-    try_events(read.head, lent_records(text, no_head(), no_presets()));
+    let read = lent_read_head(text, NO_HEAD, NO_PRESETS);
+    try_events(read.head, lent_records(text, NO_HEAD, NO_PRESETS));
     try_text(text);
 }

@@ -151,7 +151,7 @@ fn job_count(counts: &[u16; COUNTS]) -> u16
 }
 
 // Whether the table is well-formed: no cell at fault, then the presets' counts, then the number of jobs.
-pub fn well_formed(head: Head, presets: [Preset; 32], table: &[u16]) -> bool
+pub(crate) fn well_formed(head: Head, presets: [Preset; 32], table: &[u16]) -> bool
     requires { ⌜ (validRecord head presets ≡ true) × (512 ≤ length (now table)) ⌝ }
     ensures { λ r. ⌜ r ≡ wellFormed (headIn head presets) (cell (headIn head presets) (now (table .entry))) ⌝ }
 {
