@@ -1,8 +1,8 @@
 -- Cells and placements: the free cells of a slot taken in order, and a placement read off from cells.
 --
 -- In order: the cells that pass a test: those below one of them (`count-below`), the first m (`count-first`), the r-th (`nth-count`); one job to a
--- cell, one cell to a job (`takes-one-job`, `takes-one-cell`); what the cells of a slot then hold (`slot-holding`); a placement from cells
--- (`placed-of-cells`).
+-- cell, one cell to a job (`takes-one-job`, `takes-one-cell`); what the cells of a slot then hold (`slot-holding`); the jobs' cells of a
+-- slot are at most the free ones (`cells-within`), and with any such bound on the slots they are a placement (`placed-of-cells`).
 -- Assumes nothing.
 use Prim.Native.Nat.{ℕ, zero, suc, _+_, _≤_, _<_, min}
 use native.Mathlib.Nat.{le-refl, zero-add, add-zero}
@@ -14,7 +14,7 @@ use Rattle.laws.specs.Sums.{bit, only, sum, count}
 use Rattle.laws.specs.Placement.{Placed}
 use Rattle.laws.specs.Cells.{takes, slotCell}
 use Rattle.laws.proofs.Tests.{Is, is-true, is-false, is, not-true}
-use Rattle.laws.proofs.Comparisons.{eq-of, ne-of, ltb-yes, eqb-comm}
+use Rattle.laws.proofs.Comparisons.{lt-of, eq-of, ne-of, ltb-yes, eqb-comm}
 use Rattle.laws.proofs.Sums.{sum-ext, sum-le, sum-zero, term-le, sum-add, sum-swap, sum-beyond}
 use Rattle.laws.proofs.Counts.{bit-le, bit-ltb, count-ext}
 
@@ -140,22 +140,24 @@ slot-holding k n a f v t q z enough =
 
 -- ---- a placement read off from cells
 
--- Cells that belong to jobs (`own i s b`), at most one of a slot to a job, each to at most one job and only where it is free: a placement.
-pub placed-of-cells : (k n m : ℕ) (own : ℕ → ℕ → ℕ → Bool) (f : ℕ → ℕ → Bool) (c : ℕ → ℕ)
+-- cells of a slot that belong to jobs (`own i b`), each to at most one job and only where it is free, are no more than are free
+pub cells-within : (k m : ℕ) (own : ℕ → ℕ → Bool) (f : ℕ → Bool) → ((b : ℕ) → b < m → count k (λ i. own i b) ≤ bit (f b))
+    → sum k (λ i. count m (λ b. own i b)) ≤ count m f
+cells-within k m own f single =
+    omega (arith, sum-swap k m (λ i b. bit (own i b)), sum-le m (λ b. count k (λ i. own i b)) (λ b. bit (f b)) single)
+
+-- Cells that belong to jobs (`own i s b`), at most one of a slot to a job, of slot s at most `x s`, and only in slots that the job may use: a placement.
+pub placed-of-cells : (w : ℕ → ℕ → Bool) (k n m : ℕ) (own : ℕ → ℕ → ℕ → Bool) (x c : ℕ → ℕ)
     → ((i s : ℕ) → i < k → s < n → count m (λ b. own i s b) ≤ 1)
-    → ((s b : ℕ) → s < n → b < m → count k (λ i. own i s b) ≤ bit (f s b))
+    → ((s : ℕ) → s < n → sum k (λ i. count m (λ b. own i s b)) ≤ x s)
     → ((i : ℕ) → i < k → sum n (λ s. count m (λ b. own i s b)) ≡ c i)
-    → Placed k c n (λ s. count m (λ b. f s b)) (λ i s. ltb 0 (count m (λ b. own i s b)))
-placed-of-cells k n m own f c row single exact =
+    → ((i s : ℕ) → i < k → s < n → 0 < count m (λ b. own i s b) → w i s ≡ true)
+    → Placed w k c n x (λ i s. ltb 0 (count m (λ b. own i s b)))
+placed-of-cells w k n m own x c row slot exact may =
     record {
       exact = λ i l. sum-ext n (has i) (λ s. count m (λ b. own i s b)) (λ s z. one i s l z) ∙ exact i l;
-      within = λ s z.
-          omega (
-            arith,
-            sum-ext k (λ i. has i s) (λ i. count m (λ b. own i s b)) (λ i l. one i s l z),
-            sum-swap k m (λ i b. bit (own i s b)),
-            sum-le m (λ b. count k (λ i. own i s b)) (λ b. bit (f s b)) (λ b y. single s b z y),
-          );
+      within = λ s z. omega (arith, sum-ext k (λ i. has i s) (λ i. count m (λ b. own i s b)) (λ i l. one i s l z), slot s z);
+      allowed = λ i s l z e. may i s l z (lt-of 0 (count m (λ b. own i s b)) e);
     }
   where
     has : ℕ → ℕ → ℕ

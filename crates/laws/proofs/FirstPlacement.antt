@@ -13,7 +13,8 @@ use mathlib.Core.Logic.{_⊎_, inl, inr, _↔_}
 use mathlib.Core.Bool.{Bool, true, false, not, _&&_}
 use lib.Dec.{ltb, eqb}
 use Rattle.laws.specs.Sums.{bit, sum, count}
-use Rattle.laws.specs.Windows.{PlacedWithin, Earlier, Ahead, FirstPlaced, usersOf, windowExcess, without, Rest, taking, leaving, restExcess, takes, afterPair}
+use Rattle.laws.specs.Placement.{Placed}
+use Rattle.laws.specs.Windows.{Earlier, Ahead, FirstPlaced, usersOf, windowExcess, without, Rest, taking, leaving, restExcess, takes, afterPair}
 use Rattle.laws.specs.Windows.{afterSlots, afterJobs, firstFit, firstPlacement}
 use Rattle.laws.proofs.Tests.{Is, is-true, is-false, is, clash, not-true, left-of, right-of, both, and-true}
 use Rattle.laws.proofs.Comparisons.{lt-of, ge-of, eq-of, ne-of, eqb-self, eqb-no, eqb-yes, ltb-yes}
@@ -28,7 +29,7 @@ use Rattle.laws.proofs.WindowPlacement.{window-excess-of-within, within
 module _ (k n : ℕ) where
   -- what is left has a placement b
   abbrev WithinRest : Rest → (ℕ → ℕ → Bool) → Type 0
-  WithinRest r b = PlacedWithin k (r .needs) n (r .free) (r .windows) b
+  WithinRest r b = Placed (r .windows) k (r .needs) n (r .free) b
 
   module _ (r : Rest) (i s : ℕ) where
     -- a pair is taken if the job may use the slot, needs it, a cell is free and the rest fits ..
@@ -120,8 +121,8 @@ module _ (k n : ℕ) where
     -- a pair that some placement of what is left has is taken
     pair-must : (b : ℕ → ℕ → Bool) → i < k → s < n → WithinRest r b → b i s ≡ true → takes k n r i s ≡ true
     pair-must b l m h e =
-        takes-of (h .allowed i s l m e) (omega (arith, h .placed .exact i l, count-some n (λ t. b i t) s m e))
-        (omega (arith, h .placed .within s m, count-some k (λ j. b j s) i l e)) (window-excess-of-within (within-taking i s l m e h))
+        takes-of (h .allowed i s l m e) (omega (arith, h .exact i l, count-some n (λ t. b i t) s m e))
+        (omega (arith, h .within s m, count-some k (λ j. b j s) i l e)) (window-excess-of-within (within-taking i s l m e h))
 
     -- a placement that has the pair exactly if it is taken goes on
     pair-within : (b : ℕ → ℕ → Bool) → i < k → s < n → takes k n r i s ≡ b i s → WithinRest r b → WithinRest (afterPair k n r i s) (without b i s)
@@ -324,13 +325,11 @@ module _ (k n : ℕ) where
         )
 
     -- where there is no excess the walk makes a placement
-    pub first-fit-within : restExcess k n r ≡ 0 → PlacedWithin k (r .needs) n (r .free) (r .windows) (firstFit k n r)
+    pub first-fit-within : restExcess k n r ≡ 0 → Placed (r .windows) k (r .needs) n (r .free) (firstFit k n r)
     first-fit-within fits =
         record {
-          placed = record {
-            exact = λ i l. omega (arith, jobs-needs k i l, end-needs fits i l);
-            within = λ s l. omega (arith, jobs-free k s l);
-          };
+          exact = λ i l. omega (arith, jobs-needs k i l, end-needs fits i l);
+          within = λ s l. omega (arith, jobs-free k s l);
           allowed = λ i s l m e. jobs-windows i i s
               (slots-windows (afterJobs k n r i) i s i s (taken-may (afterSlots k n (afterJobs k n r i) i s) i s e .0));
         }
@@ -410,7 +409,7 @@ module _ (k n : ℕ) where
 -- ---- Hall's theorem
 
 -- Where no set of jobs exceeds its capacity there is a placement, and only there.
-pub hall : (k : ℕ) (c : ℕ → ℕ) (n : ℕ) (x : ℕ → ℕ) (w : ℕ → ℕ → Bool) → (windowExcess k c n x w ≡ 0) ↔ ((a : ℕ → ℕ → Bool) × PlacedWithin k c n x w a)
+pub hall : (k : ℕ) (c : ℕ → ℕ) (n : ℕ) (x : ℕ → ℕ) (w : ℕ → ℕ → Bool) → (windowExcess k c n x w ≡ 0) ↔ ((a : ℕ → ℕ → Bool) × Placed w k c n x a)
 hall k c n x w = (
   (λ fits. (firstPlacement k c n x w, first-fit-within k n (record { needs = c; free = x; windows = w }) fits)),
   (λ p. window-excess-of-within (p .1)),

@@ -1,5 +1,5 @@
 -- The laws, by subject. Of numbers and lists: tests, comparisons, tests of every number, sums, counts, lists element by element, stores into them, what a loop over numbers keeps,
--- positions in an order. Of jobs and slots: capacities, placements (T1, T2), the sums of the largest needs, cells of a slot, eviction (T4), grants (T3), the highest need of a job.
+-- positions in an order. Of jobs and slots: capacities, placements (T1, T2), the sums of the largest needs, the excess, cells of a slot, eviction (T4), grants (T3), the highest need of a job.
 pub mod Tests
 pub mod Comparisons
 pub mod Every
@@ -12,14 +12,14 @@ pub mod Order
 pub mod Capacities
 pub mod Placement
 pub mod Largest
+pub mod Excess
 pub mod Cells
 pub mod Eviction
 pub mod Grants
 pub mod Least
--- Ahead of requests to come: the cells a search looks at (10); the excess past the bridges (06); one more free cell (14); the first largest set, needs
+-- Ahead of requests to come: the cells a search looks at (10); one more free cell (14); the first largest set, needs
 -- that go into a number of cells, whole presets (13).
 pub mod Looked
-pub mod Excess
 pub mod Sensitivity
 pub mod Subsets
 pub mod Fitting

@@ -1,13 +1,14 @@
 -- Placements: a placement exists exactly if every selection of jobs obeys the capacity, and then largest remaining time first finds one.
 --
 -- In order: the criterion for more free cells and lower needs; a placement obeys the criterion; the r largest needs; the criterion and the excess; one slot for any
--- choice of the largest needs, by the dual of the criterion; any way of breaking ties (T2); the choice of LRTF; the needs that are left; LRTF places.
+-- choice of the largest needs, by the dual of the criterion; any way of breaking ties (T2); the choice of LRTF; the needs that are left, and the
+-- rule as a table shows it (`shown-rule`); LRTF places.
 -- Laws of the capacity alone are in Capacities.
 -- Assumes nothing.
 use Prim.Native.Nat.{ℕ, zero, suc, _+_, _-_, _*_, _≤_, _<_, min}
 use native.Mathlib.Nat.{le-refl, mul-comm}
 use native.Mathlib.Omega.{arith}
-use mathlib.Core.Path.{_≡_, refl, sym, _∙_, ap}
+use mathlib.Core.Path.{_≡_, refl, sym, _∙_, ap, subst}
 use mathlib.Core.Logic.{_⊎_, inl, inr}
 use mathlib.Core.Bool.{Bool, true, false, not, _&&_}
 use mathlib.Core.List.{List}
@@ -15,7 +16,7 @@ use lib.ListN.{length}
 use lib.Dec.{ltb}
 use Rattle.laws.specs.Sums.{bit, only, sum, count, position}
 use Rattle.laws.specs.Lists.{at}
-use Rattle.laws.specs.Placement.{Placed, SlotRule, capacity, Criterion, before, chosen, served, left, lrtf, largest, excess}
+use Rattle.laws.specs.Placement.{Placed, everywhere, SlotRule, capacity, Criterion, before, chosen, served, left, lrtf, largest, excess}
 use Rattle.laws.proofs.Tests.{Is, is, is-true, is-false, clash, both, left-of, right-of}
 use Rattle.laws.proofs.Comparisons.{lt-of, ge-of, ltb-yes}
 use Rattle.laws.proofs.Every.{either}
@@ -43,8 +44,8 @@ only-count n q true = refl
 only-count n q false = sym (sum-zero n (λ s. 0) (λ s l. refl))
 
 -- T1: in a slot the jobs of a selection take at most as many cells as they are, and as are free
-pub criterion-of-placed : {k : ℕ} {c : ℕ → ℕ} {n : ℕ} {x : ℕ → ℕ} {a : ℕ → ℕ → Bool} → Placed k c n x a → Criterion k c n x
-criterion-of-placed {k} {c} {n} {x} {a} h p =
+pub criterion-of-placed : {w : ℕ → ℕ → Bool} {k : ℕ} {c : ℕ → ℕ} {n : ℕ} {x : ℕ → ℕ} {a : ℕ → ℕ → Bool} → Placed w k c n x a → Criterion k c n x
+criterion-of-placed {w} {k} {c} {n} {x} {a} h p =
     omega (
       arith,
       sum-ext k (λ i. only (p i) (c i)) (λ i. sum n (λ s. bit (p i && a i s))) job,
@@ -276,7 +277,7 @@ steps-got k l D i (suc n) next = omega (arith, steps-got k l D i n (λ s m. next
 
 -- T2, whatever breaks ties: where every selection obeys, choosing the largest remaining needs slot by slot makes a placement.
 pub largest-first-places : (k n : ℕ) (x : ℕ → ℕ) (l : ℕ → ℕ → ℕ) (D : ℕ → ℕ → Bool) → ((s : ℕ) → s < n → Step k (l s) (x s) (D s)) →
-    ((s i : ℕ) → s < n → i < k → l (suc s) i ≡ l s i - bit (D s i)) → Criterion k (l 0) n x → Placed k (l 0) n x (λ i s. D s i)
+    ((s i : ℕ) → s < n → i < k → l (suc s) i ≡ l s i - bit (D s i)) → Criterion k (l 0) n x → Placed everywhere k (l 0) n x (λ i s. D s i)
 largest-first-places k n x l D step next h =
     record {
       exact = λ i m.
@@ -286,6 +287,7 @@ largest-first-places k n x l D step next h =
             steps-end n k l D x step next (dual-of-criterion k (l 0) n x h) i m,
           );
       within = λ s z. step s z .fits;
+      allowed = λ i s m z e. refl;
     }
   where
     whole : (s i : ℕ) → s < n → i < k → Is (D s i) → l (suc s) i + bit (D s i) ≡ l s i
@@ -413,19 +415,56 @@ unfolding left sum
 left-got c x i zero = omega arith
 left-got c x i (suc s) = omega (arith, left-got c x i s, left-step c x i s)
 
+-- The rule as a table shows it, where job i has `got i r` cells in slot r: one where LRTF places it, and none elsewhere.
+pub shown-rule : (c : List ℕ) (x : ℕ → ℕ) (s k : ℕ) (need : ℕ → ℕ) (got : ℕ → ℕ → ℕ) (d : ℕ) → length c ≡ k → ((i : ℕ) → i < k → at c i ≡ need i) → x s ≡ d
+    → ((i : ℕ) → i < k → (r : ℕ) → r ≤ s → got i r ≡ bit (lrtf c x i r)) → SlotRule k (λ i. need i - sum s (λ r. got i r)) d (λ i. ltb 0 (got i s))
+shown-rule c x s k need got d long is-need free shown = record {
+  many = omega (
+    arith,
+    rule .many,
+    free,
+    count-ext k (λ i. lrtf c x i s) (λ i. ltb 0 (got i s)) placed,
+    count-ext k (λ i. ltb 0 (at (left c x s) i)) (λ i. ltb 0 (to-get i)) (λ i l. ap (ltb 0) (is-left i l)),
+  );
+  most = λ i j l m p q n. same i j l m (rule .most i j l m (placed j m ∙ p) (placed i l ∙ q) (omega (arith, n, is-left i l)));
+  needed = λ i l p. omega (arith, is-left i l, rule .needed i l (placed i l ∙ p));
+}
+  where
+    to-get : ℕ → ℕ
+    to-get i = need i - sum s (λ r. got i r)
+
+    rule : SlotRule k (at (left c x s)) (x s) (λ i. lrtf c x i s)
+    rule = subst (λ (n : ℕ). SlotRule n (at (left c x s)) (x s) (λ i. lrtf c x i s)) long (chosen-rule (length c) (at (left c x s)) (x s))
+
+    is-left : (i : ℕ) → i < k → at (left c x s) i ≡ to-get i
+    is-left i l =
+        omega (arith, left-got c x i s, is-need i l, sum-ext s (λ r. got i r) (λ r. bit (lrtf c x i r)) (λ r m. shown i l r (omega arith)))
+
+    some-bit : (b : Bool) → b ≡ ltb 0 (bit b)
+    some-bit true = refl
+    some-bit false = refl
+
+    placed : (i : ℕ) → i < k → lrtf c x i s ≡ ltb 0 (got i s)
+    placed i l = some-bit (lrtf c x i s) ∙ ap (ltb 0) (sym (shown i l s (le-refl s)))
+
+    same : (i j : ℕ) → i < k → j < k → (at (left c x s) i < at (left c x s) j) ⊎ ((at (left c x s) i ≡ at (left c x s) j) × (j < i))
+        → (to-get i < to-get j) ⊎ ((to-get i ≡ to-get j) × (j < i))
+    same i j l m (inl p) = inl (omega (arith, p, is-left i l, is-left j m))
+    same i j l m (inr p) = inr (omega (arith, p .0, is-left i l, is-left j m), p .1)
+
 -- ---- LRTF places
 
 -- T2 for this rule: where every selection obeys, LRTF makes a placement
-pub lrtf-places : (c : List ℕ) (n : ℕ) (x : ℕ → ℕ) → Criterion (length c) (at c) n x → Placed (length c) (at c) n x (lrtf c x)
+pub lrtf-places : (c : List ℕ) (n : ℕ) (x : ℕ → ℕ) → Criterion (length c) (at c) n x → Placed everywhere (length c) (at c) n x (lrtf c x)
 unfolding left
 lrtf-places c n x h =
     largest-first-places (length c) n x (λ s. at (left c x s)) (λ s i. lrtf c x i s)
     (λ s z. chosen-step (length c) (at (left c x s)) (x s)) (λ s i z m. omega (arith, left-step c x i s)) h
 
 -- needs without excess are placed by LRTF
-pub fits-placed : (c : List ℕ) (n : ℕ) (x : ℕ → ℕ) → excess (length c) (at c) n x ≡ 0 → Placed (length c) (at c) n x (lrtf c x)
+pub fits-placed : (c : List ℕ) (n : ℕ) (x : ℕ → ℕ) → excess (length c) (at c) n x ≡ 0 → Placed everywhere (length c) (at c) n x (lrtf c x)
 fits-placed c n x e = lrtf-places c n x (criterion-of-excess (length c) (at c) n x e)
 
 -- needs that can be placed at all have no excess
-pub placed-fits : {k : ℕ} {c : ℕ → ℕ} {n : ℕ} {x : ℕ → ℕ} {a : ℕ → ℕ → Bool} → Placed k c n x a → excess k c n x ≡ 0
-placed-fits {k} {c} {n} {x} h = excess-of-criterion k c n x (criterion-of-placed h)
+pub placed-fits : {w : ℕ → ℕ → Bool} {k : ℕ} {c : ℕ → ℕ} {n : ℕ} {x : ℕ → ℕ} {a : ℕ → ℕ → Bool} → Placed w k c n x a → excess k c n x ≡ 0
+placed-fits {w} {k} {c} {n} {x} h = excess-of-criterion k c n x (criterion-of-placed h)

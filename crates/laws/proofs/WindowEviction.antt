@@ -10,7 +10,8 @@ use mathlib.Core.Bool.{Bool}
 use mathlib.Core.List.{List}
 use lib.ListN.{length}
 use Rattle.laws.specs.Eviction.{added, ones, FirstSmallest, searched}
-use Rattle.laws.specs.Windows.{PlacedWithin, windowExcess}
+use Rattle.laws.specs.Placement.{Placed}
+use Rattle.laws.specs.Windows.{windowExcess}
 use Rattle.laws.proofs.Eviction.{searched-best, searched-first, searched-ones, first-smallest-of-iff}
 use Rattle.laws.proofs.WindowExcess.{window-shortage}
 use Rattle.laws.proofs.FirstPlacement.{hall}
@@ -18,7 +19,7 @@ use Rattle.laws.proofs.FirstPlacement.{hall}
 module _ (k : ℕ) (c : ℕ → ℕ) (n : ℕ) (w : ℕ → ℕ → Bool) where
   -- the jobs have a placement within windows in the free cells y
   abbrev pub FitWithin : (ℕ → ℕ) → Type 0
-  FitWithin y = (a : ℕ → ℕ → Bool) × PlacedWithin k c n y w a
+  FitWithin y = (a : ℕ → ℕ → Bool) × Placed w k c n y a
 
   -- the cells that the search takes
   abbrev pub windowSearched : (ℕ → ℕ) → List ℕ → List Bool

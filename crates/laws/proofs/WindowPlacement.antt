@@ -1,7 +1,6 @@
 -- Placements within windows: they obey the criterion, and what is left of one without a pair is one.
 --
--- In order: what the jobs of a set hold (`held-by-slots`, `held-in-slot`); a placement obeys the criterion; windows that are everywhere; a matrix
--- that agrees with a placement; a placement with one pair less.
+-- In order: what the jobs of a set hold (`held-by-slots`, `held-in-slot`); a placement obeys the criterion; a matrix that agrees with a placement; a placement with one pair less.
 -- Assumes nothing.
 use Prim.Native.Nat.{ℕ, _+_, _≤_, _<_, min}
 use native.Mathlib.Omega.{arith}
@@ -10,7 +9,7 @@ use mathlib.Core.Bool.{Bool, true, false, not, _&&_, and-comm}
 use lib.Dec.{eqb}
 use Rattle.laws.specs.Sums.{bit, only, sum, count}
 use Rattle.laws.specs.Placement.{Placed}
-use Rattle.laws.specs.Windows.{PlacedWithin, needOf, usersOf, WindowCriterion, windowExcess, less, without}
+use Rattle.laws.specs.Windows.{needOf, usersOf, WindowCriterion, windowExcess, less, without}
 use Rattle.laws.proofs.Tests.{left-of, right-of, both}
 use Rattle.laws.proofs.Sums.{sum-ext, sum-le, sum-swap}
 use Rattle.laws.proofs.Counts.{count-ext, count-imp, bit-and-true, bit-and-false}
@@ -39,35 +38,28 @@ held-in-slot k n x w a p within allowed s l =
     )
 
 -- T1 for windows: a placement obeys every set of jobs
-pub criterion-of-within : {k : ℕ} {c : ℕ → ℕ} {n : ℕ} {x : ℕ → ℕ} {w a : ℕ → ℕ → Bool} → PlacedWithin k c n x w a → WindowCriterion k c n x w
+pub criterion-of-within : {k : ℕ} {c : ℕ → ℕ} {n : ℕ} {x : ℕ → ℕ} {w a : ℕ → ℕ → Bool} → Placed w k c n x a → WindowCriterion k c n x w
 criterion-of-within {k} {c} {n} {x} {w} {a} h p =
     omega (
       arith,
-      sum-ext k (λ i. only (p i) (c i)) (λ i. only (p i) (count n (λ s. a i s))) (λ i l. ap (only (p i)) (sym (h .placed .exact i l))),
+      sum-ext k (λ i. only (p i) (c i)) (λ i. only (p i) (count n (λ s. a i s))) (λ i l. ap (only (p i)) (sym (h .exact i l))),
       held-by-slots k n a p,
-      sum-le n (usersOf k a p) (λ s. min (x s) (usersOf k w p s)) (held-in-slot k n x w a p (h .placed .within) (h .allowed)),
+      sum-le n (usersOf k a p) (λ s. min (x s) (usersOf k w p s)) (held-in-slot k n x w a p (h .within) (h .allowed)),
     )
 
 -- so where there is a placement there is no excess
-pub window-excess-of-within : {k : ℕ} {c : ℕ → ℕ} {n : ℕ} {x : ℕ → ℕ} {w a : ℕ → ℕ → Bool} → PlacedWithin k c n x w a → windowExcess k c n x w ≡ 0
+pub window-excess-of-within : {k : ℕ} {c : ℕ → ℕ} {n : ℕ} {x : ℕ → ℕ} {w a : ℕ → ℕ → Bool} → Placed w k c n x a → windowExcess k c n x w ≡ 0
 window-excess-of-within {k} {c} {n} {x} {w} h = window-excess-of-criterion k c n x w (criterion-of-within h)
-
--- where every job may use every slot, any placement is within windows
-pub within-of-placed : {k : ℕ} {c : ℕ → ℕ} {n : ℕ} {x : ℕ → ℕ} {w a : ℕ → ℕ → Bool} → ((i s : ℕ) → i < k → s < n → w i s ≡ true) → Placed k c n x a
-    → PlacedWithin k c n x w a
-within-of-placed all h = record { placed = h; allowed = λ i s l m e. all i s l m }
 
 -- ---- a matrix that agrees with a placement
 
 -- a placement is what it says about the k jobs and n slots
 pub within-ext : {k : ℕ} {c : ℕ → ℕ} {n : ℕ} {x : ℕ → ℕ} {w a b : ℕ → ℕ → Bool} → ((i s : ℕ) → i < k → s < n → a i s ≡ b i s)
-    → PlacedWithin k c n x w a → PlacedWithin k c n x w b
+    → Placed w k c n x a → Placed w k c n x b
 within-ext {k} {c} {n} {x} {w} {a} {b} same h =
     record {
-      placed = record {
-        exact = λ i l. sym (count-ext n (λ s. a i s) (λ s. b i s) (λ s m. same i s l m)) ∙ h .placed .exact i l;
-        within = λ s m. omega (arith, h .placed .within s m, count-ext k (λ i. a i s) (λ i. b i s) (λ i l. same i s l m));
-      };
+      exact = λ i l. sym (count-ext n (λ s. a i s) (λ s. b i s) (λ s m. same i s l m)) ∙ h .exact i l;
+      within = λ s m. omega (arith, h .within s m, count-ext k (λ i. a i s) (λ i. b i s) (λ i l. same i s l m));
       allowed = λ i s l m e. h .allowed i s l m (same i s l m ∙ e);
     }
 
@@ -90,24 +82,20 @@ without-part a b d h e = both b d (h (left-of a d e)) (right-of a d e)
 
 -- the pair that a placement has is taken
 pub within-taking : {k : ℕ} {c : ℕ → ℕ} {n : ℕ} {x : ℕ → ℕ} {w b : ℕ → ℕ → Bool} (i s : ℕ) → i < k → s < n → b i s ≡ true
-    → PlacedWithin k c n x w b → PlacedWithin k (less c i) n (less x s) (without w i s) (without b i s)
+    → Placed w k c n x b → Placed (without w i s) k (less c i) n (less x s) (without b i s)
 within-taking {k} {c} {n} {x} {w} {b} i s l m e h =
     record {
-      placed = record {
-        exact = λ j q. omega (arith, h .placed .exact j q, row-without n b i s j m, bit-and-true (eqb j i) (b i s) e);
-        within = λ t q. omega (arith, h .placed .within t q, column-without k b i s t l, bit-and-true (eqb t s) (b i s) e);
-      };
+      exact = λ j q. omega (arith, h .exact j q, row-without n b i s j m, bit-and-true (eqb j i) (b i s) e);
+      within = λ t q. omega (arith, h .within t q, column-without k b i s t l, bit-and-true (eqb t s) (b i s) e);
       allowed = λ j t q u. without-part (b j t) (w j t) (not (eqb j i && eqb t s)) (h .allowed j t q u);
     }
 
 -- the pair that a placement lacks is left out
 pub within-leaving : {k : ℕ} {c : ℕ → ℕ} {n : ℕ} {x : ℕ → ℕ} {w b : ℕ → ℕ → Bool} (i s : ℕ) → i < k → s < n → b i s ≡ false
-    → PlacedWithin k c n x w b → PlacedWithin k c n x (without w i s) (without b i s)
+    → Placed w k c n x b → Placed (without w i s) k c n x (without b i s)
 within-leaving {k} {c} {n} {x} {w} {b} i s l m e h =
     record {
-      placed = record {
-        exact = λ j q. omega (arith, h .placed .exact j q, row-without n b i s j m, bit-and-false (eqb j i) (b i s) e);
-        within = λ t q. omega (arith, h .placed .within t q, column-without k b i s t l, bit-and-false (eqb t s) (b i s) e);
-      };
+      exact = λ j q. omega (arith, h .exact j q, row-without n b i s j m, bit-and-false (eqb j i) (b i s) e);
+      within = λ t q. omega (arith, h .within t q, column-without k b i s t l, bit-and-false (eqb t s) (b i s) e);
       allowed = λ j t q u. without-part (b j t) (w j t) (not (eqb j i && eqb t s)) (h .allowed j t q u);
     }

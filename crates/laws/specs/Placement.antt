@@ -1,4 +1,4 @@
--- Jobs and slots as numbers: job i of k needs `c i` different slots, slot s of n has `x s` free cells.
+-- Jobs and slots as numbers: job i of k needs `c i` different slots, slot s of n has `x s` free cells, and `w i s` says that job i may use slot s.
 -- The meaning is `Placed`: which job stands in which slot. `Criterion`, `excess` and `chosen` are the methods; proofs/ shows
 -- that they compute the meaning. Nothing here knows of tables or of text.
 -- Assumes nothing.
@@ -12,11 +12,16 @@ use lib.Dec.{ltb}
 use Rattle.laws.specs.Sums.{bit, only, sum, count, greatest, position}
 use Rattle.laws.specs.Lists.{at, tabulate}
 
--- A placement: `a i s` says that job i has a cell in slot s. A job has as many slots as it needs, at most one cell in each; a slot
--- holds no more jobs than it has free cells.
-pub record Placed (k : ℕ) (c : ℕ → ℕ) (n : ℕ) (x : ℕ → ℕ) (a : ℕ → ℕ → Bool) : Type 0 where
+-- every job may use every slot: so it is with presets and, as long as calls have no windows, with jobs
+abbrev pub everywhere : ℕ → ℕ → Bool
+everywhere i s = true
+
+-- A placement: `a i s` says that job i has a cell in slot s. A job has as many slots as it needs, at most one cell in each, and only slots that
+-- it may use; a slot holds no more jobs than it has free cells.
+pub record Placed (w : ℕ → ℕ → Bool) (k : ℕ) (c : ℕ → ℕ) (n : ℕ) (x : ℕ → ℕ) (a : ℕ → ℕ → Bool) : Type 0 where
   pub exact : (i : ℕ) → i < k → count n (λ s. a i s) ≡ c i
   pub within : (s : ℕ) → s < n → count k (λ i. a i s) ≤ x s
+  pub allowed : (i s : ℕ) → i < k → s < n → a i s ≡ true → w i s ≡ true
 
 -- The capacity for r (document 01: the room for r): the sum over the slots of the smaller of r and the free cells.
 abbrev pub capacity : ℕ → (ℕ → ℕ) → ℕ → ℕ

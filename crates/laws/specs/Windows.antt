@@ -1,7 +1,6 @@
--- Jobs with windows (request 2026-09): job i of k needs `c i` different slots, slot s of n has `x s` free cells, and `w i s` says that job i
--- may use slot s. With `w` true everywhere these are the jobs of Placement.
+-- Jobs with windows (request 2026-09): the placements are those of Placement, `Placed w`; here `w i s`, that job i may use slot s, is a job's window.
 --
--- In order: what a placement within windows is, and which of several is the first; by how much the jobs exceed the cells (`windowExcess`), and
+-- In order: which of several placements is the first; by how much the jobs exceed the cells (`windowExcess`), and
 -- that they do not (`WindowCriterion`); the placement that is found pair by pair (`firstPlacement`); and, for a search only, a placement that lacks
 -- some cells and what is reached from the jobs that lack them.
 -- Assumes nothing.
@@ -15,11 +14,6 @@ use Rattle.laws.specs.Placement.{Placed}
 use Rattle.laws.specs.GreatestSet.{greatestSet}
 
 -- ---- the meaning
-
--- A placement within windows: a placement in which each job stands only in slots that it may use.
-pub record PlacedWithin (k : ℕ) (c : ℕ → ℕ) (n : ℕ) (x : ℕ → ℕ) (w a : ℕ → ℕ → Bool) : Type 0 where
-  pub placed : Placed k c n x a
-  pub allowed : (i s : ℕ) → i < k → s < n → a i s ≡ true → w i s ≡ true
 
 -- Job by job, and of one job slot by slot: the pair of job j and slot t comes before that of job i and slot s.
 abbrev pub Earlier : ℕ → ℕ → ℕ → ℕ → Type 0
@@ -37,8 +31,8 @@ pub record Ahead (k n : ℕ) (a b : ℕ → ℕ → Bool) : Type 0 where
 
 -- The first placement within windows: any other one is behind it.
 pub record FirstPlaced (k : ℕ) (c : ℕ → ℕ) (n : ℕ) (x : ℕ → ℕ) (w a : ℕ → ℕ → Bool) : Type 0 where
-  pub within : PlacedWithin k c n x w a
-  pub first : (b : ℕ → ℕ → Bool) → PlacedWithin k c n x w b → ((i s : ℕ) → i < k → s < n → a i s ≡ b i s) ⊎ Ahead k n a b
+  pub within : Placed w k c n x a
+  pub first : (b : ℕ → ℕ → Bool) → Placed w k c n x b → ((i s : ℕ) → i < k → s < n → a i s ≡ b i s) ⊎ Ahead k n a b
 
 -- ---- the excess
 

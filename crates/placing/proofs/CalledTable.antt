@@ -1,42 +1,44 @@
 -- The table that an accepted call leaves is valid for the call.
 --
--- In order: what one change keeps and makes (`change-keeps`, `change-kept`, `change-call`); how many jobs have a number. Then any table whose cells
+-- In order: what one change keeps and makes (`change-keeps`, `change-kept`, `change-call`, `change-gone`); how many jobs have a number. Then any table whose cells
 -- changed so: its busy and mandatory cells (`changed-keeps-fixed`, `changed-kept-fixed`), optional cells (`changed-optional`,
--- `changed-optional-count`), call cells (`changed-call`, `changed-new-call`, `changed-job-usable`, `changed-other-calls`, `changed-jobCount`), and
--- that it is well-formed (`changed-wellFormed`). Then the table of the rule, `called`: its changes (`called-changes`), the free cells
--- (`callFree-count`) and that the jobs are placed there (`called-placed`), the cells it loses (`called-lost`, `called-count`, `called-upto`), the
--- cells of a job (`called-in-slot`, `called-exact`), and that it is well-formed and valid (`called-wellFormed`, `called-valid`).
+-- `changed-optional-count`), call cells (`changed-call`, `changed-new-call`, `changed-other-calls`, `changed-jobCount`), and that it is
+-- well-formed (`changed-wellFormed`). Then the table of the rule, `called`: its changes (`called-changes`), the free cells
+-- (`callFree-count`) and that the jobs are placed there (`called-placed`), the cells of a job (`called-in-slot`, `called-above`), the cells it loses (`called-lost`,
+-- `called-count`, `called-upto`), the rule of each slot (`called-rule`), and that it is well-formed and valid (`called-wellFormed`, `called-exact`, `called-valid`).
 -- That no valid table loses fewer cells is not here.
 -- Assumes nothing.
 use Prim.Native.Nat.{ℕ, _+_, _≤_, _<_}
 use native.Mathlib.Omega.{arith}
 use mathlib.Core.Path.{_≡_, sym, _∙_, ap}
 use mathlib.Core.Logic.{_⊎_, inl, inr}
-use mathlib.Core.Bool.{Bool, true, false, _&&_, _||_, and-true}
+use mathlib.Core.Bool.{Bool, true, false, not, _&&_, _||_, and-true}
 use mathlib.Core.List.{List}
 use lib.ListN.{length, length-map}
 use lib.Dec.{ltb, leb, eqb}
 use Rattle.laws.specs.Sums.{bit, sum, count}
 use Rattle.laws.specs.Lists.{at}
-use Rattle.laws.specs.Placement.{Placed, lrtf}
+use Rattle.laws.specs.Placement.{Placed, lrtf, everywhere}
 use Rattle.laws.specs.Eviction.{added, ones}
-use Rattle.laws.proofs.Tests.{Is, is-true, is-false, is, clash, not-true, test-ext, left-of, right-of, neither-left, or-left, or-right, or-cases, and-implied}
+use Rattle.laws.proofs.Tests.{Is, is-true, is-false, is, clash, not-true, test-ext, left-of, right-of, or-left, or-right, or-cases, and-implied}
 use Rattle.laws.proofs.Comparisons.{lt-of, ge-of, eq-of, eqb-self, eqb-yes, eqb-no}
 use Rattle.laws.proofs.Every.{injective-below}
 use Rattle.laws.proofs.Sums.{sum-ext, sum-le, sum-add, sum-const, sum-swap, sum-two}
-use Rattle.laws.proofs.Counts.{bit-le, count-some, count-or, count-eqb-le}
-use Rattle.laws.proofs.Placement.{criterion-mono, criterion-of-excess, lrtf-places}
+use Rattle.laws.proofs.Counts.{bit-le, count-ext, count-none, count-some, count-or, count-eqb-le}
+use Rattle.laws.proofs.Placement.{shown-rule}
 use Rattle.laws.proofs.Eviction.{searched-long}
 use Rattle.station.specs.Head.{Head, Job, Valid}
 use Rattle.placing.specs.Table.{Cells, Each, WellFormed, cells, holding, kindOf, numberIn, mandatoryCell, optionalCell, callCell, isEmpty}
 use Rattle.placing.specs.Table.{isBusy, isMandatory, isOptional, isCall, numberAt, hasPreset, hasJob, isUsed, jobCount}
 use Rattle.placing.specs.Valid.{Change, same, filled, evicted, ValidCall, usable, jobAt, lost, lostUpTo, optionalCount, priorityOf}
 use Rattle.placing.specs.Plan.{placing, freeCount}
-use Rattle.placing.specs.Call.{Place, evictionOrder, slotsOf, inSet, emptyFree, emptyCount, lengths, callExcess, evictedSet, callFits, callFree, callFreeCount}
+use Rattle.placing.specs.Call.{CellPlace, evictionOrder, slotsOf, inSet, emptyFree, emptyCount, lengths, callShort, evictedSet, callFits, callFree, callFreeCount, isEvictable}
 use Rattle.placing.specs.Call.{called}
-use Rattle.placing.proofs.CountedCells.{cells-pos, cells-ext, cells-imp, cells-split, kindOf-call, numberIn-call, isOptional-call, isCall-call}
+use Rattle.placing.specs.Claims.{cellsOfJob, JobsRule}
+use Rattle.placing.proofs.CountedCells.{cells-pos, cells-ext, cells-imp, cells-split, kindOf-call, numberIn-call, isOptional-call, isCall-call, evictable-optional}
 use Rattle.placing.proofs.CountedCells.{lost-was, lost-now, is-lost, numberAt-lt}
-use Rattle.placing.proofs.NewJobs.{Good, length-lengths, at-lengths, hasJob-of, fresh-number}
+use Rattle.placing.proofs.NewJobs.{Good, Placeable, placeable-of, above, above-new, new-usable, length-lengths, at-lengths, hasJob-of}
+use Rattle.placing.proofs.CallShort.{call-shortage, rule-placed}
 use Rattle.placing.proofs.Placing.{PlacedCell, kept, unused, written, lrtf-within, placing-cases, placing-job}
 use Rattle.placing.proofs.EvictionOrder.{in-set-evictable, set-size, set-in-slot}
 
@@ -80,6 +82,12 @@ module _ (clock : ℕ) (jobs : List Job) (s v w : ℕ) where
   change-call (filled x y i l e) a = inr (i, l, e, x, y)
   change-call (evicted x y e) a = absurd (a (ap kindOf e))
 
+  -- in a slot gone by nothing changes
+  pub change-gone : Change clock jobs s v w → usable clock s ≡ false → w ≡ v
+  change-gone (same e) n = e
+  change-gone (filled x y i l e) n = absurd (clash (sym x ∙ n))
+  change-gone (evicted x y e) n = absurd (clash (sym x ∙ n))
+
 -- the kinds of what no call may touch
 fixed-kind : (v : ℕ) → (isBusy v || isMandatory v) ≡ true → (1 ≤ kindOf v) × (kindOf v ≤ 2)
 fixed-kind v e = go (or-cases (isBusy v) (isMandatory v) e)
@@ -111,22 +119,22 @@ jobsWith-sum jobs k =
 
 -- ---- a table whose cells changed so
 
--- each job of the call has at most one cell in a slot
-abbrev pub OnceInSlot : Head → List Job → Cells → Type 0
-OnceInSlot h jobs u =
-    (i : ℕ) → i < length jobs → (s : ℕ) → s < h .slots → count (h .bridges) (λ b. eqb (u s b) (callCell (jobAt jobs i .number))) ≤ 1
+-- each job of the call has at most one cell in a slot that the call may use
+abbrev pub OnceInSlot : Head → ℕ → List Job → Cells → Type 0
+OnceInSlot h clock jobs u =
+    (i : ℕ) → i < length jobs → (s : ℕ) → s < h .slots → usable clock s ≡ true → count (h .bridges) (λ b. eqb (u s b) (callCell (jobAt jobs i .number))) ≤ 1
 
 -- every cell of the frame changed as a call may change it
 abbrev pub Changes : Head → ℕ → List Job → Cells → Cells → Type 0
 Changes h clock jobs t u = Each h (λ s b. Change clock jobs s (t s b) (u s b))
 
-module _ (h : Head) (clock : ℕ) (jobs : List Job) (t u : Cells) (good : Good h t jobs) (changes : Changes h clock jobs t u) where
+module _ (h : Head) (clock : ℕ) (jobs : List Job) (t u : Cells) (high : (i : ℕ) → i < length jobs → jobAt jobs i .number ≤ 255) (changes : Changes h clock jobs t u) where
   -- what is neither empty nor optional stays, and what then is neither empty nor a call cell was there
   keeps : (s b : ℕ) → s < h .slots → b < h .bridges → (kindOf (t s b) ≡ 0 → ⊥) → (kindOf (t s b) ≡ 3 → ⊥) → u s b ≡ t s b
   keeps s b l m = change-keeps clock jobs s (t s b) (u s b) (changes s b l m)
 
   was : (s b : ℕ) → s < h .slots → b < h .bridges → (kindOf (u s b) ≡ 0 → ⊥) → (kindOf (u s b) ≡ 4 → ⊥) → u s b ≡ t s b
-  was s b l m = change-kept clock jobs s (t s b) (u s b) (good .high) (changes s b l m)
+  was s b l m = change-kept clock jobs s (t s b) (u s b) high (changes s b l m)
 
   -- busy and mandatory cells are where they were, both ways
   pub changed-keeps-fixed : Each h (λ s b. (isBusy (t s b) || isMandatory (t s b)) ≡ true → u s b ≡ t s b)
@@ -155,15 +163,6 @@ module _ (h : Head) (clock : ℕ) (jobs : List Job) (t u : Cells) (good : Good h
   changed-new-call s b l m e ne =
       let k : kindOf (u s b) ≡ 4 = eq-of (kindOf (u s b)) 4 e in
       second-of (change-call clock jobs s (t s b) (u s b) (changes s b l m) (λ q. omega arith)) ne
-
-  -- so a job's cell is in a slot from the clock on
-  pub changed-job-usable : WellFormed h t → (i : ℕ) → i < length jobs
-      → Each h (λ s b. u s b ≡ callCell (jobAt jobs i .number) → usable clock s ≡ true)
-  changed-job-usable wf i k s b l m e =
-      let n : ℕ = jobAt jobs i .number in
-      let small : n < 256 = omega (arith, good .high i k) in
-      changed-new-call s b l m (ap isCall e ∙ isCall-call n small)
-      (λ q. fresh-number h t jobs wf good i k s b l m (ap numberIn (sym q ∙ e) ∙ numberIn-call n small)) .3
 
   -- a cell that is kept if it held v, and if it holds v, holds v exactly if it did
   hold-same : (v : ℕ) → Each h (λ s b. (t s b ≡ v → u s b ≡ t s b) → (u s b ≡ v → u s b ≡ t s b) → eqb (u s b) v ≡ eqb (t s b) v)
@@ -225,7 +224,7 @@ module _ (h : Head) (clock : ℕ) (jobs : List Job) (t u : Cells) (good : Good h
               let one = count-some (length jobs) (λ j. eqb n (jobAt jobs j .number)) i l (eqb-yes n (jobAt jobs i .number) (sym q)) in
               omega (arith, ge-of 0 (jobsWith jobs n) e)
 
-  module _ (valid : Valid h) (wf : WellFormed h t) where
+  module _ (can : Placeable h clock t jobs) (valid : Valid h) (wf : WellFormed h t) where
     changed-busy : Each h (λ s b. isBusy (u s b) ≡ isBusy (t s b))
     changed-busy s b l m =
         hold-same 256 s b l m
@@ -237,7 +236,7 @@ module _ (h : Head) (clock : ℕ) (jobs : List Job) (t u : Cells) (good : Good h
       where
         go : Change clock jobs s (t s b) (u s b) → kindOf (u s b) ≤ 4
         go (same e) = rw e (wf .kinds s b l m)
-        go (filled x y i k e) = omega (arith, good .high i k)
+        go (filled x y i k e) = omega (arith, high i k)
         go (evicted x y e) = omega arith
 
     changed-plain : Each h (λ s b. kindOf (u s b) ≤ 1 → numberIn (u s b) ≡ 0)
@@ -245,7 +244,7 @@ module _ (h : Head) (clock : ℕ) (jobs : List Job) (t u : Cells) (good : Good h
       where
         go : Change clock jobs s (t s b) (u s b) → kindOf (u s b) ≤ 1 → numberIn (u s b) ≡ 0
         go (same e) = rw e (wf .plain s b l m)
-        go (filled x y i k e) = λ q. absurd (omega (arith, good .low i k))
+        go (filled x y i k e) = λ q. absurd (omega (arith, can .low i k))
         go (evicted x y e) = λ q. omega arith
 
     changed-presets : Each h (λ s b. (isMandatory (u s b) || isOptional (u s b)) ≡ true → hasPreset h (numberIn (u s b)) ≡ true)
@@ -263,7 +262,7 @@ module _ (h : Head) (clock : ℕ) (jobs : List Job) (t u : Cells) (good : Good h
       where
         go : Change clock jobs s (t s b) (u s b) → 1 ≤ numberIn (u s b)
         go (same q) = rw q (wf .calls s b l m (rw q at e))
-        go (filled x y i k q) = omega (arith, good .low i k, good .high i k)
+        go (filled x y i k q) = omega (arith, can .low i k, high i k)
         go (evicted x y q) = absurd (omega (arith, eq-of (kindOf (u s b)) 4 e))
 
     changed-apart : (n : ℕ) → n < 256 → hasJob h u n ≡ true → hasPreset h n ≡ false
@@ -279,10 +278,10 @@ module _ (h : Head) (clock : ℕ) (jobs : List Job) (t u : Cells) (good : Good h
             by (inl r) = wf .apart n lt (hasJob-of h t n s b l m (sym r ∙ q))
             by (inr (i, k, r, x, y)) =
                 let number : jobAt jobs i .number ≡ n = omega (arith, q) in
-                neither-left (hasPreset h n) (hasJob h t n) (ap (isUsed h t) (sym number) ∙ good .fresh i k)
+                ap (hasPreset h) (sym number) ∙ can .no-preset i k
 
     -- no number stands twice in a slot, if no job does
-    changed-once : OnceInSlot h jobs u
+    changed-once : OnceInSlot h clock jobs u
         → (s a b : ℕ) → s < h .slots → a < b → b < h .bridges → numberIn (u s a) ≡ numberIn (u s b) → numberIn (u s b) ≡ 0
     changed-once single s a b l k m e = go (changes s a l ma) (changes s b l m)
       where
@@ -290,21 +289,21 @@ module _ (h : Head) (clock : ℕ) (jobs : List Job) (t u : Cells) (good : Good h
         ma = omega arith
 
         number : (x : ℕ) → (i : ℕ) → i < length jobs → u s x ≡ callCell (jobAt jobs i .number) → numberIn (u s x) ≡ jobAt jobs i .number
-        number x i li p = omega (arith, good .high i li)
+        number x i li p = omega (arith, high i li)
 
         go : Change clock jobs s (t s a) (u s a) → Change clock jobs s (t s b) (u s b) → numberIn (u s b) ≡ 0
         go (same p) (same q) = ap numberIn q ∙ wf .once s a b l k m (ap numberIn (sym p) ∙ e ∙ ap numberIn q)
         go (filled x y i li p) (same q) =
-            absurd (fresh-number h t jobs wf good i li s b l m (ap numberIn (sym q) ∙ sym e ∙ number a i li p))
+            absurd (can .no-cell i li s b l m x (ap numberIn (sym q) ∙ sym e ∙ number a i li p))
         go (evicted x y p) (same q) = sym e ∙ ap numberIn p
         go (same p) (filled x y j lj q) =
-            absurd (fresh-number h t jobs wf good j lj s a l ma (ap numberIn (sym p) ∙ e ∙ number b j lj q))
+            absurd (can .no-cell j lj s a l ma x (ap numberIn (sym p) ∙ e ∙ number b j lj q))
         go (filled x y i li p) (filled x′ y′ j lj q) =
             let n : ℕ = jobAt jobs j .number in
             let pa : u s a ≡ callCell n = p ∙ ap callCell (sym (number a i li p) ∙ e ∙ number b j lj q) in
             absurd (omega (
               arith,
-              single j lj s l,
+              single j lj s l x,
               sum-two (h .bridges) (λ c. bit (eqb (u s c) (callCell n))) a b ma m (λ r. omega arith),
               ap bit (eqb-yes (u s a) (callCell n) pa),
               ap bit (eqb-yes (u s b) (callCell n) q),
@@ -313,8 +312,8 @@ module _ (h : Head) (clock : ℕ) (jobs : List Job) (t u : Cells) (good : Good h
         go p (evicted x y q) = ap numberIn q
 
     -- such a table is well-formed, if each job stands at most once in a slot
-    pub changed-wellFormed : OnceInSlot h jobs u → WellFormed h u
-    changed-wellFormed single =
+    pub changed-wellFormed : jobCount h u ≤ 64 → OnceInSlot h clock jobs u → WellFormed h u
+    changed-wellFormed few single =
         record {
           kinds = changed-kinds;
           plain = changed-plain;
@@ -329,7 +328,7 @@ module _ (h : Head) (clock : ℕ) (jobs : List Job) (t u : Cells) (good : Good h
               (sym (was r a lr la (λ x. omega (arith, p)) (λ x. omega (arith, p))) ∙ p)
               (sym (was s b ls lb (λ x. omega (arith, q)) (λ x. omega (arith, q))) ∙ q);
           most = λ i l. omega (arith, changed-optional-le (numberAt h i) (numberAt-lt h valid i l), wf .most i l);
-          jobs = omega (arith, changed-jobCount, good .few);
+          jobs = few;
           apart = changed-apart;
         }
 
@@ -357,7 +356,7 @@ module _ (h : Head) (clock : ℕ) (jobs : List Job) (t : Cells) where
   evicted-was : (s b : ℕ) → isEvicted s b ≡ true → (usable clock s ≡ true) × (isOptional (t s b) ≡ true)
   evicted-was s b e =
       let w = in-set-evictable h clock t (evictedSet h clock jobs t) s b e .0 in
-      (left-of (usable clock s) (isOptional (t s b)) w, right-of (usable clock s) (isOptional (t s b)) w)
+      (left-of (usable clock s) (isEvictable h (t s b)) w, evictable-optional h (t s b) (right-of (usable clock s) (isEvictable h (t s b)) w))
 
   free-was : (s b : ℕ) → callFree h clock jobs t s b ≡ true → (usable clock s ≡ true) × ((t s b ≡ 0) ⊎ (isOptional (t s b) ≡ true))
   free-was s b e = go (or-cases (emptyFree clock t s b) (isEvicted s b) e)
@@ -402,16 +401,66 @@ module _ (h : Head) (clock : ℕ) (jobs : List Job) (t : Cells) (valid : Valid h
 
   -- so the jobs of a call that fits are placed by LRTF
   pub called-placed : callFits h clock jobs t ≡ true
-      → Placed (length (lengths jobs)) (at (lengths jobs)) (h .slots) (callFreeCount h clock jobs t) (isPlaced h clock jobs t)
+      → Placed everywhere (length (lengths jobs)) (at (lengths jobs)) (h .slots) (callFreeCount h clock jobs t) (isPlaced h clock jobs t)
   unfolding callFits
   called-placed fits =
-      lrtf-places (lengths jobs) (h .slots) (callFreeCount h clock jobs t)
-      (criterion-mono (length (lengths jobs)) (at (lengths jobs)) (h .slots) free (callFreeCount h clock jobs t)
-      (λ s l. omega (arith, callFree-count s l))
-      (criterion-of-excess (length (lengths jobs)) (at (lengths jobs)) (h .slots) free (eq-of (callExcess h jobs free) 0 fits)))
+      rule-placed h jobs (callFreeCount h clock jobs t)
+      (omega (
+        arith,
+        eq-of (callShort h jobs free) 0 fits,
+        call-shortage h jobs .mono free (callFreeCount h clock jobs t) (λ s l. omega (arith, callFree-count s l)),
+      ))
     where
       free : ℕ → ℕ
       free = added (emptyCount h clock t) (slotsOf (evictionOrder h clock t)) (evictedSet h clock jobs t)
+
+-- the cells of a job, whose number is in none of the slots that the call may use
+module _ (h : Head) (clock : ℕ) (jobs : List Job) (t : Cells) (can : Placeable h clock t jobs) (i : ℕ) (k : i < length jobs) where
+  -- it has one in each slot where LRTF places it, and none in the others that the call may use
+  pub called-in-slot : (s : ℕ) → s < h .slots → usable clock s ≡ true
+      → count (h .bridges) (λ b. eqb (called h clock jobs t s b) (callCell (jobAt jobs i .number))) ≡ bit (isPlaced h clock jobs t i s)
+  unfolding called placing
+  called-in-slot s l late =
+      placing-job (length (lengths jobs)) (callFree h clock jobs t) (λ j r. isPlaced h clock jobs t j r) (λ j r. callCell (jobAt jobs j .number)) t s (h .bridges)
+      (lrtf-within (lengths jobs) (callFreeCount h clock jobs t) s) (λ w. eqb w (callCell n))
+      (eqb-no 0 (callCell n) (λ e. omega arith)) i (rw (length-lengths jobs) k)
+      (λ j m ne. eqb-no (callCell (jobAt jobs j .number)) (callCell n)
+      (λ e. ne (injective-below (length jobs) (λ x. jobAt jobs x .number) (can .distinct) j i (rw (length-lengths jobs) at m) k (omega arith))))
+      (λ b m f. eqb-no (t s b) (callCell n) (λ e. can .no-cell i k s b l m late (omega (arith, can .high i k))))
+      ∙ ap (λ (c : Bool). bit (isPlaced h clock jobs t i s && c)) (eqb-self (callCell n))
+      ∙ ap bit (and-true (isPlaced h clock jobs t i s))
+    where
+      n : ℕ
+      n = jobAt jobs i .number
+
+  -- in a slot gone by no cell is free, so that it is not placed there
+  gone-unplaced : (s : ℕ) → usable clock s ≡ false → isPlaced h clock jobs t i s ≡ false
+  gone-unplaced s gone =
+      not-true (isPlaced h clock jobs t i s) (λ e.
+      omega (
+        arith,
+        count-some (length (lengths jobs)) (λ j. isPlaced h clock jobs t j s) i (rw (length-lengths jobs) k) e,
+        lrtf-within (lengths jobs) (callFreeCount h clock jobs t) s,
+        count-none (h .bridges) (λ b. callFree h clock jobs t s b)
+            (λ b m. not-true (callFree h clock jobs t s b) (λ f. clash (sym (free-was h clock jobs t s b f .0) ∙ gone))),
+      ))
+
+  -- from the clock on as many cells as it needs
+  pub called-above : Valid h → WellFormed h t → callFits h clock jobs t ≡ true
+      → above h clock (called h clock jobs t) (callCell (jobAt jobs i .number)) ≡ jobAt jobs i .slots
+  called-above valid wf fits =
+      sum-ext (h .slots) (λ s. count (h .bridges) (λ b. usable clock s && holds s b)) (λ s. bit (isPlaced h clock jobs t i s)) (λ s l. slot s l (is (usable clock s)))
+      ∙ called-placed h clock jobs t valid wf fits .exact i (rw (length-lengths jobs) k)
+      ∙ at-lengths jobs i
+    where
+      holds : ℕ → ℕ → Bool
+      holds s b = eqb (called h clock jobs t s b) (callCell (jobAt jobs i .number))
+
+      slot : (s : ℕ) → s < h .slots → Is (usable clock s) → count (h .bridges) (λ b. usable clock s && holds s b) ≡ bit (isPlaced h clock jobs t i s)
+      slot s l (is-true e) =
+          count-ext (h .bridges) (λ b. usable clock s && holds s b) (λ b. holds s b) (λ b m. ap (λ (c : Bool). c && holds s b) e) ∙ called-in-slot s l e
+      slot s l (is-false e) =
+          count-none (h .bridges) (λ b. usable clock s && holds s b) (λ b m. ap (λ (c : Bool). c && holds s b) e) ∙ sym (ap bit (gone-unplaced s e))
 
 module _ (h : Head) (clock : ℕ) (jobs : List Job) (t : Cells) (valid : Valid h) (wf : WellFormed h t) (good : Good h t jobs) where
   -- the table, and the cells that it evicts
@@ -450,8 +499,8 @@ module _ (h : Head) (clock : ℕ) (jobs : List Job) (t : Cells) (valid : Valid h
     where
       long : length (evictedSet h clock jobs t) ≡ length (evictionOrder h clock t)
       long =
-          searched-long (callExcess h jobs) (emptyCount h clock t) (slotsOf (evictionOrder h clock t))
-          ∙ length-map (evictionOrder h clock t) (λ (z : Place). z .slot)
+          searched-long (callShort h jobs) (emptyCount h clock t) (slotsOf (evictionOrder h clock t))
+          ∙ length-map (evictionOrder h clock t) (λ (z : CellPlace). z .slot)
 
   pub called-upto : (p : ℕ)
       → lostUpTo h t (called h clock jobs t) p ≡ cells h (λ s b. isEvicted h clock jobs t s b && leb (priorityOf h (numberIn (t s b))) p)
@@ -459,36 +508,44 @@ module _ (h : Head) (clock : ℕ) (jobs : List Job) (t : Cells) (valid : Valid h
       cells-ext h (λ s b. lost t u s b && leb (priorityOf h (numberIn (t s b))) p) (λ s b. gone s b && leb (priorityOf h (numberIn (t s b))) p)
       (λ s b l m. ap (λ (c : Bool). c && leb (priorityOf h (numberIn (t s b))) p) (called-lost s b l m))
 
-  -- a job has one cell in each slot where LRTF places it, and none in the others
-  pub called-in-slot : (i : ℕ) → i < length jobs → (s : ℕ) → s < h .slots
-      → count (h .bridges) (λ b. eqb (called h clock jobs t s b) (callCell (jobAt jobs i .number))) ≡ bit (isPlaced h clock jobs t i s)
-  unfolding called placing
-  called-in-slot i k s l =
-      placing-job (length (lengths jobs)) (callFree h clock jobs t) (λ j r. isPlaced h clock jobs t j r) (λ j r. callCell (jobAt jobs j .number)) t s (h .bridges)
-      (lrtf-within (lengths jobs) (callFreeCount h clock jobs t) s) (λ w. eqb w (callCell n))
-      (eqb-no 0 (callCell n) (λ e. omega arith)) i (rw (length-lengths jobs) k)
-      (λ j m ne. eqb-no (callCell (jobAt jobs j .number)) (callCell n)
-      (λ e. ne (injective-below (length jobs) (λ x. jobAt jobs x .number) (good .distinct) j i (rw (length-lengths jobs) at m) k (omega arith))))
-      (λ b m f. eqb-no (t s b) (callCell n) (λ e. fresh-number h t jobs wf good i k s b l m (omega (arith, good .high i k))))
-      ∙ ap (λ (c : Bool). bit (isPlaced h clock jobs t i s && c)) (eqb-self (callCell n))
-      ∙ ap bit (and-true (isPlaced h clock jobs t i s))
-    where
-      n : ℕ
-      n = jobAt jobs i .number
+  can : Placeable h clock t jobs
+  can = placeable-of h t jobs wf good clock
 
-  -- in all as many cells as it needs
+  -- a job has one cell in each slot where LRTF places it, and none in the others, those gone by included
+  called-everywhere : (i : ℕ) → i < length jobs → (s : ℕ) → s < h .slots
+      → count (h .bridges) (λ b. eqb (called h clock jobs t s b) (callCell (jobAt jobs i .number))) ≡ bit (isPlaced h clock jobs t i s)
+  called-everywhere i k s l = go (is (usable clock s))
+    where
+      go : Is (usable clock s) → count (h .bridges) (λ b. eqb (u s b) (callCell (jobAt jobs i .number))) ≡ bit (isPlaced h clock jobs t i s)
+      go (is-true e) = called-in-slot h clock jobs t can i k s l e
+      go (is-false e) =
+          count-none (h .bridges) (λ b. eqb (u s b) (callCell (jobAt jobs i .number)))
+          (λ b m. eqb-no (u s b) (callCell (jobAt jobs i .number)) (λ q. clash (sym (new-usable h clock jobs t u good (called-changes h clock jobs t) i k s b l m q) ∙ e)))
+          ∙ sym (ap bit (gone-unplaced h clock jobs t can i k s e))
+
+  -- so in a table w with the same cells the jobs of each slot are those that the rule chooses, by what the table itself shows
+  pub called-rule : (w : Cells) → Each h (λ s b. called h clock jobs t s b ≡ w s b) → (s : ℕ) → s < h .slots → JobsRule h clock jobs t w s
+  called-rule w equal s l =
+      shown-rule (lengths jobs) (callFreeCount h clock jobs t) s (length jobs) (λ i. jobAt jobs i .slots) (cellsOfJob h jobs w)
+      (count (h .bridges) (λ b. emptyFree clock t s b || lost t w s b)) (length-lengths jobs) (λ i k. at-lengths jobs i)
+      (count-ext (h .bridges) (λ b. callFree h clock jobs t s b) (λ b. emptyFree clock t s b || lost t w s b)
+      (λ b m. ap (λ (c : Bool). emptyFree clock t s b || c)
+      (sym (called-lost s b l m) ∙ ap (λ (v : ℕ). isOptional (t s b) && not (isOptional v)) (equal s b l m))))
+      (λ i k r m. count-ext (h .bridges) (λ b. eqb (w r b) (callCell (jobAt jobs i .number))) (λ b. eqb (u r b) (callCell (jobAt jobs i .number)))
+      (λ b n. ap (λ (v : ℕ). eqb v (callCell (jobAt jobs i .number))) (sym (equal r b (omega arith) n)))
+      ∙ called-everywhere i k r (omega arith))
+
+  -- it is well-formed and valid
+  pub called-wellFormed : WellFormed h (called h clock jobs t)
+  called-wellFormed =
+      changed-wellFormed h clock jobs t u (good .high) (called-changes h clock jobs t) can valid wf
+      (omega (arith, changed-jobCount h clock jobs t u (good .high) (called-changes h clock jobs t), good .few))
+      (λ i k s l late. omega (arith, called-in-slot h clock jobs t can i k s l late, bit-le (isPlaced h clock jobs t i s)))
+
   pub called-exact : callFits h clock jobs t ≡ true → (i : ℕ) → i < length jobs
       → holding h (called h clock jobs t) (callCell (jobAt jobs i .number)) ≡ jobAt jobs i .slots
   called-exact fits i k =
-      sum-ext (h .slots) (λ s. count (h .bridges) (λ b. eqb (u s b) (callCell (jobAt jobs i .number)))) (λ s. bit (isPlaced h clock jobs t i s))
-      (called-in-slot i k)
-      ∙ called-placed h clock jobs t valid wf fits .exact i (rw (length-lengths jobs) k)
-      ∙ at-lengths jobs i
-
-  pub called-wellFormed : WellFormed h (called h clock jobs t)
-  called-wellFormed =
-      changed-wellFormed h clock jobs t u good (called-changes h clock jobs t) valid wf
-      (λ i k s l. omega (arith, called-in-slot i k s l, bit-le (isPlaced h clock jobs t i s)))
+      sym (above-new h clock jobs t u good (called-changes h clock jobs t) i k) ∙ called-above h clock jobs t can i k valid wf fits
 
   pub called-valid : callFits h clock jobs t ≡ true → ValidCall h clock jobs t (called h clock jobs t)
   called-valid fits = record { wellFormed = called-wellFormed; changes = called-changes h clock jobs t; exact = called-exact fits }

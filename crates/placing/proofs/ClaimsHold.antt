@@ -5,7 +5,7 @@
 use Prim.Native.Nat.{ℕ, _≤_, _<_}
 use native.Mathlib.Omega.{arith}
 use native.Mathlib.Nat.{le-trans}
-use mathlib.Core.Path.{_≡_, refl, sym, _∙_, ap}
+use mathlib.Core.Path.{_≡_, refl, sym, _∙_, ap, subst}
 use mathlib.Core.Logic.{_⊎_, inl, inr, _↔_}
 use mathlib.Core.Bool.{and-comm, Bool, true, false, not, _&&_}
 use mathlib.Core.Option.{Option, none, some}
@@ -27,19 +27,22 @@ use Rattle.placing.specs.Table.{Cells, cell, cells, Each, presetCount, n
 use Rattle.placing.specs.State.{State, wellFormedFrame}
 use Rattle.placing.specs.Valid.{ValidPlan, ValidCall, jobAt, lost, lostUpTo, optionalOf, priorityOf}
 use Rattle.placing.specs.Plan.{planFits, mandatories, grants, planned, rank}
-use Rattle.placing.specs.Call.{evictionOrder, InEvictionOrder, evictedSet, callFits, called}
-use Rattle.placing.specs.Outcomes.{written, PlanAnswer, PlanOutcome, planCauses, planOf, frameCauses, jobCauses, jobsOutside}
+use Rattle.placing.specs.Call.{evictionOrder, InEvictionOrder, inSet, evictedSet, callFits, called}
+use Rattle.placing.specs.Capacity.{GreatestExcess, longestJobs, emptyCapacity}
+use Rattle.placing.specs.Outcomes.{Cost, costOf, written, PlanAnswer, PlanOutcome, planCauses, planOf, frameCauses, jobCauses, jobsOutside}
 use Rattle.placing.specs.Outcomes.{jobsUsed, jobsTooMany, callCauses, CallAnswer, CallOutcome, calledState, callOf}
-use Rattle.placing.specs.Claims.{Running, SamePast, PlanClaim, CallClaim, beforeSeven, optionalOfFirst}
+use Rattle.placing.specs.Claims.{Running, SamePast, PresetsRule, PlanClaim, CallClaim, JobsRule, beforeSeven, optionalOfFirst}
 use Rattle.placing.proofs.CountedCells.{cells-ext, holding-ext, lost-was, preset-with, priorityOf-is}
 use Rattle.placing.proofs.WellFormed.{validPlan-ext, validCall-ext}
 use Rattle.placing.proofs.WrittenTable.{frame-cells, cell-written, written-past}
 use Rattle.placing.proofs.NewJobs.{Good}
 use Rattle.placing.proofs.Causes.{recordCauses, long-and-valid, no-record-cause, running-of, jobs-inside, good-of}
-use Rattle.placing.proofs.PlanTheorem.{plan-fits-of-valid, planned-valid, planned-optional, planned-best}
+use Rattle.placing.proofs.PlanTheorem.{plan-fits-of-valid, planned-valid, planned-optional, planned-rule, planned-best}
 use Rattle.placing.proofs.EvictionOrder.{order-is}
 use Rattle.placing.proofs.LeastEviction.{valid-fits, fewest-upto, evicted-first-smallest}
-use Rattle.placing.proofs.CalledTable.{called-count, called-upto, called-valid}
+use Rattle.placing.proofs.CalledTable.{called-lost, called-count, called-upto, called-rule, called-valid}
+use Rattle.placing.proofs.CallByNumbers.{evicts-excess}
+use Rattle.placing.proofs.ByCapacity.{plan-by-capacity, greatest-excess, call-by-capacity}
 
 -- ---- the plan
 
@@ -63,7 +66,7 @@ plan-passes h t e =
 -- the answer tells which of the two it was
 data PlanIs (h : Head) (t : List ℕ) : PlanOutcome → Type 0 where
   done : firstOf (planCauses h t) ≡ none → PlanIs h t (record { answer = PlanAnswer.granted (grants h); table = written h (planned h) t })
-  stopped : (r : Refusal) → firstOf (planCauses h t) ≡ some r → PlanIs h t (record { answer = PlanAnswer.refused r; table = t })
+  stopped : (r : Refusal) → firstOf (planCauses h t) ≡ some r → PlanIs h t (record { answer = PlanAnswer.refused 0 r; table = t })
 
 plan-is : (h : Head) (t : List ℕ) → PlanIs h t (planOf h t)
 unfolding planOf
@@ -73,7 +76,7 @@ plan-is h t = go (firstOf (planCauses h t)) refl
     go none e = rw (e, planOf) (done e)
     go (some r) e = rw (e, planOf) (stopped r e)
 
-refused-granted : {r : Refusal} {g : List ℕ} → PlanAnswer.refused r ≡ PlanAnswer.granted g → ⊥
+refused-granted : {n : ℕ} {r : Refusal} {g : List ℕ} → PlanAnswer.refused n r ≡ PlanAnswer.granted g → ⊥
 refused-granted e = let z : _≡_ {A = ℕ} 0 1 = cc in omega arith
 
 module _ (h : Head) (t : List ℕ) where
@@ -93,7 +96,7 @@ module _ (h : Head) (t : List ℕ) where
   plan-valid : planFits h (mandatories h) ≡ true → Valid h → ValidPlan h (cell h planTable)
   plan-valid p ok = validPlan-ext h (planned h) (cell h planTable) cell-planned (planned-valid ok p)
 
-  five-only : (o : PlanOutcome) → PlanIs h t o → o .answer ≡ PlanAnswer.refused mandatoryNotFeasible
+  five-only : (o : PlanOutcome) → PlanIs h t o → o .answer ≡ PlanAnswer.refused 0 mandatoryNotFeasible
       → (512 ≤ length t) × Valid h × ((u : List ℕ) → ValidPlan h (cell h u) → ⊥)
   five-only _ (done e) q = absurd (refused-granted (sym q))
   five-only _ (stopped r e) q =
@@ -103,11 +106,11 @@ module _ (h : Head) (t : List ℕ) where
       (reached .0, reached .1, λ u w. clash (sym (five .1) ∙ not-is-false _ (plan-fits-of-valid (reached .1) w)))
 
   five-always : (o : PlanOutcome) → PlanIs h t o → 512 ≤ length t → Valid h → ((u : List ℕ) → ValidPlan h (cell h u) → ⊥)
-      → o .answer ≡ PlanAnswer.refused mandatoryNotFeasible
+      → o .answer ≡ PlanAnswer.refused 0 mandatoryNotFeasible
   five-always _ (done e) long ok n = absurd (n planTable (plan-valid (plan-passes h t e .fits) ok))
   five-always _ (stopped r e) long ok n = go (is (planFits h (mandatories h)))
     where
-      go : Is (planFits h (mandatories h)) → PlanAnswer.refused r ≡ PlanAnswer.refused mandatoryNotFeasible
+      go : Is (planFits h (mandatories h)) → PlanAnswer.refused 0 r ≡ PlanAnswer.refused 0 mandatoryNotFeasible
       go (is-true p) = absurd (n planTable (plan-valid p ok))
       go (is-false p) =
           let five : firstOf (planCauses h t) ≡ some mandatoryNotFeasible =
@@ -132,6 +135,13 @@ module _ (h : Head) (t g : List ℕ) (q : planOf h t .answer ≡ PlanAnswer.gran
   plan-granted-valid : ValidPlan h (cell h (planOf h t .table))
   plan-granted-valid = let p = plan-granted h t g q in rw (p .4) (plan-valid h t (p .1) (p .2))
 
+  plan-granted-slots : (s : ℕ) → s < h .slots → PresetsRule h g (cell h (planOf h t .table)) s
+  plan-granted-slots s l =
+      let p = plan-granted h t g q in
+      subst (λ (x : List ℕ). PresetsRule h g (cell h x) s) (sym (p .4))
+      (subst (λ (x : List ℕ). PresetsRule h x (cell h (planTable h t)) s) (sym (p .0))
+      (planned-rule (p .2) (p .1) (cell h (planTable h t)) (λ r b k m. sym (cell-written h (planned h) t r b k m)) s l))
+
   plan-granted-reported : (i : ℕ) → i < presetCount h → at g i ≡ optionalOf h (cell h (planOf h t .table)) i
   plan-granted-reported i l =
       let p = plan-granted h t g q in
@@ -153,31 +163,33 @@ pub plan-claim : (h : Head) (t : List ℕ) → PlanClaim h t
 plan-claim h t = record {
   five = (five-only h t (planOf h t) (plan-is h t), λ p. five-always h t (planOf h t) (plan-is h t) (p .0) (p .1) (p .2));
   valid = plan-granted-valid h t;
+  slots = plan-granted-slots h t;
   reported = plan-granted-reported h t;
   best = plan-granted-best h t;
+  capacity = plan-by-capacity h;
   past = same-past h t (planOf h t) (plan-is h t);
 }
 
 -- a head that some text yields, with a table long enough, is refused for 5 alone
-pub plan-only-five : (h : Head) (t : List ℕ) (r : Refusal) → 512 ≤ length t → Valid h → planOf h t .answer ≡ PlanAnswer.refused r
-    → r ≡ mandatoryNotFeasible
-plan-only-five h t r long ok = go (planOf h t) (plan-is h t)
+pub plan-only-five : (h : Head) (t : List ℕ) {n : ℕ} (r : Refusal) → 512 ≤ length t → Valid h → planOf h t .answer ≡ PlanAnswer.refused n r
+    → PlanAnswer.refused n r ≡ PlanAnswer.refused 0 mandatoryNotFeasible
+plan-only-five h t {n} r long ok = go (planOf h t) (plan-is h t)
   where
-    last : ((not (planFits h (mandatories h)) ≡ true) × (r ≡ mandatoryNotFeasible))
+    last : (r : Refusal) → ((not (planFits h (mandatories h)) ≡ true) × (r ≡ mandatoryNotFeasible))
         ⊎ ((not (planFits h (mandatories h)) ≡ false) × (firstOf [] ≡ some r)) → r ≡ mandatoryNotFeasible
-    last (inl p) = p .1
-    last (inr p) = absurd (none-some (sym first-of-none ∙ p .1))
+    last r (inl p) = p .1
+    last r (inr p) = absurd (none-some (sym first-of-none ∙ p .1))
 
-    go : (o : PlanOutcome) → PlanIs h t o → o .answer ≡ PlanAnswer.refused r → r ≡ mandatoryNotFeasible
+    go : (o : PlanOutcome) → PlanIs h t o → o .answer ≡ PlanAnswer.refused n r → PlanAnswer.refused n r ≡ PlanAnswer.refused 0 mandatoryNotFeasible
     go _ (done e) q = absurd (refused-granted (sym q))
     go _ (stopped c e) q =
-        let same : firstOf (planCauses h t) ≡ some r = cc in
-        last (first-some mandatoryNotFeasible (not (planFits h (mandatories h))) []
-        (sym (append-none (recordCauses h t) (tryFive h) (no-record-cause h t long ok)) ∙ same))
+        let five = last c (first-some mandatoryNotFeasible (not (planFits h (mandatories h))) []
+        (sym (append-none (recordCauses h t) (tryFive h) (no-record-cause h t long ok)) ∙ e)) in
+        sym q ∙ ap (PlanAnswer.refused 0) five
 
 -- ---- the call
 
-refused-taken : {r : Refusal} {n : ℕ} → CallAnswer.refused r ≡ CallAnswer.taken n → ⊥
+refused-taken : {r : Refusal} {n : Cost} → CallAnswer.refused 0 r ≡ CallAnswer.taken n → ⊥
 refused-taken e = let z : _≡_ {A = ℕ} 0 1 = cc in omega arith
 
 -- "p = 9 counts all": no preset has a worse priority
@@ -205,12 +217,12 @@ module _ (h : Head) (jobs : List Job) (st : State) where
   cellsLeft = cell h tableLeft
 
   abbrev outcome : CallOutcome
-  outcome = record { answer = CallAnswer.taken (ones (evictedSet h (st .clock) jobs (cell h (st .table)))); after = calledState h jobs st }
+  outcome = record { answer = CallAnswer.taken (costOf h jobs st); after = calledState h jobs st }
 
   -- the answer tells whether a cause holds
   data CallIs : CallOutcome → Type 0 where
     placed : firstOf tried ≡ none → CallIs outcome
-    stopped : (r : Refusal) → firstOf tried ≡ some r → CallIs (record { answer = CallAnswer.refused r; after = st })
+    stopped : (r : Refusal) → firstOf tried ≡ some r → CallIs (record { answer = CallAnswer.refused 0 r; after = st })
 
   call-is : CallIs (callOf h jobs st)
   unfolding callOf
@@ -256,7 +268,7 @@ module _ (h : Head) (jobs : List Job) (st : State) where
   cellsLeft-lost : (s b : ℕ) → s < h .slots → b < h .bridges → lost (cell h (st .table)) (called h (st .clock) jobs (cell h (st .table))) s b ≡ lost (cell h (st .table)) cellsLeft s b
   cellsLeft-lost s b l m = ap (λ (v : ℕ). isOptional (cell h (st .table) s b) && not (isOptional v)) (cell-called s b l m)
 
-  call-seven : (o : CallOutcome) → CallIs o → (o .answer ≡ CallAnswer.refused callNotFeasible)
+  call-seven : (o : CallOutcome) → CallIs o → (o .answer ≡ CallAnswer.refused 0 callNotFeasible)
       ↔ ((firstOf (beforeSeven h jobs st) ≡ none) × ((u : List ℕ) → ValidCall h (st .clock) jobs (cell h (st .table)) (cell h u) → ⊥))
   call-seven _ (placed e) = (
     λ q. absurd (refused-taken (sym q)),
@@ -264,7 +276,7 @@ module _ (h : Head) (jobs : List Job) (st : State) where
   )
   call-seven _ (stopped r e) = (only, always)
     where
-      only : CallAnswer.refused r ≡ CallAnswer.refused callNotFeasible
+      only : CallAnswer.refused 0 r ≡ CallAnswer.refused 0 callNotFeasible
           → (firstOf (beforeSeven h jobs st) ≡ none) × ((u : List ℕ) → ValidCall h (st .clock) jobs (cell h (st .table)) (cell h u) → ⊥)
       only q =
           let same : firstOf tried ≡ some callNotFeasible = cc in
@@ -276,10 +288,10 @@ module _ (h : Head) (jobs : List Job) (st : State) where
           )
 
       always : (firstOf (beforeSeven h jobs st) ≡ none) × ((u : List ℕ) → ValidCall h (st .clock) jobs (cell h (st .table)) (cell h u) → ⊥)
-          → CallAnswer.refused r ≡ CallAnswer.refused callNotFeasible
+          → CallAnswer.refused 0 r ≡ CallAnswer.refused 0 callNotFeasible
       always n = go (is (callFits h (st .clock) jobs (cell h (st .table))))
         where
-          go : Is (callFits h (st .clock) jobs (cell h (st .table))) → CallAnswer.refused r ≡ CallAnswer.refused callNotFeasible
+          go : Is (callFits h (st .clock) jobs (cell h (st .table))) → CallAnswer.refused 0 r ≡ CallAnswer.refused 0 callNotFeasible
           go (is-true f) = let p = passes (n .0) in absurd (n .1 tableLeft (cellsLeft-valid (p .0) (p .1) f))
           go (is-false f) =
               let seven : firstOf tried ≡ some callNotFeasible =
@@ -293,14 +305,14 @@ module _ (h : Head) (jobs : List Job) (st : State) where
   call-past _ (stopped r e) = record { long = refl; past = refl }
 
   -- an accepted call: no cause holds, and the outcome is that of the rule
-  taken-is : (n : ℕ) → callOf h jobs st .answer ≡ CallAnswer.taken n → (firstOf tried ≡ none) × (callOf h jobs st ≡ outcome)
+  taken-is : (n : Cost) → callOf h jobs st .answer ≡ CallAnswer.taken n → (firstOf tried ≡ none) × (callOf h jobs st ≡ outcome)
   taken-is n = go (callOf h jobs st) call-is
     where
       go : (o : CallOutcome) → CallIs o → o .answer ≡ CallAnswer.taken n → (firstOf tried ≡ none) × (o ≡ outcome)
       go _ (placed e) q = (e, refl)
       go _ (stopped r e) q = absurd (refused-taken q)
 
-  module _ (n : ℕ) (q : callOf h jobs st .answer ≡ CallAnswer.taken n) where
+  module _ (n : Cost) (q : callOf h jobs st .answer ≡ CallAnswer.taken n) where
     -- what it was tried for
     taken-passes : Running h st × Good h (cell h (st .table)) jobs
     taken-passes = passes (placed-passes (taken-is n q .0) .0)
@@ -322,17 +334,36 @@ module _ (h : Head) (jobs : List Job) (st : State) where
     taken-rule : Each h (λ s b. cell h (callOf h jobs st .after .table) s b ≡ called h (st .clock) jobs (cell h (st .table)) s b)
     taken-rule = rw taken-table (cell-written h (called h (st .clock) jobs (cell h (st .table))) (st .table))
 
+    taken-slots : (s : ℕ) → s < h .slots → JobsRule h (st .clock) jobs (cell h (st .table)) (cell h (callOf h jobs st .after .table)) s
+    taken-slots s l =
+        subst (λ (x : List ℕ). JobsRule h (st .clock) jobs (cell h (st .table)) (cell h x) s) (sym taken-table)
+        (called-rule h (st .clock) jobs (cell h (st .table)) (taken-passes .0 .valid) (taken-passes .0 .wellFormed .cells) (taken-passes .1) cellsLeft cell-called s l)
+
     taken-order : InEvictionOrder h (st .clock) (cell h (st .table)) (evictionOrder h (st .clock) (cell h (st .table)))
     taken-order = order-is h (st .clock) (cell h (st .table)) (taken-passes .0 .valid) (taken-passes .0 .wellFormed .cells)
 
-    taken-reported : n ≡ cells h (λ s b. lost (cell h (st .table)) (cell h (callOf h jobs st .after .table)) s b)
+    taken-lost : Each h (λ s b. lost (cell h (st .table)) (cell h (callOf h jobs st .after .table)) s b
+        ≡ inSet (evictionOrder h (st .clock) (cell h (st .table))) (evictedSet h (st .clock) jobs (cell h (st .table))) s b)
+    taken-lost s b l m =
+        rw taken-table
+        (sym (cellsLeft-lost s b l m)
+        ∙ called-lost h (st .clock) jobs (cell h (st .table)) (taken-passes .0 .valid) (taken-passes .0 .wellFormed .cells) (taken-passes .1) s b l m)
+
+    taken-reported : n .count ≡ cells h (λ s b. lost (cell h (st .table)) (cell h (callOf h jobs st .after .table)) s b)
     taken-reported =
         let o = taken-is n q .1 in
-        let same : n ≡ ones (evictedSet h (st .clock) jobs (cell h (st .table))) = cc in
+        let same : n ≡ costOf h jobs st = cc in
         rw taken-table
-        (same
+        (ap (λ (c : Cost). c .count) same
         ∙ sym (called-count h (st .clock) jobs (cell h (st .table)) (taken-passes .0 .valid) (taken-passes .0 .wellFormed .cells) (taken-passes .1))
         ∙ cells-ext h (λ s b. lost (cell h (st .table)) (called h (st .clock) jobs (cell h (st .table))) s b) (λ s b. lost (cell h (st .table)) cellsLeft s b) cellsLeft-lost)
+
+    taken-excess : GreatestExcess (longestJobs jobs) (emptyCapacity h (st .clock) (cell h (st .table))) (n .count)
+    taken-excess =
+        let o = taken-is n q .1 in
+        let same : n ≡ costOf h jobs st = cc in
+        rw (ap (λ (c : Cost). c .count) same ∙ evicts-excess h (st .clock) jobs (cell h (st .table)) (taken-passes .0 .valid) (taken-passes .0 .wellFormed .cells) taken-fits)
+        (greatest-excess h (st .clock) jobs (cell h (st .table)))
 
     taken-least : (u : List ℕ) → ValidCall h (st .clock) jobs (cell h (st .table)) (cell h u) → (p : ℕ)
         → lostUpTo h (cell h (st .table)) (cell h (callOf h jobs st .after .table)) p ≤ lostUpTo h (cell h (st .table)) (cell h u) p
@@ -348,7 +379,7 @@ module _ (h : Head) (jobs : List Job) (st : State) where
         ))
 
 -- what is known of an accepted call: its frame is a running one, its jobs have passed their causes, and each needs a slot
-pub call-accepted : (h : Head) (jobs : List Job) (st : State) (n : ℕ) → callOf h jobs st .answer ≡ CallAnswer.taken n
+pub call-accepted : (h : Head) (jobs : List Job) (st : State) (n : Cost) → callOf h jobs st .answer ≡ CallAnswer.taken n
     → Running h st × Good h (cell h (st .table)) jobs × ((i : ℕ) → i < length jobs → 1 ≤ jobAt jobs i .slots)
 call-accepted h jobs st n q =
     (taken-passes h jobs st n q .0, taken-passes h jobs st n q .1, taken-lengths h jobs st n q)
@@ -359,10 +390,16 @@ call-claim h jobs st = record {
   seven = call-seven h jobs st (callOf h jobs st) (call-is h jobs st);
   valid = taken-valid h jobs st;
   rule = taken-rule h jobs st;
+  slots = taken-slots h jobs st;
   order = taken-order h jobs st;
   evicted = λ n q. evicted-first-smallest h (st .clock) jobs (cell h (st .table)) (taken-fits h jobs st n q);
+  lost-cells = taken-lost h jobs st;
   reported = taken-reported h jobs st;
   least = taken-least h jobs st;
   nine = λ n q u. let r = taken-passes h jobs st n q .0 in nine-counts-all h (cell h (st .table)) (cell h u) (r .valid) (r .wellFormed .cells);
+  capacity = λ e.
+      let p = passes h jobs st e in
+      call-by-capacity h (st .clock) jobs (cell h (st .table)) (p .0 .valid) (p .0 .wellFormed .cells) (p .1);
+  excess = taken-excess h jobs st;
   past = call-past h jobs st (callOf h jobs st) (call-is h jobs st);
 }

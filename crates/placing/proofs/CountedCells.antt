@@ -1,7 +1,7 @@
 -- Laws of counted cells, of the numbers that cells are, and of the presets' lines.
 --
 -- In order: sums over cells (`area`); counting cells of any number of slots and bridges (`grid`), then of a head's frame (`cells`, `holding`); a
--- cell's kind and number, the kind tests, and a cell from its kind and number; lost cells; a preset by its number, the line of a number, what a sum
+-- cell's kind and number, the kind tests, and a cell from its kind and number; lost cells; cells that a call may evict; a preset by its number, the line of a number, what a sum
 -- over the lines with one number is.
 -- Assumes nothing.
 use Prim.Native.Nat.{ℕ, _+_, _*_, _≤_, _<_}
@@ -20,7 +20,7 @@ use Rattle.placing.specs.Table.{Cells, Each, cells, holding, kindOf, num
 use Rattle.placing.specs.Table.{isOptional, isCall, presetCount, numberAt, hasPreset}
 use Rattle.placing.specs.Valid.{lost, priorityOf}
 use Rattle.placing.specs.Plan.{rank}
-use Rattle.placing.specs.Call.{rankOf}
+use Rattle.placing.specs.Call.{rankOf, isEvictable}
 
 -- ---- counting cells
 
@@ -157,6 +157,15 @@ module _ (t u : Cells) (s b : ℕ) where
 
   pub is-lost : isOptional (t s b) ≡ true → isOptional (u s b) ≡ false → lost t u s b ≡ true
   is-lost p q = both (isOptional (t s b)) (not (isOptional (u s b))) p (not-is-true (isOptional (u s b)) q)
+
+-- ---- cells that a call may evict
+
+-- they are the optional ones
+pub evictable-optional : (h : Head) (v : ℕ) → isEvictable h v ≡ true → isOptional v ≡ true
+evictable-optional h v e = e
+
+pub optional-evictable : (h : Head) (v : ℕ) → isOptional v ≡ true → isEvictable h v ≡ true
+optional-evictable h v e = e
 
 -- ---- the presets' lines
 

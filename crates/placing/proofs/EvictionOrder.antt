@@ -29,22 +29,22 @@ use Rattle.station.specs.Head.{Head, Valid, presetAt}
 use Rattle.placing.specs.Table.{Cells, WellFormed, cells, presetCount, numberAt, numberIn, hasPreset, isMandatory, isOptional}
 use Rattle.placing.specs.Valid.{usable, priorityOf}
 use Rattle.placing.specs.Plan.{rank}
-use Rattle.placing.specs.Call.{Place, noPlace, downward, rankOf, rankAt, evictable, evictionOrder, EvictedBefore, occurs, InEvictionOrder}
+use Rattle.placing.specs.Call.{CellPlace, noPlace, downward, rankOf, rankAt, isEvictable, evictable, evictionOrder, EvictedBefore, occurs, InEvictionOrder}
 use Rattle.placing.specs.Call.{slotsOf, inSet}
-use Rattle.placing.proofs.CountedCells.{area, area-ext, area-add, area-zero, preset-with, numberAt-low, priorityOf-is, rankOf-is}
+use Rattle.placing.proofs.CountedCells.{area, area-ext, area-add, area-zero, preset-with, numberAt-low, priorityOf-is, rankOf-is, evictable-optional}
 
 -- ---- walks down
 
-all-downward : {P : Place → Type 0} (n : ℕ) (f : ℕ → List Place) → ((i : ℕ) → i < n → All P (f i)) → All P (downward n f)
+all-downward : {P : CellPlace → Type 0} (n : ℕ) (f : ℕ → List CellPlace) → ((i : ℕ) → i < n → All P (f i)) → All P (downward n f)
 unfolding downward
 all-downward zero f h = none
 all-downward (suc n) f h = all-append (h n (le-refl (suc n))) (all-downward n f (λ i l. h i (omega arith)))
 
 -- a walk down: each part is in order, and what the parts have tells their places apart
-pairwise-downward : {R : Place → Place → Type 0} (Q : ℕ → Place → Type 0) (n : ℕ) (f : ℕ → List Place)
+pairwise-downward : {R : CellPlace → CellPlace → Type 0} (Q : ℕ → CellPlace → Type 0) (n : ℕ) (f : ℕ → List CellPlace)
     → ((i : ℕ) → i < n → Pairwise R (f i))
     → ((i : ℕ) → i < n → All (Q i) (f i))
-    → ((i j : ℕ) → j < i → i < n → (y z : Place) → Q i y → Q j z → R y z)
+    → ((i j : ℕ) → j < i → i < n → (y z : CellPlace) → Q i y → Q j z → R y z)
     → Pairwise R (downward n f)
 unfolding downward
 pairwise-downward Q zero f p a c = empty
@@ -57,7 +57,7 @@ pairwise-downward Q (suc n) f p a c =
 -- ---- weights
 
 -- the sum over the places of w at the place
-unfoldable pub weight : (ℕ → ℕ → ℕ) → List Place → ℕ
+unfoldable pub weight : (ℕ → ℕ → ℕ) → List CellPlace → ℕ
 weight w [] = 0
 weight w (z ∷ zs) = w (z .slot) (z .bridge) + weight w zs
 
@@ -65,12 +65,12 @@ weight w (z ∷ zs) = w (z .slot) (z .bridge) + weight w zs
 abbrev pub atCell : ℕ → ℕ → ℕ → ℕ → Bool
 atCell s b r a = eqb s r && eqb b a
 
-length-weight : (zs : List Place) → length zs ≡ weight (λ s b. 1) zs
+length-weight : (zs : List CellPlace) → length zs ≡ weight (λ s b. 1) zs
 unfolding weight
 length-weight [] = refl
 length-weight (z ∷ zs) = omega (arith, length-weight zs)
 
-occurs-weight : (zs : List Place) (s b : ℕ) → occurs zs s b ≡ weight (λ r a. bit (atCell r a s b)) zs
+occurs-weight : (zs : List CellPlace) (s b : ℕ) → occurs zs s b ≡ weight (λ r a. bit (atCell r a s b)) zs
 unfolding weight occurs
 occurs-weight [] s b = refl
 occurs-weight (z ∷ zs) s b = ap (λ (n : ℕ). bit (atCell (z .slot) (z .bridge) s b) + n) (occurs-weight zs s b)
@@ -87,17 +87,17 @@ area-point S B true f s b l m =
     ∙ sum-point B (λ a. only (atCell s b s a) (f s a)) b m (λ a la ne. rw (eqb-self s, eqb-no b a (λ e. ne (sym e))))
     ∙ rw (eqb-self s, eqb-self b)
 
-weight-append : (w : ℕ → ℕ → ℕ) (xs ys : List Place) → weight w (xs ++ ys) ≡ weight w xs + weight w ys
+weight-append : (w : ℕ → ℕ → ℕ) (xs ys : List CellPlace) → weight w (xs ++ ys) ≡ weight w xs + weight w ys
 unfolding weight
 weight-append w [] ys = omega arith
 weight-append w (x ∷ xs) ys = omega (arith, weight-append w xs ys)
 
-pub weight-downward : (w : ℕ → ℕ → ℕ) (n : ℕ) (f : ℕ → List Place) → weight w (downward n f) ≡ sum n (λ i. weight w (f i))
+pub weight-downward : (w : ℕ → ℕ → ℕ) (n : ℕ) (f : ℕ → List CellPlace) → weight w (downward n f) ≡ sum n (λ i. weight w (f i))
 unfolding weight downward sum
 weight-downward w zero f = refl
 weight-downward w (suc n) f = omega (arith, weight-append w (f n) (downward n f), weight-downward w n f)
 
-weight-one : (w : ℕ → ℕ → ℕ) (c : Bool) (z : Place) → weight w (cond c (z ∷ []) []) ≡ only c (w (z .slot) (z .bridge))
+weight-one : (w : ℕ → ℕ → ℕ) (c : Bool) (z : CellPlace) → weight w (cond c (z ∷ []) []) ≡ only c (w (z .slot) (z .bridge))
 unfolding weight
 weight-one w true z = omega arith
 weight-one w false z = refl
@@ -105,29 +105,29 @@ weight-one w false z = refl
 -- ---- sets of places
 
 -- the sum over the places of the set d
-unfoldable pub setWeight : (ℕ → ℕ → ℕ) → List Place → List Bool → ℕ
+unfoldable pub setWeight : (ℕ → ℕ → ℕ) → List CellPlace → List Bool → ℕ
 setWeight w [] d = 0
 setWeight w (z ∷ zs) [] = 0
 setWeight w (z ∷ zs) (c ∷ d) = only c (w (z .slot) (z .bridge)) + setWeight w zs d
 
 -- the place is the cell
-abbrev isAt : Place → ℕ → ℕ → Bool
+abbrev isAt : CellPlace → ℕ → ℕ → Bool
 isAt z s b = atCell (z .slot) (z .bridge) s b
 
-inSet-cons : (z : Place) (zs : List Place) (c : Bool) (d : List Bool) (s b : ℕ)
+inSet-cons : (z : CellPlace) (zs : List CellPlace) (c : Bool) (d : List Bool) (s b : ℕ)
     → inSet (z ∷ zs) (c ∷ d) s b ≡ ((c && isAt z s b) || inSet zs d s b)
 unfolding inSet
 inSet-cons z zs true d s b = refl
 inSet-cons z zs false d s b = refl
 
 -- what holds of a place holds of the cell that it is
-same-cell : (P : ℕ → ℕ → Type 0) (z : Place) (s b : ℕ) → isAt z s b ≡ true → P (z .slot) (z .bridge) → P s b
+same-cell : (P : ℕ → ℕ → Type 0) (z : CellPlace) (s b : ℕ) → isAt z s b ≡ true → P (z .slot) (z .bridge) → P s b
 same-cell P z s b e p =
     subst (λ (i : ℕ). P i b) (eq-of (z .slot) s (left-of (eqb (z .slot) s) (eqb (z .bridge) b) e))
     (subst (λ (j : ℕ). P (z .slot) j) (eq-of (z .bridge) b (right-of (eqb (z .slot) s) (eqb (z .bridge) b) e)) p)
 
 -- a cell of the set is at the first place, which is then in the set, or in the rest
-inSet-cases : (z : Place) (zs : List Place) (c : Bool) (d : List Bool) (s b : ℕ) → inSet (z ∷ zs) (c ∷ d) s b ≡ true
+inSet-cases : (z : CellPlace) (zs : List CellPlace) (c : Bool) (d : List Bool) (s b : ℕ) → inSet (z ∷ zs) (c ∷ d) s b ≡ true
     → ((c ≡ true) × (isAt z s b ≡ true)) ⊎ (inSet zs d s b ≡ true)
 inSet-cases z zs c d s b e = go (or-cases (c && isAt z s b) (inSet zs d s b) (sym (inSet-cons z zs c d s b) ∙ e))
   where
@@ -137,7 +137,7 @@ inSet-cases z zs c d s b e = go (or-cases (c && isAt z s b) (inSet zs d s b) (sy
     go (inr u) = inr u
 
 -- a cell of the set has what every place has
-inSet-all : (P : ℕ → ℕ → Type 0) {zs : List Place} → All (λ z. P (z .slot) (z .bridge)) zs → (d : List Bool) (s b : ℕ) → inSet zs d s b ≡ true → P s b
+inSet-all : (P : ℕ → ℕ → Type 0) {zs : List CellPlace} → All (λ z. P (z .slot) (z .bridge)) zs → (d : List Bool) (s b : ℕ) → inSet zs d s b ≡ true → P s b
 unfolding inSet
 inSet-all P none d s b e = absurd (clash (sym e))
 inSet-all P (more p a) [] s b e = absurd (clash (sym e))
@@ -148,14 +148,14 @@ inSet-all P (more {a = z} {l = zs} p a) (c ∷ d) s b e = go (inSet-all P a d s 
     go ih (inr u) = ih u
 
 -- two places are not one cell; a place is in the frame
-abbrev Apart : Place → Place → Type 0
+abbrev Apart : CellPlace → CellPlace → Type 0
 Apart y z = (y .slot ≡ z .slot) → (y .bridge ≡ z .bridge) → ⊥
 
-abbrev pub Within : ℕ → ℕ → Place → Type 0
+abbrev pub Within : ℕ → ℕ → CellPlace → Type 0
 Within S B z = (z .slot < S) × (z .bridge < B)
 
 -- where no place stands twice and all stand in the frame, a set's weight is the sum over its cells
-set-weight-area : (S B : ℕ) (w : ℕ → ℕ → ℕ) {zs : List Place} → All (Within S B) zs → Pairwise Apart zs → (d : List Bool)
+set-weight-area : (S B : ℕ) (w : ℕ → ℕ → ℕ) {zs : List CellPlace} → All (Within S B) zs → Pairwise Apart zs → (d : List Bool)
     → setWeight w zs d ≡ area S B (λ s b. only (inSet zs d s b) (w s b))
 unfolding setWeight inSet
 set-weight-area S B w none empty d = sym (area-zero S B)
@@ -182,7 +182,7 @@ set-weight-area S B w (more {a = z} {l = zs} f a) (first p q) (c ∷ d) =
         ∙ only-or (c && isAt z s b) (inSet zs d s b) (w s b) (other s b)
 
 -- the size of a set, and how many of its cells stand in a slot
-ones-weight : (zs : List Place) (d : List Bool) → length d ≡ length zs → ones d ≡ setWeight (λ s b. 1) zs d
+ones-weight : (zs : List CellPlace) (d : List Bool) → length d ≡ length zs → ones d ≡ setWeight (λ s b. 1) zs d
 unfolding ones setWeight
 ones-weight [] [] l = refl
 ones-weight [] (c ∷ d) l = absurd (omega arith)
@@ -190,7 +190,7 @@ ones-weight (z ∷ zs) [] l = refl
 ones-weight (z ∷ zs) (true ∷ d) l = omega (arith, ones-weight zs d (omega arith))
 ones-weight (z ∷ zs) (false ∷ d) l = omega (arith, ones-weight zs d (omega arith))
 
-evictedIn-weight : (zs : List Place) (d : List Bool) (s : ℕ) → evictedIn (slotsOf zs) d s ≡ setWeight (λ r b. bit (eqb s r)) zs d
+evictedIn-weight : (zs : List CellPlace) (d : List Bool) (s : ℕ) → evictedIn (slotsOf zs) d s ≡ setWeight (λ r b. bit (eqb s r)) zs d
 unfolding evictedIn setWeight
 evictedIn-weight [] d s = refl
 evictedIn-weight (z ∷ zs) [] s = refl
@@ -198,15 +198,15 @@ evictedIn-weight (z ∷ zs) (c ∷ d) s = omega (arith, evictedIn-weight zs d s)
 
 -- ---- the set of a test
 
-unfoldable pub those : (ℕ → ℕ → Bool) → List Place → List Bool
-those q zs = map (λ (z : Place). q (z .slot) (z .bridge)) zs
+unfoldable pub those : (ℕ → ℕ → Bool) → List CellPlace → List Bool
+those q zs = map (λ (z : CellPlace). q (z .slot) (z .bridge)) zs
 
-pub length-those : (q : ℕ → ℕ → Bool) (zs : List Place) → length (those q zs) ≡ length zs
+pub length-those : (q : ℕ → ℕ → Bool) (zs : List CellPlace) → length (those q zs) ≡ length zs
 unfolding those
-length-those q zs = lib.ListN.length-map zs (λ (z : Place). q (z .slot) (z .bridge))
+length-those q zs = lib.ListN.length-map zs (λ (z : CellPlace). q (z .slot) (z .bridge))
 
 -- its cells pass the test
-those-pass : (q : ℕ → ℕ → Bool) (zs : List Place) (s b : ℕ) → inSet zs (those q zs) s b ≡ true → q s b ≡ true
+those-pass : (q : ℕ → ℕ → Bool) (zs : List CellPlace) (s b : ℕ) → inSet zs (those q zs) s b ≡ true → q s b ≡ true
 unfolding inSet those
 those-pass q [] s b e = absurd (clash (sym e))
 those-pass q (z ∷ zs) s b e = go (those-pass q zs s b) (inSet-cases z zs (q (z .slot) (z .bridge)) (those q zs) s b e)
@@ -218,7 +218,7 @@ those-pass q (z ∷ zs) s b e = go (those-pass q zs s b) (inSet-cases z zs (q (z
     go ih (inr u) = ih u
 
 -- and a place that passes it is among them
-those-has : (q : ℕ → ℕ → Bool) (zs : List Place) (s b : ℕ) → q s b ≡ true → 0 < weight (λ r a. bit (atCell r a s b)) zs
+those-has : (q : ℕ → ℕ → Bool) (zs : List CellPlace) (s b : ℕ) → q s b ≡ true → 0 < weight (λ r a. bit (atCell r a s b)) zs
     → inSet zs (those q zs) s b ≡ true
 unfolding inSet those weight
 those-has q [] s b e h = absurd (omega arith)
@@ -236,19 +236,19 @@ those-has q (z ∷ zs) s b e h =
     go ih (is-false u) = or-right here (inSet zs (those q zs) s b) (ih (omega (arith, ap bit u)))
 
 -- the marked cells of a set
-marked-weight : (q : ℕ → ℕ → Bool) (zs : List Place) (d : List Bool) → marked (those q zs) d ≡ setWeight (λ s b. bit (q s b)) zs d
+marked-weight : (q : ℕ → ℕ → Bool) (zs : List CellPlace) (d : List Bool) → marked (those q zs) d ≡ setWeight (λ s b. bit (q s b)) zs d
 unfolding marked those setWeight
 marked-weight q [] d = refl
 marked-weight q (z ∷ zs) [] = refl
 marked-weight q (z ∷ zs) (c ∷ d) = omega (arith, marked-weight q zs d, only-bit-comm (q (z .slot) (z .bridge)) c)
 
 -- a test that all pass marks all, and one that holds of all after a place that passes it marks the last ones
-those-all : (q : ℕ → ℕ → Bool) {zs : List Place} → All (λ z. q (z .slot) (z .bridge) ≡ true) zs → those q zs ≡ replicate (length zs) true
+those-all : (q : ℕ → ℕ → Bool) {zs : List CellPlace} → All (λ z. q (z .slot) (z .bridge) ≡ true) zs → those q zs ≡ replicate (length zs) true
 unfolding those
 those-all q none = refl
 those-all q (more {a = z} {l = zs} p a) = rw (p, those-all q a)
 
-those-rising : (q : ℕ → ℕ → Bool) {zs : List Place}
+those-rising : (q : ℕ → ℕ → Bool) {zs : List CellPlace}
     → Pairwise (λ y z. q (y .slot) (y .bridge) ≡ true → q (z .slot) (z .bridge) ≡ true) zs → Rising (those q zs)
 unfolding those
 those-rising q empty = high 0
@@ -315,18 +315,18 @@ module _ (h : Head) (valid : Valid h) where
 pub record Listed (h : Head) (clock : ℕ) (t : Cells) (s b : ℕ) : Type 0 where
   pub slot-in : s < h .slots
   pub bridge-in : b < h .bridges
-  pub evicts : evictable clock t s b ≡ true
+  pub evicts : evictable h clock t s b ≡ true
 
-all-one : {P : Place → Type 0} (c : Bool) (z : Place) → (c ≡ true → P z) → All P (cond c (z ∷ []) [])
+all-one : {P : CellPlace → Type 0} (c : Bool) (z : CellPlace) → (c ≡ true → P z) → All P (cond c (z ∷ []) [])
 all-one true z f = more (f refl) none
 all-one false z f = none
 
-pairwise-one : {R : Place → Place → Type 0} (c : Bool) (z : Place) → Pairwise R (cond c (z ∷ []) [])
+pairwise-one : {R : CellPlace → CellPlace → Type 0} (c : Bool) (z : CellPlace) → Pairwise R (cond c (z ∷ []) [])
 pairwise-one true z = first none empty
 pairwise-one false z = empty
 
 module _ (h : Head) (clock : ℕ) (t : Cells) where
-  abbrev order : List Place
+  abbrev order : List CellPlace
   order = evictionOrder h clock t
 
   -- The rank of the preset that stands in a cell; whether the cell is one of rank r; then it is listed among those of rank r.
@@ -334,25 +334,25 @@ module _ (h : Head) (clock : ℕ) (t : Cells) where
   rankIn s b = rankOf h (numberIn (t s b))
 
   abbrev hasRank : ℕ → ℕ → ℕ → Bool
-  hasRank r s b = evictable clock t s b && eqb (rankIn s b) r
+  hasRank r s b = evictable h clock t s b && eqb (rankIn s b) r
 
-  abbrev one : ℕ → ℕ → ℕ → List Place
+  abbrev one : ℕ → ℕ → ℕ → List CellPlace
   one r s b = cond (hasRank r s b) (record { slot = s; bridge = b } ∷ []) []
 
-  abbrev inSlot : ℕ → ℕ → List Place
+  abbrev inSlot : ℕ → ℕ → List CellPlace
   inSlot r s = downward (h .bridges) (one r s)
 
-  abbrev ofRank : ℕ → List Place
+  abbrev ofRank : ℕ → List CellPlace
   ofRank r = downward (h .slots) (inSlot r)
 
   listed : (r s b : ℕ) → s < h .slots → b < h .bridges → hasRank r s b ≡ true → Listed h clock t s b
-  listed r s b l m e = record { slot-in = l; bridge-in = m; evicts = left-of (evictable clock t s b) (eqb (rankIn s b) r) e }
+  listed r s b l m e = record { slot-in = l; bridge-in = m; evicts = left-of (evictable h clock t s b) (eqb (rankIn s b) r) e }
 
   ranked : (r s b : ℕ) → hasRank r s b ≡ true → rankIn s b ≡ r
-  ranked r s b e = eq-of (rankIn s b) r (right-of (evictable clock t s b) (eqb (rankIn s b) r) e)
+  ranked r s b e = eq-of (rankIn s b) r (right-of (evictable h clock t s b) (eqb (rankIn s b) r) e)
 
   -- what every cell has that is listed in a slot, every place has
-  all-in-slot : {P : Place → Type 0} (r s : ℕ)
+  all-in-slot : {P : CellPlace → Type 0} (r s : ℕ)
       → ((b : ℕ) → b < h .bridges → hasRank r s b ≡ true → P (record { slot = s; bridge = b })) → All P (inSlot r s)
   all-in-slot r s f = all-downward (h .bridges) (one r s) (λ b m. all-one (hasRank r s b) (record { slot = s; bridge = b }) (f b m))
 
@@ -362,7 +362,7 @@ module _ (h : Head) (clock : ℕ) (t : Cells) where
       all-downward (presetCount h) ofRank (λ r k. all-downward (h .slots) (inSlot r) (λ s l. all-in-slot r s (λ b m. listed r s b l m)))
 
   -- a set's cells are evictable ones of the frame
-  pub in-set-evictable : (d : List Bool) (s b : ℕ) → inSet order d s b ≡ true → (evictable clock t s b ≡ true) × (s < h .slots) × (b < h .bridges)
+  pub in-set-evictable : (d : List Bool) (s b : ℕ) → inSet order d s b ≡ true → (evictable h clock t s b ≡ true) × (s < h .slots) × (b < h .bridges)
   in-set-evictable d s b e =
       let l : Listed h clock t s b = inSet-all (Listed h clock t) order-listed d s b e in
       (l .evicts, l .slot-in, l .bridge-in)
@@ -371,7 +371,7 @@ module _ (h : Head) (clock : ℕ) (t : Cells) where
     listed-preset : (s b : ℕ) → Listed h clock t s b → hasPreset h (numberIn (t s b)) ≡ true
     listed-preset s b l =
         formed .presets s b (l .slot-in) (l .bridge-in)
-        (or-right (isMandatory (t s b)) (isOptional (t s b)) (right-of (usable clock s) (isOptional (t s b)) (l .evicts)))
+        (or-right (isMandatory (t s b)) (isOptional (t s b)) (evictable-optional h (t s b) (right-of (usable clock s) (isEvictable h (t s b)) (l .evicts))))
 
     -- a preset has one cell in a slot
     one-in-slot : (s a b : ℕ) → a < b → Listed h clock t s a → Listed h clock t s b → rankIn s a ≡ rankIn s b → ⊥
@@ -408,7 +408,7 @@ module _ (h : Head) (clock : ℕ) (t : Cells) where
             (λ i j m l y z p q. inr (q .1 ∙ sym (p .1), omega arith))
 
     -- each evictable cell stands in the order exactly once: said for every weight, and of one cell
-    pub weight-order : (w : ℕ → ℕ → ℕ) → weight w order ≡ sum (h .slots) (λ s. sum (h .bridges) (λ b. only (evictable clock t s b) (w s b)))
+    pub weight-order : (w : ℕ → ℕ → ℕ) → weight w order ≡ sum (h .slots) (λ s. sum (h .bridges) (λ b. only (evictable h clock t s b) (w s b)))
     unfolding evictionOrder
     weight-order w =
         weight-downward w (presetCount h) ofRank
@@ -420,7 +420,7 @@ module _ (h : Head) (clock : ℕ) (t : Cells) where
         part r s b = only (hasRank r s b) (w s b)
 
         whole : ℕ → ℕ → ℕ
-        whole s b = only (evictable clock t s b) (w s b)
+        whole s b = only (evictable h clock t s b) (w s b)
 
         of-rank : (r : ℕ) → weight w (ofRank r) ≡ sum (h .slots) (λ s. sum (h .bridges) (part r s))
         of-rank r =
@@ -430,22 +430,22 @@ module _ (h : Head) (clock : ℕ) (t : Cells) where
             ∙ sum-ext (h .bridges) (λ b. weight w (one r s b)) (part r s) (λ b m.
             weight-one w (hasRank r s b) (record { slot = s; bridge = b })))
 
-        below : (s b : ℕ) → s < h .slots → b < h .bridges → evictable clock t s b ≡ true → rankIn s b < presetCount h
+        below : (s b : ℕ) → s < h .slots → b < h .bridges → evictable h clock t s b ≡ true → rankIn s b < presetCount h
         below s b l m e = rankOf-lt h valid (numberIn (t s b)) (listed-preset s b (record { slot-in = l; bridge-in = m; evicts = e }))
 
         in-slot : (s : ℕ) → s < h .slots → sum (presetCount h) (λ r. sum (h .bridges) (part r s)) ≡ sum (h .bridges) (whole s)
         in-slot s l =
             sum-swap (presetCount h) (h .bridges) (λ r b. part r s b)
             ∙ sum-ext (h .bridges) (λ b. sum (presetCount h) (λ r. part r s b)) (whole s) (λ b m.
-            sum-only-eqb (presetCount h) (rankIn s b) (w s b) (evictable clock t s b) (below s b l m))
+            sum-only-eqb (presetCount h) (rankIn s b) (w s b) (evictable h clock t s b) (below s b l m))
 
-    pub order-once : (s b : ℕ) → s < h .slots → b < h .bridges → weight (λ r a. bit (atCell r a s b)) order ≡ bit (evictable clock t s b)
+    pub order-once : (s b : ℕ) → s < h .slots → b < h .bridges → weight (λ r a. bit (atCell r a s b)) order ≡ bit (evictable h clock t s b)
     order-once s b l m =
         weight-order (λ r a. bit (atCell r a s b))
-        ∙ area-ext (h .slots) (h .bridges) (λ r a. only (evictable clock t r a) (bit (atCell r a s b)))
-        (λ r a. only (true && atCell s b r a) (bit (evictable clock t r a)))
-        (λ r a u v. only-bit-comm (evictable clock t r a) (atCell r a s b) ∙ rw (atCell-comm r a s b))
-        ∙ area-point (h .slots) (h .bridges) true (λ r a. bit (evictable clock t r a)) s b l m
+        ∙ area-ext (h .slots) (h .bridges) (λ r a. only (evictable h clock t r a) (bit (atCell r a s b)))
+        (λ r a. only (true && atCell s b r a) (bit (evictable h clock t r a)))
+        (λ r a u v. only-bit-comm (evictable h clock t r a) (atCell r a s b) ∙ rw (atCell-comm r a s b))
+        ∙ area-point (h .slots) (h .bridges) true (λ r a. bit (evictable h clock t r a)) s b l m
 
     -- the order is document 01's: worst rank first, for one preset the latest slot first, each evictable cell once
     pub order-is : InEvictionOrder h clock t order
@@ -454,8 +454,8 @@ module _ (h : Head) (clock : ℕ) (t : Cells) where
       once = λ s b l m. occurs-weight order s b ∙ order-once s b l m;
       many = length-weight order
           ∙ weight-order (λ s b. 1)
-          ∙ area-ext (h .slots) (h .bridges) (λ s b. only (evictable clock t s b) 1) (λ s b. bit (evictable clock t s b))
-          (λ s b u v. only-bit-comm (evictable clock t s b) true);
+          ∙ area-ext (h .slots) (h .bridges) (λ s b. only (evictable h clock t s b) 1) (λ s b. bit (evictable h clock t s b))
+          (λ s b u v. only-bit-comm (evictable h clock t s b) true);
     }
 
     -- a set's weight is the sum over its cells; so are its size and what it adds to the free cells of a slot
@@ -465,7 +465,7 @@ module _ (h : Head) (clock : ℕ) (t : Cells) where
         set-weight-area (h .slots) (h .bridges) w (all-imp (λ z l. (l .slot-in, l .bridge-in)) order-listed)
         (pairwise-imp (λ y z u v. differ y z) order-listed order-pairwise) d
       where
-        differ : (y z : Place) → EvictedBefore h t y z → y .slot ≡ z .slot → y .bridge ≡ z .bridge → ⊥
+        differ : (y z : CellPlace) → EvictedBefore h t y z → y .slot ≡ z .slot → y .bridge ≡ z .bridge → ⊥
         differ y z (inl e) p q = omega (arith, ap (λ (s : ℕ). rankIn s (y .bridge)) p, ap (λ (b : ℕ). rankIn (z .slot) b) q)
         differ y z (inr e) p q = omega arith
 
@@ -494,12 +494,12 @@ module _ (h : Head) (clock : ℕ) (t : Cells) where
         turned r b = only-bit-comm (inSet order d r b) (eqb s r)
 
     -- the set of a test has the evictable cells that pass it
-    pub in-those : (q : ℕ → ℕ → Bool) (s b : ℕ) → s < h .slots → b < h .bridges → inSet order (those q order) s b ≡ (evictable clock t s b && q s b)
+    pub in-those : (q : ℕ → ℕ → Bool) (s b : ℕ) → s < h .slots → b < h .bridges → inSet order (those q order) s b ≡ (evictable h clock t s b && q s b)
     in-those q s b l m =
-        test-ext (inSet order (those q order) s b) (evictable clock t s b && q s b)
-        (λ e. both (evictable clock t s b) (q s b) (in-set-evictable (those q order) s b e .0) (those-pass q order s b e))
-        (λ e. those-has q order s b (right-of (evictable clock t s b) (q s b) e)
-        (omega (arith, order-once s b l m, ap bit (left-of (evictable clock t s b) (q s b) e))))
+        test-ext (inSet order (those q order) s b) (evictable h clock t s b && q s b)
+        (λ e. both (evictable h clock t s b) (q s b) (in-set-evictable (those q order) s b e .0) (those-pass q order s b e))
+        (λ e. those-has q order s b (right-of (evictable h clock t s b) (q s b) e)
+        (omega (arith, order-once s b l m, ap bit (left-of (evictable h clock t s b) (q s b) e))))
 
     -- how many cells of a set pass a test
     pub marked-cells : (q : ℕ → ℕ → Bool) (d : List Bool) → marked (those q order) d ≡ cells h (λ s b. inSet order d s b && q s b)
@@ -516,11 +516,11 @@ module _ (h : Head) (clock : ℕ) (t : Cells) where
         priorityIn : ℕ → ℕ → ℕ
         priorityIn s b = priorityOf h (numberIn (t s b))
 
-        no-worse : (y z : Place) → EvictedBefore h t y z → rankAt h t z ≤ rankAt h t y
+        no-worse : (y z : CellPlace) → EvictedBefore h t y z → rankAt h t z ≤ rankAt h t y
         no-worse y z (inl e) = omega arith
         no-worse y z (inr e) = omega arith
 
-        after : (y z : Place) → Listed h clock t (y .slot) (y .bridge) → Listed h clock t (z .slot) (z .bridge) → EvictedBefore h t y z
+        after : (y z : CellPlace) → Listed h clock t (y .slot) (y .bridge) → Listed h clock t (z .slot) (z .bridge) → EvictedBefore h t y z
             → leb (priorityIn (y .slot) (y .bridge)) p ≡ true → leb (priorityIn (z .slot) (z .bridge)) p ≡ true
         after y z u v e o =
             leb-yes (priorityIn (z .slot) (z .bridge)) p

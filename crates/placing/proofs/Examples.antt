@@ -3,7 +3,7 @@
 --
 -- In order: what computes; a plan's ties and bridges (`three-planned`); the clock's own slot (`clock-slot`); the worst priority is evicted
 -- (`worst-evicted`); what every valid placement of a call that is taken loses (`must-go`, `goes`); free 3, 1, 1, 1: no placement in the empty cells
--- (`no-empty-placement`), one cell must go and one goes (`one-must-go`, `one-goes`). Then what holds the definitions to document 01 from two sides, each a
+-- (`no-empty-placement`), one cell must go and one goes (`one-must-go`, `one-goes`); the room for r at both edges (`capacity-3111`, `capacity-clock`, `longest-first`, `plan-capacity`, `no-plan-3111`, `plan-3121`). Then what holds the definitions to document 01 from two sides, each a
 -- list of cases and one fact: each clause of a sound table broken alone (`sound-broken`); the limits of a call and of the lent table and clock at both edges,
 -- and the causes of plan and call two at a time in the listed order (`plans-answered`, `calls-answered`); the records of a head and of a list at their edges
 -- (`records-answered`, `plan-list`, `call-list`); the order of loss (`losses`).
@@ -17,22 +17,25 @@ use mathlib.Core.List.{List, [], _∷_, _++_, map}
 use lib.ListN.{take, replicate}
 use Rattle.laws.specs.Sums.{sum, greatest, every}
 use Rattle.laws.specs.Lists.{at, tabulate}
-use Rattle.laws.specs.Placement.{served, left, Placed, excess}
+use Rattle.laws.specs.Placement.{served, left, Placed, everywhere, excess}
 use Rattle.laws.specs.Grants.{granted, turn, most}
 use Rattle.laws.specs.Eviction.{added, searched, ones}
 use Rattle.laws.proofs.Placement.{placed-fits}
+use Rattle.laws.proofs.Excess.{excess-none}
 use Rattle.station.specs.Head.{Head, Preset, Job, valid, hasNumber, allInLimits, allDistinct, masksIn}
 use Rattle.station.specs.Refusal.{Refusal, firstOf, outOfLimits, numberUsed, mandatoryNotFeasible, callNotFeasible, tooShort, tooMany, notWellFormed}
+use Rattle.station.proofs.Theorems.{valid-of}
 use Rattle.station.specs.declared.types.Preset as record-of-preset
 use Rattle.station.specs.declared.types.Head as record-of-head
 use Rattle.station.specs.declared.types.Job as record-of-job
 use Rattle.station.specs.declared.types.Refusal.the-variants.{TooShort}
 use Rattle.placing.specs.Table.{cell, cells, wellFormed}
 use Rattle.placing.specs.State.{State, stateOf}
-use Rattle.placing.specs.Valid.{ValidCall, lost}
-use Rattle.placing.specs.Plan.{needs, grants, planned, placing}
+use Rattle.placing.specs.Valid.{ValidPlan, ValidCall, lost}
+use Rattle.placing.specs.Plan.{planFreeCount, grants, planned, placing, needsFrom}
 use Rattle.placing.specs.Call.{emptyCount, called, evictedSet, evictionOrder, downward, inSet, callFits}
-use Rattle.placing.specs.Outcomes.{written, planOf, CallAnswer, CallOutcome, PlanAnswer, PlanOutcome, callOf}
+use Rattle.placing.specs.Capacity.{longestJobs, emptyCapacity, callCapacity, largestMandatory, planCapacity}
+use Rattle.placing.specs.Outcomes.{cost, written, planOf, CallAnswer, CallOutcome, PlanAnswer, PlanOutcome, callOf}
 use Rattle.placing.specs.Causes.{callJobs}
 use Rattle.placing.specs.PlanDone.{PlanDone, planMeant}
 use Rattle.placing.specs.CallDone.{CallDone, callMeant}
@@ -40,6 +43,7 @@ use Rattle.placing.specs.Entries.{planTooShort, PlanEntered, CallEntered
 use Rattle.placing.specs.declared.plan.Planned.{Planned}
 use Rattle.placing.specs.declared.call.CallAnswer as reply
 use Rattle.placing.specs.declared.call.CallAnswer.the-variants as call-answer
+use Rattle.placing.proofs.ByCapacity.{plan-by-capacity}
 use Rattle.placing.proofs.ClaimsHold.{call-claim}
 
 -- ---- what computes: `unfolding plans` opens all that a plan needs, `unfolding calls` all that a call needs
@@ -47,7 +51,7 @@ use Rattle.placing.proofs.ClaimsHold.{call-claim}
 unfoldable pub plans : Head → List ℕ → PlanOutcome
 unfolding
     sum greatest tabulate served left granted turn most valid hasNumber allInLimits allDistinct masksIn firstOf
-    needs grants planned placing written planOf
+    needsFrom grants planned placing written planOf
 plans h t = planOf h t
 
 unfoldable pub calls : Head → List Job → State → CallOutcome
@@ -82,8 +86,8 @@ three-planned = refl
 abbrev oneSlot : Head
 oneSlot = record { slots = 1; bridges = 1; busy = noBusy; presets = [] }
 
-pub clock-slot : (callOf oneSlot (job 5 1 ∷ []) (stateOf (replicate 512 0) 1) .answer ≡ CallAnswer.taken 0)
-    × (callOf oneSlot (job 5 1 ∷ []) (stateOf (replicate 512 0) 2) .answer ≡ CallAnswer.refused callNotFeasible)
+pub clock-slot : (callOf oneSlot (job 5 1 ∷ []) (stateOf (replicate 512 0) 1) .answer ≡ CallAnswer.taken (cost 0))
+    × (callOf oneSlot (job 5 1 ∷ []) (stateOf (replicate 512 0) 2) .answer ≡ CallAnswer.refused 0 callNotFeasible)
 unfolding calls
 clock-slot = (refl, refl)
 
@@ -98,22 +102,22 @@ worst-evicted = refl
 
 -- ---- a call that is taken, with n cells lost
 
-module _ (h : Head) (clock : ℕ) (jobs : List Job) (t : List ℕ) (n : ℕ) (taken : callOf h jobs (stateOf t clock) .answer ≡ CallAnswer.taken n) where
+module _ (h : Head) (clock : ℕ) (jobs : List Job) (t : List ℕ) (n : ℕ) (taken : callOf h jobs (stateOf t clock) .answer ≡ CallAnswer.taken (cost n)) where
   -- every valid placement loses n cells or more
   pub must-go : (u : List ℕ) → ValidCall h clock jobs (cell h t) (cell h u) → n ≤ cells h (λ s b. lost (cell h t) (cell h u) s b)
   must-go u v =
       let c = call-claim h jobs (stateOf t clock) in
       omega (
         arith,
-        c .reported n taken,
-        c .nine n taken (callOf h jobs (stateOf t clock) .after .table),
-        c .nine n taken u,
-        c .least n taken u v 9,
+        c .reported (cost n) taken,
+        c .nine (cost n) taken (callOf h jobs (stateOf t clock) .after .table),
+        c .nine (cost n) taken u,
+        c .least (cost n) taken u v 9,
       )
 
   -- and there is one that loses n
   pub goes : (u : List ℕ) × ValidCall h clock jobs (cell h t) (cell h u) × (cells h (λ s b. lost (cell h t) (cell h u) s b) ≡ n)
-  goes = let c = call-claim h jobs (stateOf t clock) in (callOf h jobs (stateOf t clock) .after .table, c .valid n taken, sym (c .reported n taken))
+  goes = let c = call-claim h jobs (stateOf t clock) in (callOf h jobs (stateOf t clock) .after .table, c .valid (cost n) taken, sym (c .reported (cost n) taken))
 
 -- ---- free 3, 1, 1, 1 and one optional cell in slot 2, a call of 3 and 3
 
@@ -142,13 +146,13 @@ unfolding tabulate sum
 free-3111 = refl
 
 -- No placement in the empty cells alone exists.
-pub no-empty-placement : (a : ℕ → ℕ → Bool) → Placed 2 (at (3 ∷ 3 ∷ [])) 4 (emptyCount frame3111 1 (cell frame3111 table3111)) a → ⊥
+pub no-empty-placement : (a : ℕ → ℕ → Bool) → Placed everywhere 2 (at (3 ∷ 3 ∷ [])) 4 (emptyCount frame3111 1 (cell frame3111 table3111)) a → ⊥
 unfolding sum greatest
 no-empty-placement a p =
     let z : excess 2 (at (3 ∷ 3 ∷ [])) 4 (emptyCount frame3111 1 (cell frame3111 table3111)) ≡ 0 = placed-fits p in
     omega arith
 
-takes-one : callOf frame3111 threeAndThree (stateOf table3111 1) .answer ≡ CallAnswer.taken 1
+takes-one : callOf frame3111 threeAndThree (stateOf table3111 1) .answer ≡ CallAnswer.taken (cost 1)
 unfolding calls
 takes-one = refl
 
@@ -160,6 +164,48 @@ one-must-go = must-go frame3111 1 threeAndThree table3111 1 takes-one
 pub one-goes : (u : List ℕ) × ValidCall frame3111 1 threeAndThree (cell frame3111 table3111) (cell frame3111 u)
     × (cells frame3111 (λ s b. lost (cell frame3111 table3111) (cell frame3111 u) s b) ≡ 1)
 one-goes = goes frame3111 1 threeAndThree table3111 1 takes-one
+
+-- ---- the room for r, and the r largest needs, for r = 0 to 3
+
+-- docs/CALLS.md, the worked frame: of its empty cells, and with the optional cell; the two jobs exceed the first at 2, and nowhere the other
+pub capacity-3111 : (tabulate 4 (longestJobs threeAndThree) ≡ 0 ∷ 3 ∷ 6 ∷ 6 ∷ [])
+    × (tabulate 4 (emptyCapacity frame3111 1 (cell frame3111 table3111)) ≡ 0 ∷ 4 ∷ 5 ∷ 6 ∷ [])
+    × (tabulate 4 (callCapacity frame3111 1 (cell frame3111 table3111)) ≡ 0 ∷ 4 ∷ 6 ∷ 7 ∷ [])
+unfolding tabulate sum
+capacity-3111 = (refl, refl, refl)
+
+-- a slot gone by has no room, the clock's own slot has; the longest job first, wherever it stands in the call
+pub capacity-clock : (tabulate 4 (callCapacity frame3111 2 (cell frame3111 table3111)) ≡ 0 ∷ 3 ∷ 4 ∷ 4 ∷ [])
+    × (tabulate 4 (emptyCapacity frame3111 2 (cell frame3111 table3111)) ≡ 0 ∷ 3 ∷ 3 ∷ 3 ∷ [])
+unfolding tabulate sum
+capacity-clock = (refl, refl)
+
+pub longest-first : tabulate 4 (longestJobs (job 5 1 ∷ job 6 3 ∷ job 7 2 ∷ [])) ≡ 0 ∷ 3 ∷ 5 ∷ 6 ∷ []
+unfolding tabulate sum
+longest-first = refl
+
+-- Free 3, 1, 1, 1, and 3, 1, 2, 1, with m 3 and 3: the first has no valid plan, since the room for 2 is 5; the other has one.
+abbrev plan3111 : Head
+plan3111 = record { slots = 4; bridges = 3; busy = 0 ∷ 14 ∷ 14 ∷ replicate 5 0; presets = preset 1 0 3 0 ∷ preset 2 0 3 0 ∷ [] }
+
+abbrev plan3121 : Head
+plan3121 = record { slots = 4; bridges = 3; busy = 0 ∷ 10 ∷ 14 ∷ replicate 5 0; presets = preset 1 0 3 0 ∷ preset 2 0 3 0 ∷ [] }
+
+pub plan-capacity : (tabulate 4 (largestMandatory plan3111) ≡ 0 ∷ 3 ∷ 6 ∷ 6 ∷ [])
+    × (tabulate 4 (planCapacity plan3111) ≡ 0 ∷ 4 ∷ 5 ∷ 6 ∷ [])
+    × (tabulate 4 (planCapacity plan3121) ≡ 0 ∷ 4 ∷ 6 ∷ 7 ∷ [])
+unfolding tabulate sum
+plan-capacity = (refl, refl, refl)
+
+pub no-plan-3111 : (u : List ℕ) → ValidPlan plan3111 (cell plan3111 u) → ⊥
+unfolding plans
+no-plan-3111 u v =
+    let six : largestMandatory plan3111 2 ≤ planCapacity plan3111 2 = plan-by-capacity plan3111 (valid-of plan3111 refl) .fits .0 (u, v) 2 in
+    omega arith
+
+pub plan-3121 : (u : List ℕ) × ValidPlan plan3121 (cell plan3121 u)
+unfolding plans
+plan-3121 = plan-by-capacity plan3121 (valid-of plan3121 refl) .fits .1 (excess-none 2 (at (3 ∷ 3 ∷ [])) 4 (planFreeCount plan3121) .0 refl)
 
 -- ---- held from two sides: the tables, heads and jobs of the cases below
 
@@ -232,7 +278,7 @@ brokenTables =
 
 -- A call on a sound table is taken, and on each of the others refused for 11; "at most 64 job numbers" is in `calls-answered`.
 pub sound-broken : map (λ t. callOf fourSlots (job 20 1 ∷ []) (stateOf (lent t) 1) .answer) (soundTable ∷ brokenTables)
-    ≡ CallAnswer.taken 0 ∷ replicate 18 (CallAnswer.refused notWellFormed)
+    ≡ CallAnswer.taken (cost 0) ∷ replicate 18 (CallAnswer.refused 0 notWellFormed)
 unfolding calls
 sound-broken = refl
 
@@ -247,7 +293,7 @@ abbrev grants-all : Head → ℕ → List ℕ → PlanCase
 grants-all h n g = record { head = h; cellsLent = n; said = PlanAnswer.granted g }
 
 abbrev stops-plan : Head → ℕ → Refusal → PlanCase
-stops-plan h n r = record { head = h; cellsLent = n; said = PlanAnswer.refused r }
+stops-plan h n r = record { head = h; cellsLent = n; said = PlanAnswer.refused 0 r }
 
 abbrev planCases : List PlanCase
 planCases =
@@ -295,10 +341,10 @@ record CallCase : Type 0 where
   said : CallAnswer
 
 abbrev takes : Head → ℕ → List Job → List ℕ → CallCase
-takes h clock jobs t = record { head = h; clock = clock; jobs = jobs; table = t; said = CallAnswer.taken 0 }
+takes h clock jobs t = record { head = h; clock = clock; jobs = jobs; table = t; said = CallAnswer.taken (cost 0) }
 
 abbrev stops : Refusal → Head → ℕ → List Job → List ℕ → CallCase
-stops r h clock jobs t = record { head = h; clock = clock; jobs = jobs; table = t; said = CallAnswer.refused r }
+stops r h clock jobs t = record { head = h; clock = clock; jobs = jobs; table = t; said = CallAnswer.refused 0 r }
 
 abbrev callCases : List CallCase
 callCases =
@@ -369,12 +415,12 @@ jobRecordsTo (suc n) = record { number = 100 + n; slots = 1 } ∷ jobRecordsTo n
 
 -- A record that counts 32 presets has a plan; one that counts 33 is one "that no text yields", after 8 and before a call's own 2, 4 and 7; a ninth job record is no job.
 pub records-answered : (planMeant (counting 32) (recordsTo 32) (lent []) .answer ≡ PlanAnswer.granted (replicate 32 0))
-    × (planMeant (counting 33) (recordsTo 33) (lent []) .answer ≡ PlanAnswer.refused outOfLimits)
-    × (planMeant (counting 33) (recordsTo 33) (replicate 511 0) .answer ≡ PlanAnswer.refused tooShort)
-    × (callMeant (counting 33) (recordsTo 33) (job 40 2 ∷ []) (stateOf (lent (7 ∷ [])) 3) .answer ≡ CallAnswer.refused outOfLimits)
-    × (callMeant (counting 33) (recordsTo 33) [] (stateOf (replicate 511 0) 1) .answer ≡ CallAnswer.refused tooShort)
-    × (callMeant (counting 0) [] (callJobs 8 (jobRecordsTo 8)) (stateOf (lent []) 1) .answer ≡ CallAnswer.refused callNotFeasible)
-    × (callMeant (counting 0) [] (callJobs 9 (jobRecordsTo 8)) (stateOf (lent []) 1) .answer ≡ CallAnswer.refused outOfLimits)
+    × (planMeant (counting 33) (recordsTo 33) (lent []) .answer ≡ PlanAnswer.refused 0 outOfLimits)
+    × (planMeant (counting 33) (recordsTo 33) (replicate 511 0) .answer ≡ PlanAnswer.refused 0 tooShort)
+    × (callMeant (counting 33) (recordsTo 33) (job 40 2 ∷ []) (stateOf (lent (7 ∷ [])) 3) .answer ≡ CallAnswer.refused 0 outOfLimits)
+    × (callMeant (counting 33) (recordsTo 33) [] (stateOf (replicate 511 0) 1) .answer ≡ CallAnswer.refused 0 tooShort)
+    × (callMeant (counting 0) [] (callJobs 8 (jobRecordsTo 8)) (stateOf (lent []) 1) .answer ≡ CallAnswer.refused 0 callNotFeasible)
+    × (callMeant (counting 0) [] (callJobs 9 (jobRecordsTo 8)) (stateOf (lent []) 1) .answer ≡ CallAnswer.refused 0 outOfLimits)
 unfolding planMeant callMeant plans calls recordsTo jobRecordsTo callJobs
 records-answered = (refl, refl, refl, refl, refl, refl, refl)
 
@@ -384,7 +430,7 @@ pub plan-list : (head : record-of-head.Head) (ps : List record-of-preset.Preset)
 plan-list head ps t u r = (λ e. e .short (omega arith), λ e. e .done (omega arith))
 
 pub call-list : (head : record-of-head.Head) (ps : List record-of-preset.Preset) (jobs : List Job) (st : State) (u : List ℕ) (r : reply.CallAnswer)
-    → (CallEntered 31 head ps jobs st u r → (r ≡ call-answer.Refused TooShort) × (u ≡ st .table))
+    → (CallEntered 31 head ps jobs st u r → (r ≡ call-answer.Refused 0 TooShort) × (u ≡ st .table))
     × (CallEntered 32 head ps jobs st u r → CallDone head ps jobs st u r)
 call-list head ps jobs st u r = (λ e. e .short (omega arith), λ e. e .done (omega arith))
 

@@ -1,18 +1,19 @@
--- From the bank to the list of records: what a plan or a call does over the first 32 records by value, it does over the list.
+-- From the copied to the list of records: what a plan or a call does over the first 32 records by value, it does over the list.
 --
--- In order: the first 32 records settle the outcome (`same-plan`, `same-call`); the bank that is loaded from a list agrees with it in them; the contract of
--- each entry from that of its counted part (`plan-entered`, `call-entered`).
+-- In order: the first 32 records settle the outcome (`same-plan`, `same-call`); the copied that is loaded from a list agrees with it in them; the contract of
+-- each entry from that of its counted part (`plan-entered`, `call-entered`, `call-entry`).
 -- Assumes nothing.
 use Prim.Native.Nat.{ℕ, _≤_}
 use native.Mathlib.Omega.{arith}
-use mathlib.Core.Path.{_≡_, refl, sym, _∙_, ap}
+use mathlib.Core.Path.{_≡_, refl, sym, _∙_, ap, subst}
 use mathlib.Core.Bool.{Bool, true, false, not, _&&_}
 use mathlib.Core.Option.{none, some}
 use mathlib.Core.List.{List, [], _∷_, _++_, map}
 use lib.ListN.{length, take, replicate}
 use lib.Seq.{take-append-le, take-take}
 use lib.Dec.{ltb, leb}
-use Rattle.laws.proofs.Comparisons.{le-of}
+use Rattle.laws.proofs.Comparisons.{le-of, lt-of, ge-of}
+use Rattle.laws.proofs.Tests.{Is, is, is-true, is-false}
 use Rattle.laws.specs.Lists.{at}
 use Rattle.station.specs.Head as spec
 use Rattle.station.specs.Head.{Job, valid}
@@ -21,14 +22,17 @@ use Rattle.station.specs.Types.{presetIn, headIn, noRecord}
 use Rattle.station.specs.declared.types.Preset.{Preset}
 use Rattle.station.specs.declared.types.Head.{Head}
 use Rattle.station.specs.Records.{loaded}
-use Rattle.placing.specs.State.{State}
+use Rattle.placing.specs.State.{State, stateOf}
 use Rattle.placing.specs.Outcomes.{PlanAnswer, PlanOutcome, planOf, CallAnswer, CallOutcome, callOf}
-use Rattle.placing.specs.method.Grants.{filled}
 use Rattle.placing.specs.declared.plan.Planned as result
 use Rattle.placing.specs.PlanDone.{planMeant, grantsIn}
 use Rattle.placing.specs.declared.call.CallAnswer as reply
 use Rattle.placing.specs.CallDone.{callMeant}
-use Rattle.placing.specs.Entries.{PlanEntered, CallEntered}
+use Rattle.placing.specs.Entries.{PlanEntered, CallEntered, CallEntry}
+use Rattle.placing.specs.Claims.{Running}
+use Rattle.placing.proofs.ClaimsHold.{call-claim}
+use Rattle.placing.proofs.call.CallAnswers.{done-running}
+use Rattle.placing.specs.Types.{filled}
 
 -- ---- the first 32 records settle the outcome
 
@@ -53,31 +57,31 @@ module _ (head : Head) (ps qs : List Preset) (agree : take 32 ps ≡ take 32 qs)
 
   same-plan : (t : List ℕ) → planMeant head ps t ≡ planMeant head qs t
   unfolding planMeant
-  same-plan t = same-outcome (λ h. planOf h t) (λ r. record { answer = PlanAnswer.refused r; table = t }) (ltb (length t) 512) (leb (head .count) 32) (headIn head ps) (headIn head qs) same-head
+  same-plan t = same-outcome (λ h. planOf h t) (λ r. record { answer = PlanAnswer.refused 0 r; table = t }) (ltb (length t) 512) (leb (head .count) 32) (headIn head ps) (headIn head qs) same-head
 
   same-call : (jobs : List Job) (st : State) → callMeant head ps jobs st ≡ callMeant head qs jobs st
   unfolding callMeant
   same-call jobs st =
-      same-outcome (λ h. callOf h jobs st) (λ r. record { answer = CallAnswer.refused r; after = st }) (ltb (length (st .table)) 512) (leb (head .count) 32) (headIn head ps) (headIn head qs) same-head
+      same-outcome (λ h. callOf h jobs st) (λ r. record { answer = CallAnswer.refused 0 r; after = st }) (ltb (length (st .table)) 512) (leb (head .count) 32) (headIn head ps) (headIn head qs) same-head
 
--- ---- the bank that is loaded from a list
+-- ---- the copied that is loaded from a list
 
-bank-agrees : (ps : List Preset) → 32 ≤ length ps → take 32 (loaded ps) ≡ take 32 ps
-bank-agrees ps long = take-take 32 32 (ps ++ replicate 32 noRecord) (omega arith) ∙ take-append-le 32 ps (replicate 32 noRecord) long
+copied-agrees : (ps : List Preset) → 32 ≤ length ps → take 32 (loaded ps) ≡ take 32 ps
+copied-agrees ps long = take-take 32 32 (ps ++ replicate 32 noRecord) (omega arith) ∙ take-append-le 32 ps (replicate 32 noRecord) long
 
 -- ---- the contract of each entry
 
-module _ {n : ℕ} (head : Head) (ps : List Preset) {bank : List Preset} (counts : n ≡ length ps) (loads : bank ≡ loaded ps) where
-  bank-same : 32 ≤ length ps → take 32 bank ≡ take 32 ps
-  bank-same long = ap (take 32) loads ∙ bank-agrees ps long
+module _ {n : ℕ} (head : Head) (ps : List Preset) {copied : List Preset} (counts : n ≡ length ps) (loads : copied ≡ loaded ps) where
+  copied-same : 32 ≤ length ps → take 32 copied ≡ take 32 ps
+  copied-same long = ap (take 32) loads ∙ copied-agrees ps long
 
-  pub plan-entered : {t u : List ℕ} {r : result.Planned} → PlanEntered n head bank t u r → PlanEntered (length ps) head ps t u r
+  pub plan-entered : {t u : List ℕ} {r : result.Planned} → PlanEntered n head copied t u r → PlanEntered (length ps) head ps t u r
   plan-entered {t} e =
       record {
         short = λ l. e .short (omega (arith, counts, l));
         done = λ l.
             let d = e .done (omega (arith, counts, l)) in
-            let o = same-plan head bank ps (bank-same l) t in
+            let o = same-plan head copied ps (copied-same l) t in
             record {
               answer = d .answer ∙ ap (λ (p : PlanOutcome). p .answer) o;
               grants = d .grants ∙ ap (λ (p : PlanOutcome). filled 32 (length (grantsIn (p .answer))) (at (grantsIn (p .answer)))) o;
@@ -85,15 +89,27 @@ module _ {n : ℕ} (head : Head) (ps : List Preset) {bank : List Preset} (counts
             };
       }
 
-  pub call-entered : (jobs : List Job) (st : State) {u : List ℕ} {r : reply.CallAnswer} → CallEntered n head bank jobs st u r → CallEntered (length ps) head ps jobs st u r
+  call-entered : (jobs : List Job) (st : State) {u : List ℕ} {r : reply.CallAnswer} → CallEntered n head copied jobs st u r → CallEntered (length ps) head ps jobs st u r
   call-entered jobs st e =
       record {
         short = λ l. e .short (omega (arith, counts, l));
         done = λ l.
             let d = e .done (omega (arith, counts, l)) in
-            let o = same-call head bank ps (bank-same l) jobs st in
+            let o = same-call head copied ps (copied-same l) jobs st in
             record {
               answer = d .answer ∙ ap (λ (p : CallOutcome). p .answer) o;
               table = d .table ∙ ap (λ (p : CallOutcome). p .after .table) o;
             };
       }
+
+  module _ (jobs : List Job) (st : State) {u : List ℕ} {r : reply.CallAnswer} where
+    -- a frame that 11 lets pass is one afterwards
+    entered-running : CallEntered (length ps) head ps jobs st u r → Running (headIn head ps) st → Running (headIn head ps) (stateOf u (st .clock))
+    entered-running e run = go (is (ltb (length ps) 32))
+      where
+        go : Is (ltb (length ps) 32) → Running (headIn head ps) (stateOf u (st .clock))
+        go (is-true l) = subst (λ (t : List ℕ). Running (headIn head ps) (stateOf t (st .clock))) (sym (e .short (lt-of (length ps) 32 l) .1)) run
+        go (is-false l) = done-running head ps jobs st (e .done (ge-of (length ps) 32 l)) run
+
+    pub call-entry : CallEntered n head copied jobs st u r → CallEntry head ps jobs st u r
+    call-entry e = let done = call-entered jobs st e in record { done = done; kept = entered-running done; claim = call-claim (headIn head ps) jobs st }

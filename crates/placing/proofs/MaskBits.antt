@@ -1,7 +1,7 @@
 -- Laws of a slot's mask of free bridges.
 --
--- In order: the bits of a number, lowest first (`taken-..`), and how many they are (`ones-taken`, `ones-low`); the bits of the mask of a test
--- (`taken-mask`); the lowest bit that is set (`lowest`, `none-below-lowest`, `some-lowest`), and what is left without it
+-- In order: the bits of a number, lowest first (`taken-..`), and how many they are (`ones-hasBit`, `ones-low`); the bits of the mask of a test
+-- (`hasBit-mask`); the lowest bit that is set (`lowest`, `none-below-lowest`, `some-lowest`), and what is left without it
 -- (`cleared`).
 -- Assumes nothing.
 use Prim.Native.Nat.{ℕ, zero, suc, _+_, _-_, _*_, _/_, _%_, _^_, _<_}
@@ -19,42 +19,42 @@ use Rattle.laws.specs.Sums.{bit, sum, count}
 use Rattle.laws.proofs.Tests.{Is, is-true, is-false, is}
 use Rattle.laws.proofs.Comparisons.{eq-of, ne-of, eqb-yes, eqb-no}
 use Rattle.laws.proofs.Sums.{sum-ext, sum-first}
-use Rattle.station.specs.Head.{taken}
+use Rattle.station.specs.Head.{hasBit}
 use Rattle.placing.specs.method.Mask.{bridgeMask}
 use Rattle.placing.proofs.BridgeMask.{mask-first}
 
 -- ---- the bits of a number
 
-bit-taken : (m : ℕ) → bit (taken m 0) ≡ m % 2
-bit-taken m = go (is (eqb (m / 2 ^ 0 % 2) 1))
+bit-hasBit : (m : ℕ) → bit (hasBit m 0) ≡ m % 2
+bit-hasBit m = go (is (eqb (m / 2 ^ 0 % 2) 1))
   where
-    go : Is (eqb (m / 2 ^ 0 % 2) 1) → bit (taken m 0) ≡ m % 2
+    go : Is (eqb (m / 2 ^ 0 % 2) 1) → bit (hasBit m 0) ≡ m % 2
     go (is-true e) = rw e (let l = eq-of (m / 2 ^ 0 % 2) 1 e in omega arith)
     go (is-false e) = rw e (let l : m / 2 ^ 0 % 2 ≡ 1 → ⊥ = ne-of (m / 2 ^ 0 % 2) 1 e in omega arith)
 
-pub taken-half : (m b : ℕ) → taken m (suc b) ≡ taken (m / 2) b
-taken-half m b =
+pub hasBit-half : (m b : ℕ) → hasBit m (suc b) ≡ hasBit (m / 2) b
+hasBit-half m b =
     ap (λ (n : ℕ). eqb (n % 2) 1) (ap (λ (k : ℕ). m / 2 ^ k) (sym (one-add b)) ∙ sym (shr-shr m 1 b))
 
 -- a number has as many ones as bits that are set
-pub ones-taken : (n m : ℕ) → m < 2 ^ n → ones m ≡ count n (taken m)
+pub ones-hasBit : (n m : ℕ) → m < 2 ^ n → ones m ≡ count n (hasBit m)
 unfolding sum ones
-ones-taken zero m h = let z : m ≡ 0 = omega arith in rw z none
+ones-hasBit zero m h = let z : m ≡ 0 = omega arith in rw z none
   where
     none : ones 0 ≡ 0
     none = refl
-ones-taken (suc n) m h =
+ones-hasBit (suc n) m h =
     omega (
       arith,
       ones-step m,
-      ones-taken n (m / 2) (omega (arith, pow-suc 2 n)),
-      bit-taken m,
-      sum-first n (λ b. bit (taken m b)),
-      sum-ext n (λ b. bit (taken m (suc b))) (λ b. bit (taken (m / 2) b)) (λ b l. ap bit (taken-half m b)),
+      ones-hasBit n (m / 2) (omega (arith, pow-suc 2 n)),
+      bit-hasBit m,
+      sum-first n (λ b. bit (hasBit m b)),
+      sum-ext n (λ b. bit (hasBit m (suc b))) (λ b. bit (hasBit (m / 2) b)) (λ b l. ap bit (hasBit-half m b)),
     )
 
 -- its first n bits alone
-pub ones-low : (n m : ℕ) → ones (m % 2 ^ n) ≡ count n (taken m)
+pub ones-low : (n m : ℕ) → ones (m % 2 ^ n) ≡ count n (hasBit m)
 unfolding sum ones
 ones-low zero m = let z : m % 2 ^ 0 ≡ 0 = omega arith in rw z none
   where
@@ -67,9 +67,9 @@ ones-low (suc n) m =
       low,
       ap ones half,
       ones-low n (m / 2),
-      bit-taken m,
-      sum-first n (λ b. bit (taken m b)),
-      sum-ext n (λ b. bit (taken m (suc b))) (λ b. bit (taken (m / 2) b)) (λ b l. ap bit (taken-half m b)),
+      bit-hasBit m,
+      sum-first n (λ b. bit (hasBit m b)),
+      sum-ext n (λ b. bit (hasBit m (suc b))) (λ b. bit (hasBit (m / 2) b)) (λ b l. ap bit (hasBit-half m b)),
     )
   where
     half : m % 2 ^ suc n / 2 ≡ m / 2 % 2 ^ n
@@ -80,17 +80,17 @@ ones-low (suc n) m =
 
 -- ---- the mask of a test
 
-pub taken-mask : (n : ℕ) (f : ℕ → Bool) (b : ℕ) → b < n → taken (bridgeMask n f) b ≡ f b
-taken-mask zero f b h = absurd (omega arith)
-taken-mask (suc n) f zero h = go (f 0) (mask-first n f)
+pub hasBit-mask : (n : ℕ) (f : ℕ → Bool) (b : ℕ) → b < n → hasBit (bridgeMask n f) b ≡ f b
+hasBit-mask zero f b h = absurd (omega arith)
+hasBit-mask (suc n) f zero h = go (f 0) (mask-first n f)
   where
-    go : (a : Bool) → bridgeMask (suc n) f ≡ bit a + 2 * bridgeMask n (λ b. f (suc b)) → taken (bridgeMask (suc n) f) 0 ≡ a
+    go : (a : Bool) → bridgeMask (suc n) f ≡ bit a + 2 * bridgeMask n (λ b. f (suc b)) → hasBit (bridgeMask (suc n) f) 0 ≡ a
     go true e = eqb-yes (bridgeMask (suc n) f / 2 ^ 0 % 2) 1 (omega (arith, e))
     go false e = eqb-no (bridgeMask (suc n) f / 2 ^ 0 % 2) 1 (λ q. omega (arith, e))
-taken-mask (suc n) f (suc b) h =
-    taken-half (bridgeMask (suc n) f) b
-    ∙ ap (λ (m : ℕ). taken m b) (half (f 0) (mask-first n f))
-    ∙ taken-mask n (λ a. f (suc a)) b (omega arith)
+hasBit-mask (suc n) f (suc b) h =
+    hasBit-half (bridgeMask (suc n) f) b
+    ∙ ap (λ (m : ℕ). hasBit m b) (half (f 0) (mask-first n f))
+    ∙ hasBit-mask n (λ a. f (suc a)) b (omega arith)
   where
     half : (a : Bool) → bridgeMask (suc n) f ≡ bit a + 2 * bridgeMask n (λ b. f (suc b)) → bridgeMask (suc n) f / 2 ≡ bridgeMask n (λ b. f (suc b))
     half true e = omega (arith, e)
@@ -102,17 +102,17 @@ pub parity : (m : ℕ) → Is (eqb (m % 2) 1) → (m % 2 ≡ 1) ⊎ (m % 2 ≡ 0
 parity m (is-true e) = inl (eq-of (m % 2) 1 e)
 parity m (is-false e) = inr (let ne : m % 2 ≡ 1 → ⊥ = ne-of (m % 2) 1 e in omega arith)
 
-taken-odd : (m : ℕ) → m % 2 ≡ 1 → taken m 0 ≡ true
+taken-odd : (m : ℕ) → m % 2 ≡ 1 → hasBit m 0 ≡ true
 taken-odd m e = eqb-yes (m / 2 ^ 0 % 2) 1 (omega (arith, e))
 
-pub taken-even : (m : ℕ) → m % 2 ≡ 0 → taken m 0 ≡ false
+pub taken-even : (m : ℕ) → m % 2 ≡ 0 → hasBit m 0 ≡ false
 taken-even m e = eqb-no (m / 2 ^ 0 % 2) 1 (λ q. omega (arith, e))
 
 -- of a number of n bits that is not 0: the bit at `trailingZeros` is set, and none below it
 pub record Lowest (n m : ℕ) : Type 0 where
   pub within : trailingZeros n m < n
-  pub set : taken m (trailingZeros n m) ≡ true
-  pub none-below : (b : ℕ) → b < trailingZeros n m → taken m b ≡ false
+  pub set : hasBit m (trailingZeros n m) ≡ true
+  pub none-below : (b : ℕ) → b < trailingZeros n m → hasBit m b ≡ false
 
 pub lowest : (n m : ℕ) → 0 < m → m < 2 ^ n → Lowest n m
 unfolding trailingZeros
@@ -126,21 +126,21 @@ lowest (suc n) m p h = go (λ q. lowest n (m / 2) q (omega (arith, pow-suc 2 n))
         let i = ih (omega (arith, e)) in
         record {
           within = rw e (omega (arith, i .within));
-          set = rw e (taken-half m (trailingZeros n (m / 2)) ∙ i .set);
+          set = rw e (hasBit-half m (trailingZeros n (m / 2)) ∙ i .set);
           none-below = rw e (λ b. below i b);
         }
       where
-        below : Lowest n (m / 2) → (b : ℕ) → b < suc (trailingZeros n (m / 2)) → taken m b ≡ false
+        below : Lowest n (m / 2) → (b : ℕ) → b < suc (trailingZeros n (m / 2)) → hasBit m b ≡ false
         below i zero l = taken-even m e
-        below i (suc b) l = taken-half m b ∙ i .none-below b (omega arith)
+        below i (suc b) l = hasBit-half m b ∙ i .none-below b (omega arith)
 
-pub taken-zero : (b : ℕ) → taken 0 b ≡ false
-taken-zero zero = refl
-taken-zero (suc b) = taken-half 0 b ∙ taken-zero b
+pub hasBit-zero : (b : ℕ) → hasBit 0 b ≡ false
+hasBit-zero zero = refl
+hasBit-zero (suc b) = hasBit-half 0 b ∙ hasBit-zero b
 
 -- Of any number of n bits, 0 included, where `trailingZeros` is n: no bit below it is set, and one is if it is below n.
-pub none-below-lowest : (n m : ℕ) → m < 2 ^ n → (b : ℕ) → b < trailingZeros n m → taken m b ≡ false
-none-below-lowest n zero h b l = taken-zero b
+pub none-below-lowest : (n m : ℕ) → m < 2 ^ n → (b : ℕ) → b < trailingZeros n m → hasBit m b ≡ false
+none-below-lowest n zero h b l = hasBit-zero b
 none-below-lowest n (suc m) h b l = lowest n (suc m) (omega arith) h .none-below b l
 
 pub some-lowest : (n m : ℕ) → trailingZeros n m < n → 0 < m
@@ -148,7 +148,7 @@ some-lowest n zero h = absurd (omega (arith, trailing-of-zero n))
 some-lowest n (suc m) h = omega arith
 
 -- m & (m - 1) has the bits of m but the lowest one
-pub cleared : (n m : ℕ) → 0 < m → m < 2 ^ n → (b : ℕ) → taken (bitAnd m (m - 1)) b ≡ (taken m b && not (eqb b (trailingZeros n m)))
+pub cleared : (n m : ℕ) → 0 < m → m < 2 ^ n → (b : ℕ) → hasBit (bitAnd m (m - 1)) b ≡ (hasBit m b && not (eqb b (trailingZeros n m)))
 unfolding trailingZeros
 cleared zero m p h b = absurd (omega arith)
 cleared (suc n) m p h b = go b (λ q a. cleared n (m / 2) q (omega (arith, pow-suc 2 n)) a) (parity m (is (eqb (m % 2) 1)))
@@ -165,21 +165,21 @@ cleared (suc n) m p h b = go b (λ q a. cleared n (m / 2) q (omega (arith, pow-s
         let low : (m - 1) % 2 ≡ 1 = omega (arith, e) in
         and-step m (m - 1) ∙ (rw (half, low, e) (omega arith))
 
-    go : (b : ℕ) → (0 < m / 2 → (a : ℕ) → taken (bitAnd (m / 2) (m / 2 - 1)) a ≡ (taken (m / 2) a && not (eqb a (trailingZeros n (m / 2)))))
-        → (m % 2 ≡ 1) ⊎ (m % 2 ≡ 0) → taken (bitAnd m (m - 1)) b ≡ (taken m b && not (eqb b (trailingZeros (suc n) m)))
+    go : (b : ℕ) → (0 < m / 2 → (a : ℕ) → hasBit (bitAnd (m / 2) (m / 2 - 1)) a ≡ (hasBit (m / 2) a && not (eqb a (trailingZeros n (m / 2)))))
+        → (m % 2 ≡ 1) ⊎ (m % 2 ≡ 0) → hasBit (bitAnd m (m - 1)) b ≡ (hasBit m b && not (eqb b (trailingZeros (suc n) m)))
     go zero ih (inl e) = rw (odd e, taken-odd m e, e) (taken-even (m - 1) (omega (arith, e)))
     go (suc b) ih (inl e) =
         let half : (m - 1) / 2 ≡ m / 2 = omega (arith, e) in
-        ap (λ (k : ℕ). taken k (suc b)) (odd e)
-        ∙ taken-half (m - 1) b
-        ∙ ap (λ (k : ℕ). taken k b) half
-        ∙ sym (taken-half m b)
-        ∙ (rw (e, eqb·suc-zero b) (sym (and-true (taken m (suc b)))))
+        ap (λ (k : ℕ). hasBit k (suc b)) (odd e)
+        ∙ hasBit-half (m - 1) b
+        ∙ ap (λ (k : ℕ). hasBit k b) half
+        ∙ sym (hasBit-half m b)
+        ∙ (rw (e, eqb·suc-zero b) (sym (and-true (hasBit m (suc b)))))
     go zero ih (inr e) = rw (even e, taken-even m e) (taken-even (bitAnd (m / 2) (m / 2 - 1) * 2) (omega arith))
     go (suc b) ih (inr e) =
         let half : bitAnd (m / 2) (m / 2 - 1) * 2 / 2 ≡ bitAnd (m / 2) (m / 2 - 1) = omega arith in
-        ap (λ (k : ℕ). taken k (suc b)) (even e)
-        ∙ taken-half (bitAnd (m / 2) (m / 2 - 1) * 2) b
-        ∙ ap (λ (k : ℕ). taken k b) half
+        ap (λ (k : ℕ). hasBit k (suc b)) (even e)
+        ∙ hasBit-half (bitAnd (m / 2) (m / 2 - 1) * 2) b
+        ∙ ap (λ (k : ℕ). hasBit k b) half
         ∙ ih (omega (arith, e)) b
-        ∙ (rw (e, eqb·suc-suc b (trailingZeros n (m / 2)), taken-half m b) refl)
+        ∙ (rw (e, eqb·suc-suc b (trailingZeros n (m / 2)), hasBit-half m b) refl)

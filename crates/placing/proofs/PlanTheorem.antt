@@ -2,7 +2,7 @@
 -- and no valid plan gives the first presets by rank more.
 --
 -- In order: when needs fit; the needs of a well-formed table fit (`plan-fits-of-valid`); the stages of the grants; what the planned cells hold
--- and how many a preset has (`planned-valid`, `planned-optional`); best for every number of ranks (`planned-best`); document 01's rule of the
+-- and how many a preset has (`planned-valid`, `planned-optional`), by the rule of each slot (`planned-rule`); best for every number of ranks (`planned-best`); document 01's rule of the
 -- grants (`grants-rule`), which leaves no choice (`grants-only`).
 -- Assumes nothing.
 use Prim.Native.Nat.{ℕ, zero, suc, _+_, _-_, _≤_, _<_}
@@ -10,32 +10,33 @@ use native.Mathlib.Nat.{le-refl, lt-of-not-le}
 use native.Mathlib.Omega.{arith}
 use mathlib.Core.Path.{_≡_, refl, sym, _∙_, ap, subst}
 use mathlib.Core.Logic.{_⊎_, inl, inr, _↔_}
-use mathlib.Core.Bool.{Bool, true, false, not, _&&_, _||_, cond}
+use mathlib.Core.Bool.{Bool, true, false, not, _&&_, _||_, cond, and-true}
 use mathlib.Core.List.{List}
 use lib.ListN.{length, length-map, length-set, List·getD-map}
 use lib.Seq.{ext-getD}
 use lib.Dec.{ltb, eqb}
 use Rattle.laws.specs.Sums.{bit, only, sum, count}
 use Rattle.laws.specs.Lists.{at}
-use Rattle.laws.specs.Placement.{Criterion, capacity, lrtf}
+use Rattle.laws.specs.Placement.{Criterion, everywhere, capacity, lrtf}
 use Rattle.laws.specs.Grants.{granted, raised}
 use Rattle.laws.proofs.Tests.{Is, is-true, is-false, is, clash, not-true, left-of, right-of, false-of-not, true-of-not, or-cases}
 use Rattle.laws.proofs.Comparisons.{lt-of, ge-of, eq-of, eqb-self, ne-of, ltb-no, eqb-yes, eqb-no}
 use Rattle.laws.proofs.Sums.{sum-ext, sum-add, sum-two}
-use Rattle.laws.proofs.Counts.{bit-le, count-none, bit-pos, count-some, count-split, count-or, count-once, count-le-bit}
+use Rattle.laws.proofs.Counts.{bit-le, count-ext, count-none, bit-pos, count-some, count-split, count-or, count-once, count-le-bit}
 use Rattle.laws.proofs.Lists.{length-tabulate, at-tabulate, tabulate-ext}
 use Rattle.laws.proofs.Order.{position-below, position-injective, ascending-total}
 use Rattle.laws.proofs.Placement.{criterion-less, criterion-of-placed, excess-of-criterion, broken-of-excess, criterion-of-excess, left-got, fits-placed}
-use Rattle.laws.proofs.Placement.{placed-fits}
-use Rattle.laws.proofs.Cells.{count-below, count-first, placed-of-cells}
+use Rattle.laws.proofs.Placement.{placed-fits, shown-rule}
+use Rattle.laws.proofs.Cells.{count-below, count-first, cells-within, placed-of-cells}
 use Rattle.laws.proofs.Grants.{at-raised, at-raised-other, Premises, granted-long, granted-fits, granted-later, granted-since, granted-most, granted-low}
 use Rattle.laws.proofs.Grants.{granted-high, granted-best}
 use Rattle.station.specs.Head.{Head, Preset, Valid, busyAt, presetAt, noPreset}
-use Rattle.placing.specs.Table.{Cells, WellFormed, holding, kindOf, numberIn, busyCell, mandatoryCell, optionalCell, callCell, isBusy}
+use Rattle.placing.specs.Table.{Cells, Each, WellFormed, holding, kindOf, numberIn, busyCell, mandatoryCell, optionalCell, callCell, isBusy}
 use Rattle.placing.specs.Table.{isMandatory, isOptional, isCall, presetCount, numberAt, hasPreset, hasJob}
 use Rattle.placing.specs.Valid.{ValidPlan, optionalOf}
 use Rattle.placing.specs.Plan.{rank, mandatories, optionals, planFree, planFreeCount, planFits, PlanFeasible, needWith, needsWith, GrantRule}
-use Rattle.placing.specs.Plan.{needs, grants, planCell, planned}
+use Rattle.placing.specs.Plan.{needs, needsFrom, grants, planCell, planned}
+use Rattle.placing.specs.Claims.{cellsOfPreset, PresetsRule}
 use Rattle.placing.proofs.CountedCells.{cells-none, isBusy-no, numberIn-mandatory, numberIn-optional, hasPreset-of, numberAt-low, numberAt-lt}
 use Rattle.placing.proofs.CountedCells.{index-unique}
 use Rattle.placing.proofs.Placing.{PlacedCell, kept, unused, written, lrtf-within, placing-cases, placing-job}
@@ -128,6 +129,10 @@ module _ (h : Head) (valid : Valid h) (u : Cells) (w : WellFormed h u) where
       (λ i j r z d c. omega (arith, index-unique h valid i j (omega arith) z (sym (own-number i s b (omega arith) d) ∙ own-number j s b z c)))
       (λ i r. own-free i s b l m)
 
+  -- the presets' cells of a slot are at most its free bridges
+  own-slot : (s : ℕ) → s < h .slots → sum (presetCount h) (λ i. count (h .bridges) (λ b. own i s b)) ≤ planFreeCount h s
+  own-slot s l = cells-within (presetCount h) (h .bridges) (λ i b. own i s b) (λ b. planFree h s b) (λ b m. own-single s b l m)
+
   own-count : (i : ℕ) → i < presetCount h → sum (h .slots) (λ s. count (h .bridges) (λ b. own i s b)) ≡ presetAt h i .mandatory + optionalOf h u i
   unfolding own
   own-count i l =
@@ -156,8 +161,8 @@ module _ (h : Head) (valid : Valid h) (u : Cells) (w : WellFormed h u) where
   -- what a table gives its presets obeys the criterion
   pub wellFormed-criterion : Criterion (presetCount h) (λ i. presetAt h i .mandatory + optionalOf h u i) (h .slots) (planFreeCount h)
   wellFormed-criterion =
-      criterion-of-placed (placed-of-cells (presetCount h) (h .slots) (h .bridges) own (planFree h)
-      (λ i. presetAt h i .mandatory + optionalOf h u i) own-row own-single own-count)
+      criterion-of-placed (placed-of-cells everywhere (presetCount h) (h .slots) (h .bridges) own (planFreeCount h)
+      (λ i. presetAt h i .mandatory + optionalOf h u i) own-row own-slot own-count (λ i s l m e. refl))
 
 -- so the mandatory slots are refused only where no valid plan exists
 pub plan-fits-of-valid : {h : Head} {u : Cells} → Valid h → ValidPlan h u → planFits h (mandatories h) ≡ true
@@ -236,7 +241,7 @@ module _ (h : Head) (valid : Valid h) (i : ℕ) (l : i < presetCount h) where
 module _ (h : Head) (valid : Valid h) (start : planFits h (mandatories h) ≡ true) where
   -- every preset has its need
   pub needs-long : length (needs h) ≡ presetCount h
-  unfolding needs
+  unfolding needsFrom
   needs-long = granted-long (premises h start) (optionals h) (presetCount h)
 
   planned-cases : (s b : ℕ) → PlannedCell h s b (planned h s b)
@@ -338,7 +343,7 @@ module _ (h : Head) (valid : Valid h) (start : planFits h (mandatories h) ≡ tr
   module _ (i : ℕ) (l : i < presetCount h) where
     -- it has as many slots as it needs
     planned-slots : count (h .slots) (λ s. had h i s) ≡ at (needs h) i
-    unfolding needs
+    unfolding needsFrom
     planned-slots =
         let fits = eq-of _ 0 (granted-fits (premises h start) (optionals h) (presetCount h)) in
         fits-placed (needs h) (h .slots) (planFreeCount h) fits .exact i (omega (arith, needs-long))
@@ -359,7 +364,7 @@ module _ (h : Head) (valid : Valid h) (start : planFits h (mandatories h) ≡ tr
           bit-pos _ (omega (arith, slot-with s, count-some (h .bridges) (λ a. eqb (planned h s a) v) b m (eqb-yes (planned h s b) v e)))
 
     planned-mandatory : holding h (planned h) (mandatoryCell (numberAt h i)) ≡ presetAt h i .mandatory
-    unfolding needs
+    unfolding needsFrom
     planned-mandatory =
         omega (
           arith,
@@ -405,7 +410,7 @@ module _ (h : Head) (valid : Valid h) (start : planFits h (mandatories h) ≡ tr
 
 -- the table of the plan is a valid plan
 pub planned-valid : {h : Head} → Valid h → planFits h (mandatories h) ≡ true → ValidPlan h (planned h)
-unfolding needs
+unfolding needsFrom
 planned-valid {h} valid start =
     record {
       wellFormed = record {
@@ -441,11 +446,24 @@ pub planned-optional : {h : Head} → Valid h → planFits h (mandatories h) ≡
 planned-optional {h} valid start i l =
     omega (arith, planned-need h valid start i l, at-grants h i l, at-mandatories h i)
 
+-- in a table w with the same cells the presets of each slot are those that the rule chooses, by what the table itself shows
+pub planned-rule : {h : Head} → Valid h → planFits h (mandatories h) ≡ true → (w : Cells) → Each h (λ s b. planned h s b ≡ w s b)
+    → (s : ℕ) → s < h .slots → PresetsRule h (grants h) w s
+planned-rule {h} valid start w equal s l =
+    shown-rule (needs h) (planFreeCount h) s (presetCount h) (λ i. presetAt h i .mandatory + at (grants h) i) (cellsOfPreset h w) (planFreeCount h s)
+    (needs-long h valid start) (λ i k. omega (arith, planned-need h valid start i k, planned-optional valid start i k)) refl
+    (λ i k r m. count-ext (h .bridges) (λ b. eqb (numberIn (w r b)) (numberAt h i)) (λ b. eqb (numberIn (planned h r b)) (numberAt h i))
+    (λ b n. ap (λ (v : ℕ). eqb (numberIn v) (numberAt h i)) (sym (equal r b (omega arith) n)))
+    ∙ planned-count h valid start i r k (λ v. eqb (numberIn v) (numberAt h i)) (λ v e. eq-of (numberIn v) (numberAt h i) e)
+    ∙ ap (λ (c : Bool). bit (had h i r && c))
+    (eqb-yes (numberIn (presetCell h i (early h i r))) (numberAt h i) (presetCell-number h valid i k (early h i r)))
+    ∙ ap bit (and-true (had h i r)))
+
 -- for every r, every other valid plan has at most as many optional cells of the first r presets by rank
 pub planned-best : {h : Head} {u : Cells} → Valid h → planFits h (mandatories h) ≡ true → ValidPlan h u → (r : ℕ)
     → sum (presetCount h) (λ i. only (ltb (rank h i) r) (optionalOf h u i))
     ≤ sum (presetCount h) (λ i. only (ltb (rank h i) r) (optionalOf h (planned h) i))
-unfolding needs
+unfolding needsFrom
 planned-best {h} {u} valid start p r =
     omega (
       arith,
@@ -476,8 +494,8 @@ planned-best {h} {u} valid start p r =
 record TestedRule (h : Head) (gs : List ℕ) : Type 0 where
   long : length gs ≡ presetCount h
   up-to : (i : ℕ) → i < presetCount h → at gs i ≤ presetAt h i .optional
-  fits : (i : ℕ) → i < presetCount h → planFits h (needsWith h gs i (at gs i)) ≡ true
-  most : (i : ℕ) → i < presetCount h → (g : ℕ) → g ≤ presetAt h i .optional → planFits h (needsWith h gs i g) ≡ true → g ≤ at gs i
+  fits : (i : ℕ) → i < presetCount h → planFits h (needsWith h (mandatories h) gs i (at gs i)) ≡ true
+  most : (i : ℕ) → i < presetCount h → (g : ℕ) → g ≤ presetAt h i .optional → planFits h (needsWith h (mandatories h) gs i g) ≡ true → g ≤ at gs i
 
 -- the test says whether a placement exists
 pub feasible-of : (h : Head) (c : List ℕ) → planFits h c ≡ true → PlanFeasible h c
@@ -490,16 +508,16 @@ tested : {h : Head} {gs : List ℕ} → GrantRule h gs → TestedRule h gs
 tested {h} {gs} x = record {
   long = x .long;
   up-to = x .up-to;
-  fits = λ i l. of-feasible h (needsWith h gs i (at gs i)) (x .fits i l);
-  most = λ i l g z e. x .most i l g z (feasible-of h (needsWith h gs i g) e);
+  fits = λ i l. of-feasible h (needsWith h (mandatories h) gs i (at gs i)) (x .fits i l);
+  most = λ i l g z e. x .most i l g z (feasible-of h (needsWith h (mandatories h) gs i g) e);
 }
 
 meant : {h : Head} {gs : List ℕ} → TestedRule h gs → GrantRule h gs
 meant {h} {gs} x = record {
   long = x .long;
   up-to = x .up-to;
-  fits = λ i l. feasible-of h (needsWith h gs i (at gs i)) (x .fits i l);
-  most = λ i l g z w. x .most i l g z (of-feasible h (needsWith h gs i g) w);
+  fits = λ i l. feasible-of h (needsWith h (mandatories h) gs i (at gs i)) (x .fits i l);
+  most = λ i l g z w. x .most i l g z (of-feasible h (needsWith h (mandatories h) gs i g) w);
 }
 
 module _ (h : Head) (start : planFits h (mandatories h) ≡ true) (i : ℕ) (l : i < presetCount h) where
@@ -510,12 +528,12 @@ module _ (h : Head) (start : planFits h (mandatories h) ≡ true) (i : ℕ) (l :
   turn-long : (g : ℕ) → length (turnNeeds g) ≡ presetCount h
   turn-long g = length-set (stage h (rank h i)) i (at (stage h (rank h i)) i + g) ∙ granted-long (premises h start) (optionals h) (rank h i)
 
-  needsWith-is : (g : ℕ) → needsWith h (grants h) i g ≡ turnNeeds g
-  unfolding needs
-  needsWith-is g = ext-getD 0 (needsWith h (grants h) i g) (turnNeeds g) (length-tabulate (presetCount h) need ∙ sym (turn-long g)) each
+  needsWith-is : (g : ℕ) → needsWith h (mandatories h) (grants h) i g ≡ turnNeeds g
+  unfolding needsFrom
+  needsWith-is g = ext-getD 0 (needsWith h (mandatories h) (grants h) i g) (turnNeeds g) (length-tabulate (presetCount h) need ∙ sym (turn-long g)) each
     where
       need : ℕ → ℕ
-      need = needWith h (grants h) i g
+      need = needWith h (mandatories h) (grants h) i g
 
       own : need i ≡ at (turnNeeds g) i
       own =
@@ -548,7 +566,7 @@ module _ (h : Head) (start : planFits h (mandatories h) ≡ true) (i : ℕ) (l :
       go j m (is-true e) = rw (eq-of j i e) own
       go j m (is-false e) = other j m e (is (ltb (rank h j) (rank h i)))
 
-      each : (j : ℕ) → j < length (needsWith h (grants h) i g) → at (needsWith h (grants h) i g) j ≡ at (turnNeeds g) j
+      each : (j : ℕ) → j < length (needsWith h (mandatories h) (grants h) i g) → at (needsWith h (mandatories h) (grants h) i g) j ≡ at (turnNeeds g) j
       each j m =
           let r : j < presetCount h = rw (length-tabulate (presetCount h) need) at m in
           at-tabulate (presetCount h) need j r ∙ go j r (is (eqb j i))
@@ -570,7 +588,7 @@ module _ (h : Head) (start : planFits h (mandatories h) ≡ true) (i : ℕ) (l :
   -- in its turn the preset of line i gets what fits, and all of its optional slots unless one more does not fit
   turn-grant : (planFits h (turnNeeds (at (grants h) i)) ≡ true)
       × ((at (grants h) i ≡ presetAt h i .optional) ⊎ (planFits h (turnNeeds (suc (at (grants h) i))) ≡ false))
-  unfolding needs
+  unfolding needsFrom
   turn-grant =
       let w = granted-most (premises h start) (optionals h) (rank h i) i l refl in
       let settled = granted-since (premises h start) (optionals h) (suc (rank h i)) (presetCount h) i (le-refl (suc (rank h i))) (rank-below h i l) in
@@ -587,7 +605,7 @@ module _ (h : Head) (start : planFits h (mandatories h) ≡ true) (i : ℕ) (l :
       go (inr stop) (is-false d) = ge-of (at (grants h) i) g d
 
 tested-grants : {h : Head} → planFits h (mandatories h) ≡ true → TestedRule h (grants h)
-unfolding needs grants
+unfolding needsFrom grants
 tested-grants {h} start =
     record {
       long = length-tabulate (presetCount h) (λ i. at (needs h) i - at (mandatories h) i);
@@ -601,12 +619,12 @@ turn-le : {h : Head} {a b : List ℕ} → TestedRule h a → TestedRule h b → 
     → ((j : ℕ) → j < presetCount h → rank h j < rank h i → at a j ≡ at b j) → at a i ≤ at b i
 turn-le {h} {a} {b} x y i l agree = y .most i l (at a i) (x .up-to i l) (ap (planFits h) same ∙ x .fits i l)
   where
-    term : (j : ℕ) → j < presetCount h → Is (ltb (rank h j) (rank h i)) → needWith h b i (at a i) j ≡ needWith h a i (at a i) j
+    term : (j : ℕ) → j < presetCount h → Is (ltb (rank h j) (rank h i)) → needWith h (mandatories h) b i (at a i) j ≡ needWith h (mandatories h) a i (at a i) j
     term j m (is-true e) = rw (agree j m (lt-of (rank h j) (rank h i) e))
     term j m (is-false e) = rw e
 
-    same : needsWith h b i (at a i) ≡ needsWith h a i (at a i)
-    same = tabulate-ext (presetCount h) (needWith h b i (at a i)) (needWith h a i (at a i)) (λ j m. term j m (is (ltb (rank h j) (rank h i))))
+    same : needsWith h (mandatories h) b i (at a i) ≡ needsWith h (mandatories h) a i (at a i)
+    same = tabulate-ext (presetCount h) (needWith h (mandatories h) b i (at a i)) (needWith h (mandatories h) a i (at a i)) (λ j m. term j m (is (ltb (rank h j) (rank h i))))
 
 tested-only : {h : Head} {a b : List ℕ} → TestedRule h a → TestedRule h b → a ≡ b
 tested-only {h} {a} {b} x y =

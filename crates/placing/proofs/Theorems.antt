@@ -3,6 +3,8 @@
 
 -- the claims about plan and call
 pub use Rattle.placing.proofs.ClaimsHold.{plan-granted, plan-claim, plan-only-five, nine-counts-all, call-accepted, call-claim}
+-- the room for r
+pub use Rattle.placing.proofs.ByCapacity.{plan-by-capacity, call-by-capacity}
 -- the causes of a running frame and of a call
 pub use Rattle.placing.proofs.WellFormedFrame.{clock-to, clock-is, clock-late}
 pub use Rattle.placing.proofs.Causes.{met, of-running, jobs-inside}
@@ -11,10 +13,10 @@ pub use Rattle.placing.proofs.counts.causes.CallCauses.{call-jobs}
 -- the counts where the clock moves
 pub use Rattle.placing.proofs.counts.LeftByEvent.{counts-passed}
 -- what a call keeps and makes
-pub use Rattle.placing.proofs.CalledTable.{changed-keeps-fixed, changed-kept-fixed, changed-optional, changed-optional-count, changed-call, changed-new-call, changed-job-usable}
-pub use Rattle.placing.proofs.NewJobs.{Good, hasJob-of, length-lengths}
+pub use Rattle.placing.proofs.CalledTable.{change-gone, changed-keeps-fixed, changed-kept-fixed, changed-optional, changed-optional-count, changed-call, changed-new-call}
+pub use Rattle.placing.proofs.NewJobs.{Good, hasJob-of, new-usable}
 -- the grants
-pub use Rattle.placing.proofs.PlanTheorem.{needs-long, grants-rule}
+pub use Rattle.placing.proofs.PlanTheorem.{grants-rule}
 -- cells, and head records
 pub use Rattle.placing.proofs.CountedCells.{cells-pos, cells-ext}
 pub use Rattle.placing.proofs.WrittenTable.{cell-written}

@@ -74,7 +74,7 @@ module _ (h : Head) (clock : ℕ) (jobs : List Job) (t u : Cells) (good : Good h
           ltb-yes 0 (holding h u (callCell n)) (omega (arith, cells, some (one .0) (one .1)))
           ∙ sym (or-right (hasJob h t n) (isOneOf (length jobs) (numberOf jobs) n) e)
       go (is-false e) =
-          ap (λ (k : ℕ). ltb 0 k) (changed-other-calls h clock jobs t u good (valid .changes) n (none e))
+          ap (λ (k : ℕ). ltb 0 k) (changed-other-calls h clock jobs t u (good .high) (valid .changes) n (none e))
           ∙ sym (ap (λ (b : Bool). hasJob h t n || b) e ∙ or-false (hasJob h t n))
         where
           or-false : (a : Bool) → (a || false) ≡ a

@@ -17,12 +17,12 @@ use Rattle.placing.specs.Valid.{usable, jobAt}
 use Rattle.placing.specs.Plan.{rank, placing, freeCount}
 
 -- a cell by its place
-pub record Place : Type 0 where
+pub record CellPlace : Type 0 where
   pub slot : ℕ
   pub bridge : ℕ
 
 -- f (n - 1), .., f 0, joined
-unfoldable pub downward : ℕ → (ℕ → List Place) → List Place
+unfoldable pub downward : ℕ → (ℕ → List CellPlace) → List CellPlace
 downward zero f = []
 downward (suc n) f = f n ++ downward n f
 
@@ -30,43 +30,47 @@ downward (suc n) f = f n ++ downward n f
 abbrev pub rankOf : Head → ℕ → ℕ
 rankOf h n = sum (presetCount h) (λ i. only (eqb (numberAt h i) n) (rank h i))
 
--- "It may use empty cells and refinement cells", in slots from the clock on.
-abbrev pub evictable : ℕ → Cells → ℕ → ℕ → Bool
-evictable clock t s b = usable clock s && isOptional (t s b)
+-- "It may use empty cells and refinement cells, the latter being lost to their preset": which cells a call may evict, by what they hold.
+abbrev pub isEvictable : Head → ℕ → Bool
+isEvictable h v = isOptional v
+
+-- those in slots from the clock on
+abbrev pub evictable : Head → ℕ → Cells → ℕ → ℕ → Bool
+evictable h clock t s b = usable clock s && isEvictable h (t s b)
 
 -- "The order of loss: worst rank first; for one preset the latest slot first." (A preset has one cell in a slot.)
-unfoldable pub evictionOrder : Head → ℕ → Cells → List Place
+unfoldable pub evictionOrder : Head → ℕ → Cells → List CellPlace
 evictionOrder h clock t =
     downward (presetCount h) (λ r. downward (h .slots) (λ s. downward (h .bridges) (λ b.
-    cond (evictable clock t s b && eqb (rankOf h (numberIn (t s b))) r) (record { slot = s; bridge = b } ∷ []) [])))
+    cond (evictable h clock t s b && eqb (rankOf h (numberIn (t s b))) r) (record { slot = s; bridge = b } ∷ []) [])))
 
 -- what stands past the last place, and the rank of the preset whose cell stands at a place
-abbrev pub noPlace : Place
+abbrev pub noPlace : CellPlace
 noPlace = record { slot = 0; bridge = 0 }
 
-abbrev pub rankAt : Head → Cells → Place → ℕ
+abbrev pub rankAt : Head → Cells → CellPlace → ℕ
 rankAt h t z = rankOf h (numberIn (t (z .slot) (z .bridge)))
 
 -- The cell at y goes before the one at z: "worst rank first; for one preset the latest slot first". (Two presets never have one rank.)
-abbrev pub EvictedBefore : Head → Cells → Place → Place → Type 0
+abbrev pub EvictedBefore : Head → Cells → CellPlace → CellPlace → Type 0
 EvictedBefore h t y z = (rankAt h t z < rankAt h t y) ⊎ ((rankAt h t z ≡ rankAt h t y) × (z .slot < y .slot))
 
 -- how often a cell stands in a list of places
-unfoldable pub occurs : List Place → ℕ → ℕ → ℕ
+unfoldable pub occurs : List CellPlace → ℕ → ℕ → ℕ
 occurs [] s b = 0
 occurs (z ∷ zs) s b = bit (eqb (z .slot) s && eqb (z .bridge) b) + occurs zs s b
 
 -- A list of places is the order of loss: of any two, the earlier one goes before the other; and it has each evictable cell once, and no other.
-pub record InEvictionOrder (h : Head) (clock : ℕ) (t : Cells) (zs : List Place) : Type 0 where
+pub record InEvictionOrder (h : Head) (clock : ℕ) (t : Cells) (zs : List CellPlace) : Type 0 where
   pub descends : (i j : ℕ) → i < j → j < length zs → EvictedBefore h t (getD zs i noPlace) (getD zs j noPlace)
-  pub once : Each h (λ s b. occurs zs s b ≡ bit (evictable clock t s b))
-  pub many : length zs ≡ cells h (λ s b. evictable clock t s b)
+  pub once : Each h (λ s b. occurs zs s b ≡ bit (evictable h clock t s b))
+  pub many : length zs ≡ cells h (λ s b. evictable h clock t s b)
 
-abbrev pub slotsOf : List Place → List ℕ
-slotsOf zs = map (λ (z : Place). z .slot) zs
+abbrev pub slotsOf : List CellPlace → List ℕ
+slotsOf zs = map (λ (z : CellPlace). z .slot) zs
 
 -- the set d of the places zs, as a test of cells
-unfoldable pub inSet : List Place → List Bool → ℕ → ℕ → Bool
+unfoldable pub inSet : List CellPlace → List Bool → ℕ → ℕ → Bool
 inSet [] d s b = false
 inSet (z ∷ zs) [] s b = false
 inSet (z ∷ zs) (c ∷ d) s b = (c && eqb (z .slot) s && eqb (z .bridge) b) || inSet zs d s b
@@ -80,24 +84,24 @@ emptyCount h clock t = freeCount (h .bridges) (emptyFree clock t)
 
 -- all the cells that it may use: "It may use empty cells and refinement cells"
 abbrev pub usableCount : Head → ℕ → Cells → ℕ → ℕ
-usableCount h clock t = freeCount (h .bridges) (λ s b. emptyFree clock t s b || evictable clock t s b)
+usableCount h clock t = freeCount (h .bridges) (λ s b. emptyFree clock t s b || evictable h clock t s b)
 
 abbrev pub lengths : List Job → List ℕ
 lengths jobs = map (λ (j : Job). j .slots) jobs
 
--- by how much the jobs exceed the free cells x
-abbrev pub callExcess : Head → List Job → (ℕ → ℕ) → ℕ
-callExcess h jobs x = excess (length (lengths jobs)) (at (lengths jobs)) (h .slots) x
+-- the shortage: by how much the jobs exceed the free cells x
+abbrev pub callShort : Head → List Job → (ℕ → ℕ) → ℕ
+callShort h jobs x = excess (length (lengths jobs)) (at (lengths jobs)) (h .slots) x
 
 -- The evicted set, found by walking the refinement cells in eviction order and taking each one that helps. That it is document 01's, "of the smallest
 -- sets with which the call fits .. the one whose list comes first", is proved.
 unfoldable pub evictedSet : Head → ℕ → List Job → Cells → List Bool
-evictedSet h clock jobs t = searched (callExcess h jobs) (emptyCount h clock t) (slotsOf (evictionOrder h clock t))
+evictedSet h clock jobs t = searched (callShort h jobs) (emptyCount h clock t) (slotsOf (evictionOrder h clock t))
 
 -- whether the call fits with the evicted set
 unfoldable pub callFits : Head → ℕ → List Job → Cells → Bool
 callFits h clock jobs t =
-    eqb (callExcess h jobs (added (emptyCount h clock t) (slotsOf (evictionOrder h clock t)) (evictedSet h clock jobs t))) 0
+    eqb (callShort h jobs (added (emptyCount h clock t) (slotsOf (evictionOrder h clock t)) (evictedSet h clock jobs t))) 0
 
 -- the cells that the jobs may use: empty ones and evicted ones
 abbrev pub callFree : Head → ℕ → List Job → Cells → ℕ → ℕ → Bool

@@ -7,6 +7,7 @@ use mathlib.Core.Option.{Option, none, some}
 use mathlib.Core.List.{List, [], _∷_, _++_}
 use lib.ListN.{length, replicate}
 use lib.Dec.{ltb}
+use Rattle.station.specs.Limits.{mostJobs, leastCells}
 use Rattle.station.specs.Head.{Job}
 use Rattle.station.specs.Refusal.{Refusal, outOfLimits, tooShort, notWellFormed, try}
 use Rattle.station.specs.declared.types.Job as record-of-job
@@ -27,7 +28,7 @@ causeIn Passed = none
 -- The causes of a lent table and a head record alone: "lent table below 512 cells"; "a head record that no text yields", such as one that counts more
 -- presets than there are records.
 abbrev pub causesOf : record-of-head.Head → List types.Preset → List ℕ → List (Option Refusal)
-causesOf head ps t = try tooShort (ltb (length t) 512) ∷ try outOfLimits (not (validRecord head ps)) ∷ []
+causesOf head ps t = try tooShort (ltb (length t) leastCells) ∷ try outOfLimits (not (validRecord head ps)) ∷ []
 
 -- The causes tried of a running frame: those of the table and the head record alone, then "a table that is not sound, or a clock outside 1 to S + 1".
 abbrev pub frameCausesOf : record-of-head.Head → List types.Preset → State → List (Option Refusal)
@@ -35,4 +36,4 @@ frameCausesOf head ps st = causesOf head ps (st .table) ++ (try notWellFormed (n
 
 -- The jobs of a call that says it has n of them: the first n of eight records; past the eighth no job, so that "a ninth job in a call" is met.
 unfoldable pub callJobs : ℕ → List record-of-job.Job → List Job
-callJobs n js = jobsIn n js ++ replicate (n - 8) noJob
+callJobs n js = jobsIn n js ++ replicate (n - mostJobs) noJob

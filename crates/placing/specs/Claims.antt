@@ -1,30 +1,32 @@
 -- What is claimed of plan and call: the meaning of their answers. Document 01, "What demand 3 speaks of". The claims speak of the very functions that the
 -- entries are held to, `planOf` and `callOf`; that they hold for all inputs is proved in proofs/Theorems.antt.
 -- Assumes nothing.
-use Prim.Native.Nat.{ℕ, _≤_, _<_, _*_}
+use Prim.Native.Nat.{ℕ, _+_, _-_, _*_, _≤_, _<_}
 use mathlib.Core.Path.{_≡_}
 use mathlib.Core.Logic.{_↔_}
-use mathlib.Core.Bool.{Bool}
+use mathlib.Core.Bool.{Bool, _||_}
 use mathlib.Core.Option.{Option, none}
 use mathlib.Core.List.{List, _++_}
 use lib.ListN.{length, drop}
-use lib.Dec.{ltb}
-use Rattle.laws.specs.Sums.{sum, only}
+use lib.Dec.{ltb, eqb}
+use Rattle.laws.specs.Sums.{sum, count, only}
 use Rattle.laws.specs.Lists.{at}
-use Rattle.laws.specs.Placement.{Placed}
+use Rattle.laws.specs.Placement.{Placed, SlotRule, everywhere}
 use Rattle.laws.specs.Eviction.{FirstSmallest}
-use Rattle.station.specs.Head.{Head, Job, Valid}
+use Rattle.station.specs.Limits.{worstPriority, leastCells}
+use Rattle.station.specs.Head.{Head, Job, Valid, presetAt}
 use Rattle.station.specs.Refusal.{Refusal, mandatoryNotFeasible, callNotFeasible, firstOf}
-use Rattle.placing.specs.Table.{Cells, cell, cells, Each, presetCount}
+use Rattle.placing.specs.Table.{Cells, cell, cells, Each, presetCount, numberAt, numberIn, callCell}
 use Rattle.placing.specs.State.{State, WellFormedFrame}
-use Rattle.placing.specs.Valid.{ValidPlan, ValidCall, lost, lostUpTo, optionalOf}
-use Rattle.placing.specs.Plan.{rank}
-use Rattle.placing.specs.Call.{evictionOrder, InEvictionOrder, slotsOf, emptyCount, lengths, evictedSet, called}
-use Rattle.placing.specs.Outcomes.{PlanAnswer, planOf, frameCauses, jobCauses, CallAnswer, callOf}
+use Rattle.placing.specs.Valid.{ValidPlan, ValidCall, jobAt, lost, lostUpTo, optionalOf}
+use Rattle.placing.specs.Plan.{rank, planFreeCount}
+use Rattle.placing.specs.Call.{evictionOrder, InEvictionOrder, slotsOf, inSet, emptyFree, emptyCount, lengths, evictedSet, called}
+use Rattle.placing.specs.Capacity.{PlanByCapacity, CallByCapacity, GreatestExcess, longestJobs, emptyCapacity}
+use Rattle.placing.specs.Outcomes.{Cost, PlanAnswer, planOf, frameCauses, jobCauses, CallAnswer, callOf, joining}
 
 -- A running frame that 8, a head record's 2 and 11 let pass: a lent table of 512 cells or more, a head that some text yields, "any sound table and clock".
 pub record Running (h : Head) (st : State) : Type 0 where
-  pub long : 512 ≤ length (st .table)
+  pub long : leastCells ≤ length (st .table)
   pub valid : Valid h
   pub wellFormed : WellFormedFrame h st
 
@@ -37,23 +39,49 @@ pub record SamePast (h : Head) (t u : List ℕ) : Type 0 where
 abbrev pub optionalOfFirst : Head → Cells → ℕ → ℕ
 optionalOfFirst h t r = sum (presetCount h) (λ i. only (ltb (rank h i) r) (optionalOf h t i))
 
+-- how many cells of slot s in the table u of a plan have the number of the preset of line i
+abbrev pub cellsOfPreset : Head → Cells → ℕ → ℕ → ℕ
+cellsOfPreset h u i s = count (h .bridges) (λ b. eqb (numberIn (u s b)) (numberAt h i))
+
+-- "as many presets as there are free bridges, those with the most slots still to get, never one with none left. Equal ones: the earlier line first": slot s of the
+-- table u of a plan with the grants g. A preset has its required slots and its grant still to get, less its cells in the slots before.
+abbrev pub PresetsRule : Head → List ℕ → Cells → ℕ → Type 0
+PresetsRule h g u s =
+    SlotRule (presetCount h) (λ i. presetAt h i .mandatory + at g i - sum s (λ r. cellsOfPreset h u i r)) (planFreeCount h s)
+    (λ i. ltb 0 (cellsOfPreset h u i s))
+
 pub record PlanClaim (h : Head) (t : List ℕ) : Type 0 where
   -- 5 comes exactly when no cause tried before it holds and no valid plan exists
-  pub five : (planOf h t .answer ≡ PlanAnswer.refused mandatoryNotFeasible)
-      ↔ ((512 ≤ length t) × Valid h × ((u : List ℕ) → ValidPlan h (cell h u) → ⊥))
+  pub five : (planOf h t .answer ≡ PlanAnswer.refused 0 mandatoryNotFeasible)
+      ↔ ((leastCells ≤ length t) × Valid h × ((u : List ℕ) → ValidPlan h (cell h u) → ⊥))
   -- a plan is a valid one
   pub valid : (g : List ℕ) → planOf h t .answer ≡ PlanAnswer.granted g → ValidPlan h (cell h (planOf h t .table))
+  -- the presets that have a cell in a slot of it are those that the rule chooses there
+  pub slots : (g : List ℕ) → planOf h t .answer ≡ PlanAnswer.granted g → (s : ℕ) → s < h .slots → PresetsRule h g (cell h (planOf h t .table)) s
   -- "A plan reports as each preset's grant the number of its refinement cells."
   pub reported : (g : List ℕ) → planOf h t .answer ≡ PlanAnswer.granted g
       → (i : ℕ) → i < presetCount h → at g i ≡ optionalOf h (cell h (planOf h t .table)) i
   -- "For every k, every other valid plan of that head has at most as many refinement cells of the first k presets by rank as this plan."
   pub best : (g : List ℕ) → planOf h t .answer ≡ PlanAnswer.granted g
       → (u : List ℕ) → ValidPlan h (cell h u) → (k : ℕ) → optionalOfFirst h (cell h u) k ≤ optionalOfFirst h (cell h (planOf h t .table)) k
+  -- "Needs fit exactly if, for every r, the r largest needs together do not exceed" the room for r: a valid plan of the head exists exactly then
+  pub capacity : Valid h → PlanByCapacity h
   pub past : SamePast h t (planOf h t .table)
 
 -- "the meaning of "fits" is that a valid placement exists": the jobs have a placement in the free cells x
 abbrev pub Fits : Head → List Job → (ℕ → ℕ) → Type 0
-Fits h jobs x = (a : ℕ → ℕ → Bool) × Placed (length (lengths jobs)) (at (lengths jobs)) (h .slots) x a
+Fits h jobs x = (a : ℕ → ℕ → Bool) × Placed everywhere (length (lengths jobs)) (at (lengths jobs)) (h .slots) x a
+
+-- how many cells job i has in slot s of the table u
+abbrev pub cellsOfJob : Head → List Job → Cells → ℕ → ℕ → ℕ
+cellsOfJob h jobs u i s = count (h .bridges) (λ b. eqb (u s b) (callCell (jobAt jobs i .number)))
+
+-- "Jobs are then placed by the rule above over the empty and lost cells, in the call's order": slot s of the table u that a call leaves of t. A job has its length still
+-- to get less its cells in the slots before; of equal jobs the earlier in the call goes first.
+abbrev pub JobsRule : Head → ℕ → List Job → Cells → Cells → ℕ → Type 0
+JobsRule h clock jobs t u s =
+    SlotRule (length jobs) (λ i. jobAt jobs i .slots - sum s (λ r. cellsOfJob h jobs u i r))
+    (count (h .bridges) (λ b. emptyFree clock t s b || lost t u s b)) (λ i. ltb 0 (cellsOfJob h jobs u i s))
 
 -- the causes tried before 7
 abbrev pub beforeSeven : Head → List Job → State → List (Option Refusal)
@@ -61,25 +89,36 @@ beforeSeven h jobs st = frameCauses h st ++ jobCauses h jobs (cell h (st .table)
 
 pub record CallClaim (h : Head) (jobs : List Job) (st : State) : Type 0 where
   -- "Number 7 comes exactly when a call meets no cause tried before 7 and has no valid placement."
-  pub seven : (callOf h jobs st .answer ≡ CallAnswer.refused callNotFeasible)
-      ↔ ((firstOf (beforeSeven h jobs st) ≡ none) × ((u : List ℕ) → ValidCall h (st .clock) jobs (cell h (st .table)) (cell h u) → ⊥))
+  pub seven : (callOf h jobs st .answer ≡ CallAnswer.refused 0 callNotFeasible)
+      ↔ ((firstOf (beforeSeven h jobs st) ≡ none) × ((u : List ℕ) → ValidCall h (st .clock) (joining h st jobs) (cell h (st .table)) (cell h u) → ⊥))
   -- "An accepted call leaves a valid one, that of the rules above":
-  pub valid : (n : ℕ) → callOf h jobs st .answer ≡ CallAnswer.taken n → ValidCall h (st .clock) jobs (cell h (st .table)) (cell h (callOf h jobs st .after .table))
-  pub rule : (n : ℕ) → callOf h jobs st .answer ≡ CallAnswer.taken n
-      → Each h (λ s b. cell h (callOf h jobs st .after .table) s b ≡ called h (st .clock) jobs (cell h (st .table)) s b)
+  pub valid : (n : Cost) → callOf h jobs st .answer ≡ CallAnswer.taken n → ValidCall h (st .clock) (joining h st jobs) (cell h (st .table)) (cell h (callOf h jobs st .after .table))
+  pub rule : (n : Cost) → callOf h jobs st .answer ≡ CallAnswer.taken n
+      → Each h (λ s b. cell h (callOf h jobs st .after .table) s b ≡ called h (st .clock) (joining h st jobs) (cell h (st .table)) s b)
+  -- the jobs that have a cell in a slot of it are those that the rule chooses there
+  pub slots : (n : Cost) → callOf h jobs st .answer ≡ CallAnswer.taken n
+      → (s : ℕ) → s < h .slots → JobsRule h (st .clock) (joining h st jobs) (cell h (st .table)) (cell h (callOf h jobs st .after .table)) s
   -- "The order of loss: worst rank first; for one preset the latest slot first."
-  pub order : (n : ℕ) → callOf h jobs st .answer ≡ CallAnswer.taken n → InEvictionOrder h (st .clock) (cell h (st .table)) (evictionOrder h (st .clock) (cell h (st .table)))
+  pub order : (n : Cost) → callOf h jobs st .answer ≡ CallAnswer.taken n → InEvictionOrder h (st .clock) (cell h (st .table)) (evictionOrder h (st .clock) (cell h (st .table)))
   -- "The lost cells: of the smallest sets with which the call fits, each written as a list in the order of loss, the one whose list comes first."
-  pub evicted : (n : ℕ) → callOf h jobs st .answer ≡ CallAnswer.taken n
-      → FirstSmallest (Fits h jobs) (emptyCount h (st .clock) (cell h (st .table))) (slotsOf (evictionOrder h (st .clock) (cell h (st .table)))) (evictedSet h (st .clock) jobs (cell h (st .table)))
+  pub evicted : (n : Cost) → callOf h jobs st .answer ≡ CallAnswer.taken n
+      → FirstSmallest (Fits h (joining h st jobs)) (emptyCount h (st .clock) (cell h (st .table))) (slotsOf (evictionOrder h (st .clock) (cell h (st .table)))) (evictedSet h (st .clock) (joining h st jobs) (cell h (st .table)))
+  -- and the cells that are lost in the table left are those of this set, and no other
+  pub lost-cells : (n : Cost) → callOf h jobs st .answer ≡ CallAnswer.taken n
+      → Each h (λ s b. lost (cell h (st .table)) (cell h (callOf h jobs st .after .table)) s b
+      ≡ inSet (evictionOrder h (st .clock) (cell h (st .table))) (evictedSet h (st .clock) (joining h st jobs) (cell h (st .table))) s b)
   -- "An accepted call reports the number of lost cells in the table that it leaves."
-  pub reported : (n : ℕ) → callOf h jobs st .answer ≡ CallAnswer.taken n
-      → n ≡ cells h (λ s b. lost (cell h (st .table)) (cell h (callOf h jobs st .after .table)) s b)
+  pub reported : (n : Cost) → callOf h jobs st .answer ≡ CallAnswer.taken n
+      → n .count ≡ cells h (λ s b. lost (cell h (st .table)) (cell h (callOf h jobs st .after .table)) s b)
   -- "For each priority p, every other valid placement has at least as many lost cells of presets with priority p or better as the table left":
-  pub least : (n : ℕ) → callOf h jobs st .answer ≡ CallAnswer.taken n
-      → (u : List ℕ) → ValidCall h (st .clock) jobs (cell h (st .table)) (cell h u)
+  pub least : (n : Cost) → callOf h jobs st .answer ≡ CallAnswer.taken n
+      → (u : List ℕ) → ValidCall h (st .clock) (joining h st jobs) (cell h (st .table)) (cell h u)
       → (p : ℕ) → lostUpTo h (cell h (st .table)) (cell h (callOf h jobs st .after .table)) p ≤ lostUpTo h (cell h (st .table)) (cell h u) p
   -- "p = 9 counts all"
-  pub nine : (n : ℕ) → callOf h jobs st .answer ≡ CallAnswer.taken n
-      → (u : List ℕ) → lostUpTo h (cell h (st .table)) (cell h u) 9 ≡ cells h (λ s b. lost (cell h (st .table)) (cell h u) s b)
+  pub nine : (n : Cost) → callOf h jobs st .answer ≡ CallAnswer.taken n
+      → (u : List ℕ) → lostUpTo h (cell h (st .table)) (cell h u) worstPriority ≡ cells h (λ s b. lost (cell h (st .table)) (cell h u) s b)
+  -- a valid placement of a call that meets no cause tried before 7 exists exactly if, for every r, its r longest jobs do not exceed the room for r; every one loses at least the excess over the
+  -- empty cells; and what is lost is the greatest excess
+  pub capacity : firstOf (beforeSeven h jobs st) ≡ none → CallByCapacity h (st .clock) jobs (cell h (st .table))
+  pub excess : (n : Cost) → callOf h jobs st .answer ≡ CallAnswer.taken n → GreatestExcess (longestJobs jobs) (emptyCapacity h (st .clock) (cell h (st .table))) (n .count)
   pub past : SamePast h (st .table) (callOf h jobs st .after .table)

@@ -8,7 +8,7 @@ use lib.ListN.{length}
 use lib.Dec.{ltb, eqb}
 use Rattle.laws.specs.Sums.{only, count, position, ascending}
 use Rattle.laws.specs.Lists.{at, tabulate}
-use Rattle.laws.specs.Placement.{Placed, left, lrtf, excess}
+use Rattle.laws.specs.Placement.{Placed, everywhere, left, lrtf, excess}
 use Rattle.laws.specs.Cells.{slotCell}
 use Rattle.laws.specs.Grants.{granted}
 use Rattle.station.specs.Head.{Head, Preset, busyAt, presetAt}
@@ -47,26 +47,30 @@ planFits h c = eqb (excess (length c) (at c) (h .slots) (planFreeCount h)) 0
 
 -- the meaning of that: a placement of the needs c exists
 abbrev pub PlanFeasible : Head → List ℕ → Type 0
-PlanFeasible h c = (a : ℕ → ℕ → Bool) × Placed (length c) (at c) (h .slots) (planFreeCount h) a
+PlanFeasible h c = (a : ℕ → ℕ → Bool) × Placed everywhere (length c) (at c) (h .slots) (planFreeCount h) a
 
--- what line j needs where line i gets g: its mandatory slots, its grant if it comes before line i in rank, and g if it is line i
-abbrev pub needWith : Head → List ℕ → ℕ → ℕ → ℕ → ℕ
-needWith h gs i g j = at (mandatories h) j + only (ltb (rank h j) (rank h i)) (at gs j) + only (eqb j i) g
+-- What line j needs where line i gets g: what it starts from, its grant if it comes before line i in rank, and g if it is line i. A plan starts from the mandatory slots.
+abbrev pub needWith : Head → List ℕ → List ℕ → ℕ → ℕ → ℕ → ℕ
+needWith h start gs i g j = at start j + only (ltb (rank h j) (rank h i)) (at gs j) + only (eqb j i) g
 
 -- "all required slots and the grants before it", and g
-abbrev pub needsWith : Head → List ℕ → ℕ → ℕ → List ℕ
-needsWith h gs i g = tabulate (presetCount h) (needWith h gs i g)
+abbrev pub needsWith : Head → List ℕ → List ℕ → ℕ → ℕ → List ℕ
+needsWith h start gs i g = tabulate (presetCount h) (needWith h start gs i g)
 
 -- "Grants: in rank order each preset gets as much refinement, up to o, as still lets all required slots and the grants before it fit."
 pub record GrantRule (h : Head) (gs : List ℕ) : Type 0 where
   pub long : length gs ≡ presetCount h
   pub up-to : (i : ℕ) → i < presetCount h → at gs i ≤ presetAt h i .optional
-  pub fits : (i : ℕ) → i < presetCount h → PlanFeasible h (needsWith h gs i (at gs i))
-  pub most : (i : ℕ) → i < presetCount h → (g : ℕ) → g ≤ presetAt h i .optional → PlanFeasible h (needsWith h gs i g) → g ≤ at gs i
+  pub fits : (i : ℕ) → i < presetCount h → PlanFeasible h (needsWith h (mandatories h) gs i (at gs i))
+  pub most : (i : ℕ) → i < presetCount h → (g : ℕ) → g ≤ presetAt h i .optional → PlanFeasible h (needsWith h (mandatories h) gs i g) → g ≤ at gs i
 
--- what each preset gets in all, in file order: its mandatory slots and its grant
-unfoldable pub needs : Head → List ℕ
-needs h = granted (planFits h) (rank h) (optionals h) (mandatories h) (presetCount h)
+-- what each preset gets in all, in file order: what it starts from, and its grant
+unfoldable pub needsFrom : Head → List ℕ → List ℕ
+needsFrom h start = granted (planFits h) (rank h) (optionals h) start (presetCount h)
+
+-- in a plan: its mandatory slots and its grant
+abbrev pub needs : Head → List ℕ
+needs h = needsFrom h (mandatories h)
 
 -- the grants, found so; that they obey the rule above is proved
 unfoldable pub grants : Head → List ℕ

@@ -8,14 +8,19 @@ use mathlib.Core.List.{List}
 use lib.ListN.{length, getD}
 use lib.Dec.{ltb, leb, eqb}
 use Rattle.laws.specs.Sums.{sum, count, every}
+use Rattle.station.specs.Limits.{mostFrameJobs}
 use Rattle.station.specs.Head.{Head, busyAt, presetAt}
+
+-- the cells of a lent list, one after the other
+abbrev pub cellAt : List ℕ → ℕ → ℕ
+cellAt t i = getD t i 0
 
 -- A table as a function of slot and bridge, and the cells of a lent list: "slot by slot and in each slot bridge by bridge".
 abbrev pub Cells : Type 0
 Cells = ℕ → ℕ → ℕ
 
 abbrev pub cell : Head → List ℕ → Cells
-cell h t s b = getD t (s * h .bridges + b) 0
+cell h t s b = cellAt t (s * h .bridges + b)
 
 -- "A cell is kind × 256 + number. Kinds: 0 empty, 1 busy (both with number 0), 2 required, 3 refinement, 4 call."
 abbrev pub kindOf : ℕ → ℕ
@@ -101,7 +106,7 @@ pub record WellFormed (h : Head) (t : Cells) : Type 0 where
   pub first : (i : ℕ) → i < presetCount h → (r s a b : ℕ) → r < h .slots → s < h .slots → a < h .bridges → b < h .bridges
       → t r a ≡ mandatoryCell (numberAt h i) → t s b ≡ optionalCell (numberAt h i) → r < s
   pub most : (i : ℕ) → i < presetCount h → holding h t (optionalCell (numberAt h i)) ≤ presetAt h i .optional
-  pub jobs : jobCount h t ≤ 64
+  pub jobs : jobCount h t ≤ mostFrameJobs
   pub apart : (n : ℕ) → n < 256 → hasJob h t n ≡ true → hasPreset h n ≡ false
 
 -- The same as a test, clause by clause. `first` is tested by counts: before a refinement cell of a preset stand all of its m required ones.
@@ -126,5 +131,5 @@ wellFormed h t =
     && every (presetCount h) (λ i. eachCell h (λ s b. not (eqb (t s b) (optionalCell (numberAt h i)))
     || eqb (mandatoryBelow h t (numberAt h i) s) (presetAt h i .mandatory)))
     && every (presetCount h) (λ i. leb (holding h t (optionalCell (numberAt h i))) (presetAt h i .optional))
-    && leb (jobCount h t) 64
+    && leb (jobCount h t) mostFrameJobs
     && every 256 (λ n. not (hasJob h t n) || not (hasPreset h n))

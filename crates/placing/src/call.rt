@@ -1,6 +1,7 @@
 // A call on a running frame: the causes, by the counts of the table and the clock, then the eviction search, then the jobs into the table. The entry `call` has its presets in
 // a borrowed slice of records, `call_by_value` by value; `call_by_counts` is for who keeps the counts between calls.
 use crate::cells::CALL;
+use crate::cells::Cell;
 use crate::check::Cause;
 use crate::check::frame_cause;
 use crate::counts::causes::cause_by_counts;
@@ -8,8 +9,13 @@ use crate::counts::counts_of;
 use crate::counts::mark_jobs;
 use crate::counts::needs::job_needs;
 use crate::counts::usable::capacities_at;
+use crate::limits::CAPACITY_COUNT;
+use crate::limits::MOST_PLACED;
 use crate::rule::place;
 use crate::search::evict;
+use station::limits::LEAST_RECORDS;
+use station::limits::MOST_JOBS;
+use station::limits::MOST_PRESETS;
 use station::records::load;
 use station::records::record_count;
 use station::types::Head;
@@ -20,6 +26,7 @@ ghost use mathlib.Core.Path.{_≡_};
 ghost use mathlib.Core.Bool.{true, false};
 ghost use Prim.Native.Nat.{ℕ, _<_, _≤_};
 ghost use lib.ListN.{length, getD};
+ghost use Rattle.station.specs.Limits.{mostJobs, leastCells};
 ghost use Rattle.station.specs.Types.{headIn, validRecord};
 ghost use Rattle.placing.specs.Table.{cell, callCell};
 ghost use Rattle.placing.specs.Valid.{jobAt};
@@ -29,22 +36,23 @@ ghost use Rattle.placing.specs.Claims.{Running, CallClaim};
 ghost use Rattle.placing.specs.State.{stateOf};
 ghost use Rattle.placing.specs.Causes.{callJobs};
 ghost use Rattle.placing.specs.method.Counts.{CountsOf};
-ghost use Rattle.placing.specs.CallDone.{CarriedOut, CallDone};
-ghost use Rattle.placing.specs.Entries.{CallEntered};
+ghost use Rattle.placing.specs.CallDone.{CallDone};
+ghost use Rattle.placing.specs.Entries.{CallEntered, CallEntry};
+ghost use Rattle.placing.specs.method.CallParts.{CallCarriedOut};
 
 // The answer: the number of optional cells that the call evicts, or the cause.
 pub enum CallAnswer {
     Taken(usize),
-    Refused(Refusal),
+    Refused(usize, Refusal),
 }
 
 // The call cell with the number of each of the eight job records; 0 past them. Of jobs within their limits the numbers are the jobs' own.
-fn job_cells(jobs: [Job; 8]) -> [u16; 32]
-    ensures { λ r. ⌜ ((n : ℕ) → n ≤ 8 → jobsOutside (jobsIn n jobs) ≡ false → (i : ℕ) → i < n → getD r i 0 ≡ callCell (jobAt (jobsIn n jobs) i .number)) ⌝ }
+fn job_cells(jobs: [Job; MOST_JOBS]) -> [Cell; MOST_PLACED]
+    ensures { λ r. ⌜ ((n : ℕ) → n ≤ mostJobs → jobsOutside (jobsIn n jobs) ≡ false → (i : ℕ) → i < n → getD r i 0 ≡ callCell (jobAt (jobsIn n jobs) i .number)) ⌝ }
 {
-    let mut all = [0u16; 32];
+    let mut all = [0u16; MOST_PLACED];
     let mut i = 0;
-    while i < 8 {
+    while i < MOST_JOBS {
         let job = jobs[i];
         all[i] = CALL + job.number % 256;
         i += 1;
@@ -65,25 +73,25 @@ fn past_evicted(count: usize, slots: usize) -> usize
 // Carries out a call that meets no cause but perhaps the last: 7 where it does not fit, and else the table is written.
 fn carry_out(
     head: Head,
-    presets: [Preset; 32],
-    table: &mut [u16],
+    presets: [Preset; MOST_PRESETS],
+    table: &mut [Cell],
     clock: usize,
-    jobs: [Job; 8],
+    jobs: [Job; MOST_JOBS],
     n: usize,
 ) -> CallAnswer
-    ensures { λ r. ⌜ (validRecord head presets ≡ true → 512 ≤ length (now (table .entry)) → n ≤ 8 → jobsOutside (jobsIn n jobs) ≡ false
-        → CarriedOut (headIn head presets) (jobsIn n jobs) (stateOf (now (table .entry)) clock) (now (table .exit)) r) ⌝ }
+    ensures { λ r. ⌜ (validRecord head presets ≡ true → leastCells ≤ length (now (table .entry)) → n ≤ mostJobs → jobsOutside (jobsIn n jobs) ≡ false
+        → CallCarriedOut (headIn head presets) (jobsIn n jobs) (stateOf (now (table .entry)) clock) (now (table .exit)) r) ⌝ }
 {
     let slots = head.slots;
     let bridges = head.bridges;
     let needs = job_needs(jobs);
     let found = evict(table, head, presets, clock, needs, n);
     if !found.fits {
-        return CallAnswer::Refused(Refusal::CallNotFeasible);
+        return CallAnswer::Refused(0, Refusal::CallNotFeasible);
     }
     let count = found.count;
     let free = found.free;
-    let never = [0u8; 32];
+    let never = [0u8; MOST_PLACED];
     let cells = job_cells(jobs);
     let clean = past_evicted(count, slots);
     place(
@@ -106,49 +114,50 @@ fn carry_out(
 // counted for each. They are lent in their parts: the numbers that are used, how many of them the call cells have, and the capacities.
 pub fn call_by_counts(
     head: Head,
-    presets: [Preset; 32],
-    table: &mut [u16],
+    presets: [Preset; MOST_PRESETS],
+    table: &mut [Cell],
     clock: usize,
-    jobs: [Job; 8],
+    jobs: [Job; MOST_JOBS],
     n: usize,
     used: &mut [u8; 256],
-    held: &mut usize,
-    capacities: &mut [usize; 9],
+    admitted: &mut usize,
+    capacities: &mut [usize; CAPACITY_COUNT],
 ) -> CallAnswer
     ensures { λ r. ⌜ (validRecord head presets ≡ true → Running (headIn head presets) (stateOf (now (table .entry)) clock)
-        → CountsOf (headIn head presets) clock (cell (headIn head presets) (now (table .entry))) (now (used .entry)) (now (held .entry)) (now (capacities .entry))
+        → CountsOf (headIn head presets) clock (cell (headIn head presets) (now (table .entry))) (now (used .entry)) (now (admitted .entry)) (now (capacities .entry))
         → CallDone head presets (callJobs n jobs) (stateOf (now (table .entry)) clock) (now (table .exit)) r
-        × CountsOf (headIn head presets) clock (cell (headIn head presets) (now (table .exit))) (now (used .exit)) (now (held .exit)) (now (capacities .exit))) ⌝ }
+        × CountsOf (headIn head presets) clock (cell (headIn head presets) (now (table .exit))) (now (used .exit)) (now (admitted .exit)) (now (capacities .exit))) ⌝ }
 {
-    if let Cause::Met(r) = cause_by_counts(used, *held, capacities, jobs, n) {
-        return CallAnswer::Refused(r);
+    if let Cause::Met(r) = cause_by_counts(used, *admitted, capacities, jobs, n) {
+        return CallAnswer::Refused(0, r);
     }
     let answer = carry_out(head, presets, table, clock, jobs, n);
     mark_jobs(used, jobs, n);
-    *held = *held + n;
+    *admitted = *admitted + n;
     *capacities = capacities_at(head.slots, head.bridges, table, clock);
     answer
 }
 
 // Takes a call of the first n jobs on the frame whose clock is at `clock`: the causes 8, 2, 11, then 2, 4, 9 of its jobs, then 7 where it does not fit. A refusal
-// changes nothing.
+// changes nothing. A frame that 11 lets pass is such a frame afterwards.
 pub fn call_by_value(
     head: Head,
-    presets: [Preset; 32],
-    table: &mut [u16],
+    presets: [Preset; MOST_PRESETS],
+    table: &mut [Cell],
     clock: usize,
-    jobs: [Job; 8],
+    jobs: [Job; MOST_JOBS],
     n: usize,
 ) -> CallAnswer
     ensures done { λ r. ⌜ CallDone head presets (callJobs n jobs) (stateOf (now (table .entry)) clock) (now (table .exit)) r ⌝ }
+    ensures kept { λ _. ⌜ (Running (headIn head presets) (stateOf (now (table .entry)) clock) → Running (headIn head presets) (stateOf (now (table .exit)) clock)) ⌝ }
     ensures claim { λ _. ⌜ CallClaim (headIn head presets) (callJobs n jobs) (stateOf (now (table .entry)) clock) ⌝ }
 {
     if let Cause::Met(r) = frame_cause(head, presets, table, clock) {
-        return CallAnswer::Refused(r);
+        return CallAnswer::Refused(0, r);
     }
     let counts = counts_of(head, presets, table, clock);
     let mut used = counts.used;
-    let mut held = counts.jobs;
+    let mut admitted = counts.jobs;
     let mut capacities = counts.capacities;
     call_by_counts(
         head,
@@ -158,43 +167,43 @@ pub fn call_by_value(
         jobs,
         n,
         &mut used,
-        &mut held,
+        &mut admitted,
         &mut capacities,
     )
 }
 
-// Takes a call over the first 32 of so many records, which are in the bank: 8 where there are fewer.
+// Takes a call over the first 32 of so many records, which are in the copied: 8 where there are fewer.
 fn call_counted(
     records: usize,
     head: Head,
-    bank: [Preset; 32],
-    table: &mut [u16],
+    copied: [Preset; MOST_PRESETS],
+    table: &mut [Cell],
     clock: usize,
-    jobs: [Job; 8],
+    jobs: [Job; MOST_JOBS],
     n: usize,
 ) -> CallAnswer
-    ensures { λ r. ⌜ CallEntered records head bank (callJobs n jobs) (stateOf (now (table .entry)) clock) (now (table .exit)) r ⌝ }
+    ensures { λ r. ⌜ CallEntered records head copied (callJobs n jobs) (stateOf (now (table .entry)) clock) (now (table .exit)) r ⌝ }
 {
-    if records < 32 {
-        return CallAnswer::Refused(Refusal::TooShort);
+    if records < LEAST_RECORDS {
+        return CallAnswer::Refused(0, Refusal::TooShort);
     }
-    call_by_value(head, bank, table, clock, jobs, n)
+    call_by_value(head, copied, table, clock, jobs, n)
 }
 
 // Takes a call of the first n jobs on the frame whose clock is at `clock`, the presets being the list's first records: the causes 8 (a table below 512 cells or
-// a list below 32 records), 2, 11, then 2, 4, 9 of its jobs, then 7 where it does not fit. A refusal changes nothing.
+// a list below 32 records), 2, 11, then 2, 4, 9 of its jobs, then 7 where it does not fit. A refusal changes nothing. A frame that 11 lets pass is such a frame
+// afterwards.
 pub fn call(
     head: Head,
     presets: &[Preset],
-    table: &mut [u16],
+    table: &mut [Cell],
     clock: usize,
-    jobs: [Job; 8],
+    jobs: [Job; MOST_JOBS],
     n: usize,
 ) -> CallAnswer
-    ensures done { λ r. ⌜ CallEntered (length (now (presets .entry))) head (now (presets .entry)) (callJobs n jobs) (stateOf (now (table .entry)) clock) (now (table .exit)) r ⌝ }
-    ensures claim { λ _. ⌜ CallClaim (headIn head (now (presets .entry))) (callJobs n jobs) (stateOf (now (table .entry)) clock) ⌝ }
+    ensures { λ r. ⌜ CallEntry head (now (presets .entry)) (callJobs n jobs) (stateOf (now (table .entry)) clock) (now (table .exit)) r ⌝ }
 {
     let records = record_count(presets);
-    let bank = load(presets);
-    call_counted(records, head, bank, table, clock, jobs, n)
+    let copied = load(presets);
+    call_counted(records, head, copied, table, clock, jobs, n)
 }

@@ -1,5 +1,8 @@
 // The capacities for 0 to 8, from slots counted by their free cells. Plan, search and counts have theirs from here.
+use crate::limits::CAPACITY_COUNT;
 use crate::numbers::ones_in;
+use station::limits::MOST_BRIDGES;
+use station::limits::MOST_SLOTS;
 ghost use Prim.Native.Nat.{ℕ, _+_, _-_, _<_, _≤_};
 ghost use mathlib.Core.Path.{_≡_};
 ghost use lib.ListN.{length, getD, replicate};
@@ -9,13 +12,19 @@ ghost use Rattle.laws.specs.Sums.{only};
 ghost use Rattle.laws.specs.Lists.{at};
 ghost use Rattle.laws.specs.Placement.{capacity};
 ghost use Rattle.laws.specs.method.Capacities.{ByFree};
+ghost use Rattle.station.specs.Limits.{mostSlots};
+ghost use Rattle.placing.specs.method.Limits.{capacityCount};
 
 // How many bridges the masks of the first slots have, and 0 past them; `with` gets for 0 to 8 the number of slots that have as many.
-pub(crate) fn slot_counts(masks: &[u8; 64], slots: usize, with: &mut [usize; 9]) -> [usize; 64]
-    requires { ⌜ (slots ≤ 64) × (now with ≡ replicate 9 0) ⌝ }
+pub(crate) fn slot_counts(
+    masks: &[u8; MOST_SLOTS],
+    slots: usize,
+    with: &mut [usize; CAPACITY_COUNT],
+) -> [usize; MOST_SLOTS]
+    requires { ⌜ (slots ≤ mostSlots) × (now with ≡ replicate capacityCount 0) ⌝ }
     ensures { λ r. ⌜ ((s : ℕ) → getD r s 0 ≡ only (ltb s slots) (ones (getD (now (masks .entry)) s 0))) × ByFree (now (with .exit)) slots (at r) ⌝ }
 {
-    let mut out = [0usize; 64];
+    let mut out = [0usize; MOST_SLOTS];
     let mut s = 0;
     while s < slots {
         let free = ones_in(masks[s]);
@@ -28,16 +37,16 @@ pub(crate) fn slot_counts(masks: &[u8; 64], slots: usize, with: &mut [usize; 9])
 
 // The capacities for 0 to 8 of so many slots, 64 at most, of which `with` has how many have each number of free cells. One job more can use one cell more of each slot
 // that has as many: those are the ones that are left once the slots with fewer are taken off.
-pub(crate) fn capacities_of(with: &[usize; 9], slots: usize) -> [usize; 9]
-    ensures { λ v. ⌜ (length v ≡ 9) × (slots ≤ 64 → (x : ℕ → ℕ) → ByFree (now (with .entry)) slots x → (r : ℕ) → r < 9 → getD v r 0 ≡ capacity slots x r) ⌝ }
+pub(crate) fn capacities_of(with: &[usize; CAPACITY_COUNT], slots: usize) -> [usize; CAPACITY_COUNT]
+    ensures { λ v. ⌜ (length v ≡ capacityCount) × (slots ≤ mostSlots → (x : ℕ → ℕ) → ByFree (now (with .entry)) slots x → (r : ℕ) → r < capacityCount → getD v r 0 ≡ capacity slots x r) ⌝ }
 {
-    let mut out = [0usize; 9];
-    if 64 < slots {
+    let mut out = [0usize; CAPACITY_COUNT];
+    if MOST_SLOTS < slots {
         return out;
     }
     let mut left = slots;
     let mut r = 0;
-    while r < 8 {
+    while r < MOST_BRIDGES {
         if left < with[r] {
             return out;
         }

@@ -2,41 +2,52 @@
 ghost use Prim.Native.Nat.{_<_};
 ghost use mathlib.Core.Path.{_≡_};
 ghost use Rattle.placing.specs.Table.{kindOf, numberIn, isOptional, isCall};
+ghost use Rattle.placing.specs.method.Counts.{evictableCell};
+
+// A cell of the table: its kind times 256, and the number of the preset or job that has it.
+pub type Cell = u16;
 
 // The busy cell, the first cell of each kind that has numbers, and the first value past the last kind.
-pub const BUSY: u16 = 256;
+pub const BUSY: Cell = 256;
 
-pub const MANDATORY: u16 = 512;
+pub const MANDATORY: Cell = 512;
 
-pub const OPTIONAL: u16 = 768;
+pub const OPTIONAL: Cell = 768;
 
-pub const CALL: u16 = 1024;
+pub const CALL: Cell = 1024;
 
-pub const VALUES: u16 = 1280;
+pub const VALUES: Cell = 1280;
 
 // The kind of a cell.
-pub fn kind_of(v: u16) -> u16
+pub fn kind_of(v: Cell) -> u16
     ensures { λ r. ⌜ r ≡ kindOf v ⌝ }
 {
     v / 256
 }
 
 // The number of a cell, as an index.
-pub fn number_in(v: u16) -> usize
+pub fn number_in(v: Cell) -> usize
     ensures { λ r. ⌜ (r ≡ numberIn v) × (r < 256) ⌝ }
 {
     (v % 256) as usize
 }
 
 // Whether a cell is an optional one.
-pub fn is_optional(v: u16) -> bool
+pub fn is_optional(v: Cell) -> bool
     ensures { λ r. ⌜ r ≡ isOptional v ⌝ }
 {
     kind_of(v) == OPTIONAL / 256
 }
 
+// Whether a call may evict a cell.
+pub(crate) fn is_evictable(v: Cell) -> bool
+    ensures { λ r. ⌜ r ≡ evictableCell v ⌝ }
+{
+    is_optional(v)
+}
+
 // Whether a cell is a call's.
-pub fn is_call(v: u16) -> bool
+pub fn is_call(v: Cell) -> bool
     ensures { λ r. ⌜ r ≡ isCall v ⌝ }
 {
     kind_of(v) == CALL / 256

@@ -1,8 +1,11 @@
 // The causes of a running frame, as they are tried one after the other.
 mod table; // table.rt: whether the table is well-formed
 
+use crate::cells::Cell;
 use crate::check::table::well_formed;
 use station::check::valid_record;
+use station::limits::LEAST_CELLS;
+use station::limits::MOST_PRESETS;
 use station::types::Head;
 use station::types::Preset;
 use station::types::Refusal;
@@ -10,14 +13,12 @@ ghost use Prim.Native.Nat.{_≤_};
 ghost use mathlib.Core.Path.{_≡_};
 ghost use mathlib.Core.Bool.{true};
 ghost use lib.ListN.{length};
+ghost use Rattle.station.specs.Limits.{leastCells};
 ghost use Rattle.station.specs.Refusal.{firstOf};
 ghost use Rattle.station.specs.Types.{headIn, validRecord};
 ghost use Rattle.placing.specs.Valid.{clockIn};
 ghost use Rattle.placing.specs.State.{stateOf, wellFormedFrame};
 ghost use Rattle.placing.specs.Causes.{causeIn, frameCausesOf};
-
-// How many cells a lent table has at the least.
-const CELLS: usize = 512;
 
 // The first clock.
 pub const FIRST_CLOCK: usize = 1;
@@ -42,8 +43,13 @@ pub fn clock_in(slots: usize, clock: usize) -> bool
 }
 
 // Whether the frame is one that 11 lets pass: a well-formed table, and a clock of the frame.
-fn well_formed_frame(head: Head, presets: [Preset; 32], table: &[u16], clock: usize) -> bool
-    requires { ⌜ (validRecord head presets ≡ true) × (512 ≤ length (now table)) ⌝ }
+fn well_formed_frame(
+    head: Head,
+    presets: [Preset; MOST_PRESETS],
+    table: &[Cell],
+    clock: usize,
+) -> bool
+    requires { ⌜ (validRecord head presets ≡ true) × (leastCells ≤ length (now table)) ⌝ }
     ensures { λ r. ⌜ r ≡ wellFormedFrame (headIn head presets) (stateOf (now (table .entry)) clock) ⌝ }
 {
     let slots = head.slots;
@@ -55,10 +61,15 @@ fn well_formed_frame(head: Head, presets: [Preset; 32], table: &[u16], clock: us
 
 // The causes of a running frame: 8 for a table below 512 cells, 2 for a head record that no text yields, 11 for a table that is not well-formed or a clock
 // outside 1 to S + 1.
-pub fn frame_cause(head: Head, presets: [Preset; 32], table: &[u16], clock: usize) -> Cause
+pub fn frame_cause(
+    head: Head,
+    presets: [Preset; MOST_PRESETS],
+    table: &[Cell],
+    clock: usize,
+) -> Cause
     ensures { λ r. ⌜ causeIn r ≡ firstOf (frameCausesOf head presets (stateOf (now (table .entry)) clock)) ⌝ }
 {
-    if table.len() < CELLS {
+    if table.len() < LEAST_CELLS {
         return Cause::Met(Refusal::TooShort);
     }
     if !valid_record(head, presets) {

@@ -3,10 +3,15 @@ pub(crate) mod needs; // needs.rt: the lengths of a call's jobs
 pub mod usable; // usable.rt: the capacities of the cells that a call may use
 pub(crate) mod causes; // causes.rt: the first cause that a call meets, by the counts
 
+use crate::cells::Cell;
 use crate::cells::is_call;
 use crate::cells::number_in;
 use crate::counts::usable::capacities_at;
+use crate::limits::CAPACITY_COUNT;
 use crate::limits::in_limits;
+use station::limits::MOST_BRIDGES;
+use station::limits::MOST_JOBS;
+use station::limits::MOST_PRESETS;
 use station::types::Head;
 use station::types::Job;
 use station::types::Preset;
@@ -16,6 +21,7 @@ ghost use mathlib.Core.Bool.{true, _||_};
 ghost use lib.ListN.{length, getD, replicate};
 ghost use lib.Dec.{ltb};
 ghost use Rattle.laws.specs.Sums.{bit, count};
+ghost use Rattle.station.specs.Limits.{mostSlots, mostBridges, mostPresets, mostJobs, leastCells};
 ghost use Rattle.station.specs.Types.{headIn, validRecord};
 ghost use Rattle.placing.specs.Table.{cell, isCall, hasPreset};
 ghost use Rattle.placing.specs.method.Jobs.{marked, jobNumber};
@@ -26,11 +32,11 @@ ghost use Rattle.placing.specs.method.Counts.{Marks, Marked, MarkedBesid
 pub struct Counts {
     pub used: [u8; 256],
     pub jobs: usize,
-    pub capacities: [usize; 9],
+    pub capacities: [usize; CAPACITY_COUNT],
 }
 
 // Marks the number of a call cell; 1 where it was not marked before, else 0.
-fn mark(used: &mut [u8; 256], v: u16) -> usize
+fn mark(used: &mut [u8; 256], v: Cell) -> usize
     requires { ⌜ length (now used) ≡ 256 ⌝ }
     ensures { λ r. ⌜ Marks v (now (used .entry)) (now (used .exit)) r ⌝ }
 {
@@ -46,7 +52,7 @@ fn mark(used: &mut [u8; 256], v: u16) -> usize
 }
 
 // 1 for a call cell, else 0.
-fn call_cell(v: u16) -> u16
+fn call_cell(v: Cell) -> u16
     ensures { λ r. ⌜ (r ≡ bit (isCall v)) × (r ≤ 1) ⌝ }
 {
     if is_call(v) {
@@ -56,13 +62,13 @@ fn call_cell(v: u16) -> u16
 }
 
 // Whether one of the eight cells from a place of the table on is a call cell: one vector instruction looks at all.
-fn has_calls(table: &[u16], from: usize) -> bool
-    requires { ⌜ from + 8 ≤ length (now table) ⌝ }
-    ensures { λ r. ⌜ r ≡ ltb 0 (count 8 (λ b. isCall (getD (now (table .entry)) (from + b) 0))) ⌝ }
+fn has_calls(table: &[Cell], from: usize) -> bool
+    requires { ⌜ from + mostBridges ≤ length (now table) ⌝ }
+    ensures { λ r. ⌜ r ≡ ltb 0 (count mostBridges (λ b. isCall (getD (now (table .entry)) (from + b) 0))) ⌝ }
 {
     let mut calls: u16 = 0;
     let mut b = 0;
-    while b < 8 {
+    while b < MOST_BRIDGES {
         calls += call_cell(table[from + b]);
         b += 1;
     }
@@ -70,8 +76,8 @@ fn has_calls(table: &[u16], from: usize) -> bool
 }
 
 // Marks the numbers of the call cells of the slot whose first cell is at `from`, and answers how many were not marked before.
-fn mark_slot(table: &[u16], from: usize, bridges: usize, used: &mut [u8; 256]) -> usize
-    requires { ⌜ (bridges ≤ 8) × (from + bridges ≤ length (now table)) × Marked (now table) from (now used) ⌝ }
+fn mark_slot(table: &[Cell], from: usize, bridges: usize, used: &mut [u8; 256]) -> usize
+    requires { ⌜ (bridges ≤ mostBridges) × (from + bridges ≤ length (now table)) × Marked (now table) from (now used) ⌝ }
     ensures { λ r. ⌜ Marked (now (table .entry)) (from + bridges) (now (used .exit)) × (count 256 (marked (now (used .exit))) ≡ count 256 (marked (now (used .entry))) + r) × (r ≤ bridges) ⌝ }
 {
     let mut jobs = 0;
@@ -84,8 +90,8 @@ fn mark_slot(table: &[u16], from: usize, bridges: usize, used: &mut [u8; 256]) -
 }
 
 // Marks the numbers of the call cells of a frame, and answers how many numbers they are. Slots without one, the most, are passed over.
-fn mark_calls(table: &[u16], slots: usize, bridges: usize, used: &mut [u8; 256]) -> usize
-    requires { ⌜ (slots ≤ 64) × (bridges ≤ 8) × (512 ≤ length (now table)) × (now used ≡ replicate 256 0) ⌝ }
+fn mark_calls(table: &[Cell], slots: usize, bridges: usize, used: &mut [u8; 256]) -> usize
+    requires { ⌜ (slots ≤ mostSlots) × (bridges ≤ mostBridges) × (leastCells ≤ length (now table)) × (now used ≡ replicate 256 0) ⌝ }
     ensures { λ r. ⌜ Marked (now (table .entry)) (slots * bridges) (now (used .exit)) × (r ≡ count 256 (marked (now (used .exit)))) ⌝ }
 {
     let mut jobs = 0;
@@ -101,8 +107,8 @@ fn mark_calls(table: &[u16], slots: usize, bridges: usize, used: &mut [u8; 256])
 }
 
 // Marks the numbers of the presets.
-fn mark_presets(head: Head, presets: [Preset; 32], used: &mut [u8; 256])
-    requires { ⌜ (head .count ≤ 32) × (length (now used) ≡ 256) ⌝ }
+fn mark_presets(head: Head, presets: [Preset; MOST_PRESETS], used: &mut [u8; 256])
+    requires { ⌜ (head .count ≤ mostPresets) × (length (now used) ≡ 256) ⌝ }
     ensures { λ _. ⌜ (length (now (used .exit)) ≡ 256) × ((n : ℕ) → n < 256 → marked (now (used .exit)) n ≡ (hasPreset (headIn head presets) n || marked (now (used .entry)) n)) ⌝ }
 {
     let count = head.count;
@@ -116,10 +122,10 @@ fn mark_presets(head: Head, presets: [Preset; 32], used: &mut [u8; 256])
 }
 
 // Marks the numbers of the first n jobs, eight at the most.
-pub(crate) fn mark_jobs(used: &mut [u8; 256], jobs: [Job; 8], n: usize)
-    ensures { λ _. ⌜ (length (now (used .entry)) ≡ 256 → n ≤ 8 → MarkedBeside (λ i. jobNumber jobs i % 256) (now (used .entry)) n (now (used .exit))) ⌝ }
+pub(crate) fn mark_jobs(used: &mut [u8; 256], jobs: [Job; MOST_JOBS], n: usize)
+    ensures { λ _. ⌜ (length (now (used .entry)) ≡ 256 → n ≤ mostJobs → MarkedBeside (λ i. jobNumber jobs i % 256) (now (used .entry)) n (now (used .exit))) ⌝ }
 {
-    if 8 < n {
+    if MOST_JOBS < n {
         return;
     }
     let mut i = 0;
@@ -133,8 +139,13 @@ pub(crate) fn mark_jobs(used: &mut [u8; 256], jobs: [Job; 8], n: usize)
 
 // Counts a table and a clock: the numbers that are used, the job numbers, and the capacities of the cells that a call may use. It promises something of
 // a head record that some text yields and a table that is not too short, and is safe for every other.
-pub fn counts_of(head: Head, presets: [Preset; 32], table: &[u16], clock: usize) -> Counts
-    ensures { λ r. ⌜ (validRecord head presets ≡ true → 512 ≤ length (now (table .entry)) → CountsOf (headIn head presets) clock (cell (headIn head presets) (now (table .entry))) (r .used) (r .jobs) (r .capacities)) ⌝ }
+pub fn counts_of(
+    head: Head,
+    presets: [Preset; MOST_PRESETS],
+    table: &[Cell],
+    clock: usize,
+) -> Counts
+    ensures { λ r. ⌜ (validRecord head presets ≡ true → leastCells ≤ length (now (table .entry)) → CountsOf (headIn head presets) clock (cell (headIn head presets) (now (table .entry))) (r .used) (r .jobs) (r .capacities)) ⌝ }
 {
     let slots = head.slots;
     let bridges = head.bridges;

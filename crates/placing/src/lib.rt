@@ -8,7 +8,7 @@ mod numbers; // numbers.rt: small functions of numbers
 mod capacities; // capacities.rt: the capacities for 0 to 8, from slots counted by their free cells
 // The causes of a frame, and the limits within which the parts look at one:
 pub mod check; // check.rt: the first cause that a running frame meets
-mod limits; // limits.rt: the limits
+pub mod limits; // limits.rt: the limits
 // What a plan's presets get:
 mod grants; // grants.rt: the grants
 // What a call costs:

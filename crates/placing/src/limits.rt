@@ -1,19 +1,30 @@
-// The limits within which the parts look at a frame: beyond them each part does nothing.
+// The limits within which the parts look at a frame: beyond them each part does nothing. Document 01's limits themselves are station's constants.
+use station::limits::LEAST_CELLS;
+use station::limits::MOST_BRIDGES;
+use station::limits::MOST_FRAME_JOBS;
+use station::limits::MOST_PRESETS;
+use station::limits::MOST_SLOTS;
 ghost use mathlib.Core.Path.{_≡_};
-ghost use Rattle.placing.specs.method.Limits.{inLimits};
+ghost use Rattle.placing.specs.method.Limits.{sizesInLimits};
 
-// Whether a frame of `slots` slots and `bridges` bridges with `n` presets or jobs, and a table of `cells` cells, are within the limits.
+// How many numbers there are from 0 to the most bridges: a slot has as many free ones, and the capacities are kept for as many jobs.
+pub const CAPACITY_COUNT: usize = MOST_BRIDGES + 1;
+
+// How many presets or jobs are placed at a time, at the most: as many as a frame has jobs.
+pub(crate) const MOST_PLACED: usize = MOST_FRAME_JOBS;
+
+// Whether a frame of `slots` slots and `bridges` bridges with `n` presets, and a table of `cells` cells, are within the limits.
 pub(crate) fn in_limits(slots: usize, bridges: usize, n: usize, cells: usize) -> bool
-    ensures { λ r. ⌜ r ≡ inLimits slots bridges n cells ⌝ }
+    ensures { λ r. ⌜ r ≡ sizesInLimits slots bridges n cells ⌝ }
 {
-    if 64 < slots {
+    if MOST_SLOTS < slots {
         return false;
     }
-    if 8 < bridges {
+    if MOST_BRIDGES < bridges {
         return false;
     }
-    if 32 < n {
+    if MOST_PRESETS < n {
         return false;
     }
-    512 <= cells
+    LEAST_CELLS <= cells
 }

@@ -2,6 +2,7 @@
 ghost use Prim.Native.Nat.{_-_, _%_, _<_, _≤_, min, max};
 ghost use mathlib.Core.Path.{_≡_};
 ghost use lib.Count.{ones};
+ghost use Rattle.station.specs.Limits.{mostBridges};
 
 // A byte as an index or a summand.
 pub(crate) fn wide(x: u8) -> usize
@@ -61,7 +62,7 @@ pub(crate) fn less_byte(a: u8, b: u8) -> u8
 
 // How many ones a mask has.
 pub(crate) fn ones_in(mask: u8) -> usize
-    ensures { λ r. ⌜ (r ≡ ones mask) × (r ≤ 8) ⌝ }
+    ensures { λ r. ⌜ (r ≡ ones mask) × (r ≤ mostBridges) ⌝ }
 {
     u8::count_ones(mask) as usize
 }

@@ -3,39 +3,85 @@ mod masks; // masks.rt: free bridges and jobs as one bit each
 mod levels; // levels.rt: which jobs a slot serves
 mod row; // row.rt: one slot's row of the table
 
+use crate::cells::Cell;
+use crate::limits::MOST_PLACED;
 use crate::limits::in_limits;
+use crate::numbers::widened;
+use crate::rule::levels::LEVELS;
 use crate::rule::levels::choose;
 use crate::rule::levels::enter;
 use crate::rule::levels::highest;
 use crate::rule::masks::count_free;
 use crate::rule::row::write_row;
+use station::limits::MOST_LENGTH;
+use station::limits::MOST_SLOTS;
 ghost use mathlib.Core.Path.{_≡_};
-ghost use Rattle.placing.specs.method.Rule.{CleanFrom, placedWithin};
+ghost use Prim.Native.Nat.{_≤_};
+ghost use lib.Dec.{leb};
+ghost use Rattle.laws.specs.Sums.{every};
+ghost use Rattle.laws.specs.Lists.{at};
+ghost use Rattle.station.specs.Limits.{mostLength};
+ghost use Rattle.placing.specs.method.Limits.{mostPlaced};
+ghost use Rattle.placing.specs.method.Rule.{CleanFrom, placeable, placedWithin};
+
+// Whether none of the first k needs is above the longest job.
+fn needs_in(needs: &[u8; MOST_PLACED], k: usize) -> bool
+    requires { ⌜ k ≤ mostPlaced ⌝ }
+    ensures { λ r. ⌜ r ≡ every k (λ i. leb (at (now (needs .entry)) i) mostLength) ⌝ }
+{
+    let mut i = 0;
+    while i < k {
+        if MOST_LENGTH < widened(needs[i]) {
+            return false;
+        }
+        i += 1;
+    }
+    true
+}
+
+// Whether a frame, a table of so many cells and the first k needs are what `place` can look at.
+fn placeable(
+    slots: usize,
+    bridges: usize,
+    needs: &[u8; MOST_PLACED],
+    k: usize,
+    cells: usize,
+) -> bool
+    ensures { λ r. ⌜ r ≡ placeable slots bridges (now (needs .entry)) k cells ⌝ }
+{
+    if MOST_PLACED < k {
+        return false;
+    }
+    if !needs_in(needs, k) {
+        return false;
+    }
+    in_limits(slots, bridges, 0, cells)
+}
 
 // Places jobs 0 to k - 1 with the needs into the free bridges, largest remaining time first, slot by slot from the first. Job i writes `early[i]` in its first
 // `first[i]` slots and `late[i]` in the others. A free bridge that nobody takes becomes 0; one that is not free keeps its cell, and so does all past the frame.
 // From slot `clean` on the free bridges are to be empty already: none is emptied there, and once every job has its cells, nothing is looked at there.
-// Of a mask the first `bridges` bridges count. Where the frame, k or the table is beyond the limits, nothing is written.
+// Of a mask the first `bridges` bridges count. Where the frame, k, one of the needs or the table is beyond the limits, nothing is written.
 pub(crate) fn place(
-    table: &mut [u16],
+    table: &mut [Cell],
     slots: usize,
     bridges: usize,
-    free: [u8; 64],
-    needs: [u8; 32],
+    free: [u8; MOST_SLOTS],
+    needs: [u8; MOST_PLACED],
     k: usize,
-    first: [u8; 32],
-    early: [u16; 32],
-    late: [u16; 32],
+    first: [u8; MOST_PLACED],
+    early: [Cell; MOST_PLACED],
+    late: [Cell; MOST_PLACED],
     clean: usize,
 )
     ensures { λ _. ⌜ (CleanFrom clean slots bridges free (now (table .entry))
         → now (table .exit) ≡ placedWithin slots bridges free needs k first early late (now (table .entry))) ⌝ }
 {
-    if !in_limits(slots, bridges, k, table.len()) {
+    if !placeable(slots, bridges, &needs, k, table.len()) {
         return;
     }
     let mut due = first;
-    let mut levels = [0u32; 256];
+    let mut levels = [0u64; LEVELS];
     // Nobody stands above it: it only goes down.
     let mut top = enter(&mut levels, &needs, k);
     let mut s = 0;

@@ -8,12 +8,18 @@ mod taking; // taking.rt: the walk over them
 
 use crate::capacities::capacities_of;
 use crate::capacities::slot_counts;
+use crate::cells::Cell;
+use crate::limits::CAPACITY_COUNT;
+use crate::limits::MOST_PLACED;
 use crate::limits::in_limits;
 use crate::search::empty::slot_masks;
 use crate::search::excess::excess;
 use crate::search::excess::tightest;
 use crate::search::longest::longest_sums;
 use crate::search::taking::walk;
+use station::limits::MOST_JOBS;
+use station::limits::MOST_PRESETS;
+use station::limits::MOST_SLOTS;
 use station::types::Head;
 use station::types::Preset;
 ghost use Prim.Native.Nat.{ℕ, _-_, _<_, _≤_};
@@ -21,8 +27,10 @@ ghost use mathlib.Core.Path.{_≡_};
 ghost use mathlib.Core.Bool.{true};
 ghost use mathlib.Core.List.{List};
 ghost use lib.ListN.{length, getD, take};
+ghost use Rattle.station.specs.Limits.{mostSlots, mostBridges, mostJobs, leastCells};
 ghost use Rattle.station.specs.Head.{Job};
 ghost use Rattle.station.specs.Types.{headIn};
+ghost use Rattle.placing.specs.method.Limits.{capacityCount};
 ghost use Rattle.placing.specs.Table.{cell};
 ghost use Rattle.placing.specs.Call.{lengths};
 ghost use Rattle.placing.specs.method.Search.{Starts, Evicts, searchable, unfit, Searched};
@@ -31,37 +39,37 @@ ghost use Rattle.placing.specs.method.Search.{Starts, Evicts, searchable
 pub(crate) struct Evicted {
     pub fits: bool,
     pub count: usize,
-    pub free: [u8; 64],
+    pub free: [u8; MOST_SLOTS],
 }
 
 // What the jobs demand: how many they are, the sums of the r longest for r from 0 to as many, and the number of slots in which they are to have it.
 pub(crate) struct Demand {
     pub slots: usize,
     pub jobs: usize,
-    pub sums: [usize; 9],
+    pub sums: [usize; CAPACITY_COUNT],
 }
 
 // What the search keeps: for each slot the mask of the bridges that the jobs may use and the number of them, the capacities for 0 to 8, the shortage, the least
 // number of jobs that are short by as much, and how many cells are evicted so far.
 pub(crate) struct Search {
-    pub free: [u8; 64],
-    pub counts: [usize; 64],
-    pub capacities: [usize; 9],
+    pub free: [u8; MOST_SLOTS],
+    pub counts: [usize; MOST_SLOTS],
+    pub capacities: [usize; CAPACITY_COUNT],
     pub short: usize,
     pub tight: usize,
     pub evicted: usize,
 }
 
 // What the search has before its walk: the empty cells from the clock on.
-fn starting(table: &[u16], bridges: usize, clock: usize, demand: Demand) -> Search
-    requires { ⌜ (bridges ≤ 8) × (demand .slots ≤ 64) × (demand .jobs ≤ 8) × (512 ≤ length (now table)) × ((r : ℕ) → r < 9 → getD (demand .sums) r 0 ≤ 2040) ⌝ }
+fn starting(table: &[Cell], bridges: usize, clock: usize, demand: Demand) -> Search
+    requires { ⌜ (bridges ≤ mostBridges) × (demand .slots ≤ mostSlots) × (demand .jobs ≤ mostJobs) × (leastCells ≤ length (now table)) × ((r : ℕ) → r < capacityCount → getD (demand .sums) r 0 ≤ 2040) ⌝ }
     ensures { λ s. ⌜ Starts (now (table .entry)) bridges clock demand s ⌝ }
 {
     let slots = demand.slots;
     let jobs = demand.jobs;
     let sums = demand.sums;
     let free = slot_masks(table, bridges, clock, slots);
-    let mut with = [0usize; 9];
+    let mut with = [0usize; CAPACITY_COUNT];
     let counts = slot_counts(&free, slots, &mut with);
     let capacities = capacities_of(&with, slots);
     let short = excess(&sums, &capacities, jobs);
@@ -80,11 +88,11 @@ fn starting(table: &[u16], bridges: usize, clock: usize, demand: Demand) -> Sear
 // that the jobs may use, the empty ones from the clock on and the evicted ones; 0 before the clock and past the frame. Where the call does not fit,
 // the evicted ones are those that lower the shortage, which then stays above 0. Where the empty cells are enough, no other cell is looked at.
 fn evict_in_limits(
-    table: &[u16],
+    table: &[Cell],
     head: Head,
-    presets: [Preset; 32],
+    presets: [Preset; MOST_PRESETS],
     clock: usize,
-    needs: [u8; 32],
+    needs: [u8; MOST_PLACED],
     k: usize,
 ) -> Evicted
     requires { ⌜ searchable head k (length (now table)) ≡ true ⌝ }
@@ -112,7 +120,7 @@ fn evict_in_limits(
 fn unfit() -> Evicted
     ensures { λ r. ⌜ r ≡ unfit ⌝ }
 {
-    let none = [0u8; 64];
+    let none = [0u8; MOST_SLOTS];
     Evicted {
         fits: false,
         count: 0,
@@ -123,16 +131,16 @@ fn unfit() -> Evicted
 // The eviction search: for jobs with the first k needs, whether the call fits, how many cells are evicted, and which bridges its jobs may use. Where the
 // frame, the table or k is beyond the limits, nothing is read and the call does not fit.
 pub(crate) fn evict(
-    table: &[u16],
+    table: &[Cell],
     head: Head,
-    presets: [Preset; 32],
+    presets: [Preset; MOST_PRESETS],
     clock: usize,
-    needs: [u8; 32],
+    needs: [u8; MOST_PLACED],
     k: usize,
 ) -> Evicted
     ensures { λ r. ⌜ Searched head presets clock needs k (now (table .entry)) r ⌝ }
 {
-    if 8 < k {
+    if MOST_JOBS < k {
         return unfit();
     }
     if !in_limits(head.slots, head.bridges, head.count, table.len()) {

@@ -1,6 +1,6 @@
 -- The busy cells of a head are those that its lines say: "bridge b is taken from slot f to slot t, both included".
 --
--- In order: slots in a stretch; the slots of a mask's stretches are its ones (`stretches-taken`, `taken-mask`); `busy-cells`, of a whole head.
+-- In order: slots in a stretch; the slots of a mask's stretches are its ones (`stretches-hasBit`, `hasBit-mask`); `busy-cells`, of a whole head.
 -- Assumes nothing.
 use Prim.Native.Nat.{ℕ, zero, suc, _+_, _*_, _/_, _%_, _^_, _≤_, _<_}
 use native.Mathlib.Nat.{pow-suc, le-refl, div-one, add-zero}
@@ -15,7 +15,7 @@ use lib.Dec.{eqb, leb}
 use lib.Pow.{pow-mono, shr-shr}
 use Rattle.laws.proofs.Tests.{Is, is-true, is-false, is}
 use Rattle.laws.proofs.Comparisons.{le-of, gt-of, eq-of, ne-of, leb-yes, leb-no, eqb-yes, eqb-no}
-use Rattle.station.specs.Head.{Head, Preset, Valid, taken, busyAt, within}
+use Rattle.station.specs.Head.{Head, Preset, Valid, hasBit, busyAt, within}
 use Rattle.station.specs.Form.{Pairs, last, next, Form, presetLine}
 use Rattle.station.specs.Writing.{maskOf, ordered, firstSlot, startedAt, withSlot, stretches, busyLineOf, busyLines, formsOf}
 use Rattle.station.specs.Writing.{covers, lineTakes, linesTake}
@@ -87,47 +87,47 @@ none-below : (s hi m : ℕ) (o : Option Pairs) → Runs (suc s) hi m o → someC
 none-below s hi m none r = refl
 none-below s hi m (some p) (runs o e) = covers-below (suc s) hi p s o (le-refl (suc s))
 
-taken-suc : (m i : ℕ) → taken m (suc i) ≡ taken (m / 2) i
-taken-suc m i = let e : m / 2 / 2 ^ i ≡ m / 2 ^ suc i = shr-shr m 1 i ∙ ap (λ (k : ℕ). m / 2 ^ k) (one-add i) in rw e refl
+pub hasBit-suc : (m i : ℕ) → hasBit m (suc i) ≡ hasBit (m / 2) i
+hasBit-suc m i = let e : m / 2 / 2 ^ i ≡ m / 2 ^ suc i = shr-shr m 1 i ∙ ap (λ (k : ℕ). m / 2 ^ k) (one-add i) in rw e refl
 
-taken-zero : (m : ℕ) → taken m 0 ≡ eqb (m % 2) 1
-taken-zero m = ap (λ (k : ℕ). eqb (k % 2) 1) (div-one m)
+pub hasBit-zero : (m : ℕ) → hasBit m 0 ≡ eqb (m % 2) 1
+hasBit-zero m = ap (λ (k : ℕ). eqb (k % 2) 1) (div-one m)
 
 -- one slot in front of what is known
-taken-step : (k s m i : ℕ) (o : Option Pairs) → Runs (suc s) (s + k) (m / 2) o → ((j : ℕ) → j < k → someCovers o (suc s + j) ≡ taken (m / 2) j)
-    → i < suc k → Is (eqb (m % 2) 1) → someCovers (cond (eqb (m % 2) 1) (some (withSlot s o)) o) (s + i) ≡ taken m i
+taken-step : (k s m i : ℕ) (o : Option Pairs) → Runs (suc s) (s + k) (m / 2) o → ((j : ℕ) → j < k → someCovers o (suc s + j) ≡ hasBit (m / 2) j)
+    → i < suc k → Is (eqb (m % 2) 1) → someCovers (cond (eqb (m % 2) 1) (some (withSlot s o)) o) (s + i) ≡ hasBit m i
 taken-step k s m zero o r ih l (is-true e) =
     rw e
     (covers-with s (s + k) (m / 2) (s + 0) o r
     ∙ ap (λ (b : Bool). b || someCovers o (s + 0)) (eqb-yes (s + 0) s (omega arith))
-    ∙ sym (taken-zero m ∙ e))
+    ∙ sym (hasBit-zero m ∙ e))
 taken-step k s m zero o r ih l (is-false e) =
-    rw e (ap (someCovers o) (add-zero s) ∙ none-below s (s + k) (m / 2) o r ∙ sym (taken-zero m ∙ e))
+    rw e (ap (someCovers o) (add-zero s) ∙ none-below s (s + k) (m / 2) o r ∙ sym (hasBit-zero m ∙ e))
 taken-step k s m (suc i) o r ih l (is-true e) =
     let at : s + suc i ≡ suc s + i = omega arith in
     rw e
     (covers-with s (s + k) (m / 2) (s + suc i) o r
     ∙ ap (λ (b : Bool). b || someCovers o (s + suc i)) (eqb-no (s + suc i) s (λ q. omega arith))
-    ∙ ap (someCovers o) at ∙ ih i (omega arith) ∙ sym (taken-suc m i))
+    ∙ ap (someCovers o) at ∙ ih i (omega arith) ∙ sym (hasBit-suc m i))
 taken-step k s m (suc i) o r ih l (is-false e) =
     let at : s + suc i ≡ suc s + i = omega arith in
-    rw e (ap (someCovers o) at ∙ ih i (omega arith) ∙ sym (taken-suc m i))
+    rw e (ap (someCovers o) at ∙ ih i (omega arith) ∙ sym (hasBit-suc m i))
 
 -- slot s + i lies in one of the stretches exactly if bit i of the mask is 1
-pub stretches-taken : (k s m i : ℕ) → m < 2 ^ k → i < k → someCovers (stretches k s m) (s + i) ≡ taken m i
+pub stretches-hasBit : (k s m i : ℕ) → m < 2 ^ k → i < k → someCovers (stretches k s m) (s + i) ≡ hasBit m i
 unfolding stretches
-stretches-taken zero s m i h l = absurd (omega arith)
-stretches-taken (suc k) s m i h l =
+stretches-hasBit zero s m i h l = absurd (omega arith)
+stretches-hasBit (suc k) s m i h l =
     let b : m / 2 < 2 ^ k = (let p : 2 ^ suc k ≡ 2 ^ k * 2 = pow-suc 2 k in omega arith) in
     taken-step k s m i (stretches k (suc s) (m / 2)) (stretches-runs k (suc s) k (m / 2) (s + k) b b (omega arith))
-    (λ j n. stretches-taken k (suc s) (m / 2) j b n) l (is (eqb (m % 2) 1))
+    (λ j n. stretches-hasBit k (suc s) (m / 2) j b n) l (is (eqb (m % 2) 1))
 
 -- the mask of stretches in order has its ones in them
-pub taken-mask : (hi : ℕ) (p : Pairs) (s : ℕ) → hi ≤ 64 → ordered 1 hi p ≡ true → s < 64 → taken (maskOf p) s ≡ covers p (suc s)
-taken-mask hi p s h o l =
+pub hasBit-mask : (hi : ℕ) (p : Pairs) (s : ℕ) → hi ≤ 64 → ordered 1 hi p ≡ true → s < 64 → hasBit (maskOf p) s ≡ covers p (suc s)
+hasBit-mask hi p s h o l =
     let m : 2 ^ hi ≤ 2 ^ 64 = pow-mono h in
     let b : maskOf p < 2 ^ hi = mask-lt hi p o in
-    sym (stretches-taken 64 1 (maskOf p) s (omega arith) l)
+    sym (stretches-hasBit 64 1 (maskOf p) s (omega arith) l)
     ∙ ap (λ (x : Option Pairs). someCovers x (1 + s)) (stretches-mask hi p h o) ∙ ap (covers p) (one-add s)
 
 -- ---- of a whole head
@@ -175,7 +175,7 @@ busy-cells h v s b l =
     let top : 2 ^ h .slots ≤ 2 ^ 64 = pow-mono (v .slots-high) in
     let m : ℕ = getD (h .busy) b 0 in
     let below : m < 2 ^ h .slots = v .in-frame b in
-    sym (stretches-taken 64 1 m s (omega arith) l)
+    sym (stretches-hasBit 64 1 m s (omega arith) l)
     ∙ sym (busyLines-take 1 (h .busy) b (1 + s))
     ∙ (rw (one-add b, one-add s)
     (sym (linesTake-append (busyLines 1 (h .busy)) (map presetLine (h .presets)) (suc b) (suc s)

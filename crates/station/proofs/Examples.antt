@@ -283,10 +283,10 @@ entries-read = (refl, refl, refl, refl, refl, refl)
 
 -- the text of a head with one slot and one bridge has 12 bytes; a record that counts 33 presets is refused after 8
 pub entries-written : (entryAnswer 32 (counting 0) [] (replicate 8192 0) ≡ write.written 12)
-    × (entryAnswer 31 (counting 0) [] (replicate 8192 0) ≡ write.refused tooShort)
-    × (entryAnswer 32 (counting 0) [] (replicate 8191 0) ≡ write.refused tooShort)
-    × (entryAnswer 32 (counting 33) [] (replicate 8192 0) ≡ write.refused outOfLimits)
-    × (entryAnswer 31 (counting 33) [] (replicate 8192 0) ≡ write.refused tooShort)
-    × (entryAnswer 32 (counting 33) [] (replicate 8191 0) ≡ write.refused tooShort)
+    × (entryAnswer 31 (counting 0) [] (replicate 8192 0) ≡ write.refused 0 tooShort)
+    × (entryAnswer 32 (counting 0) [] (replicate 8191 0) ≡ write.refused 0 tooShort)
+    × (entryAnswer 32 (counting 33) [] (replicate 8192 0) ≡ write.refused 0 outOfLimits)
+    × (entryAnswer 31 (counting 33) [] (replicate 8192 0) ≡ write.refused 0 tooShort)
+    × (entryAnswer 32 (counting 33) [] (replicate 8191 0) ≡ write.refused 0 tooShort)
 unfolding writes valid hasNumber allInLimits allDistinct masksIn firstOf
 entries-written = (refl, refl, refl, refl, refl, refl)

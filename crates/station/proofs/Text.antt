@@ -12,7 +12,7 @@ use lib.Dec.{eqb}
 use Rattle.laws.proofs.Tests.{Is, is-true, is-false, is, clash, left-of, right-of, false-of-not}
 use Rattle.station.specs.Text.{lines, join, onto, isLine, isRest, Lines, no-lines, last-rest, line-then}
 
-join-onto : (b : ℕ) (ls : List (List ℕ)) → join (onto b ls) ≡ b ∷ join ls
+pub join-onto : (b : ℕ) (ls : List (List ℕ)) → join (onto b ls) ≡ b ∷ join ls
 join-onto b [] = refl
 join-onto b (l ∷ ls) = refl
 

@@ -12,7 +12,7 @@ use mathlib.Core.List.{List, [], _∷_, _++_, map}
 use lib.ListN.{length, getD, length-append}
 use lib.Pow.{pow-mono}
 use Rattle.laws.proofs.Tests.{left-of, right-of}
-use Rattle.station.specs.Head.{Preset, Head, InLimits, Valid, inLimits, allInLimits}
+use Rattle.station.specs.Head.{Preset, Head, InLimits, Valid, presetInLimits, allInLimits}
 use Rattle.station.specs.Text.{bytes, _then_, join}
 use Rattle.station.specs.Decimal.{digits}
 use Rattle.station.specs.Form.{Pairs, last, next, Form, frameLine, busyLine, brackets, presetLine, print}
@@ -111,8 +111,8 @@ presets-size (p ∷ ps) e =
     omega (
       arith,
       size-cons (presetLine p) (map presetLine ps),
-      preset-size p (limits-of p (left-of (inLimits p) (allInLimits ps) e)),
-      presets-size ps (right-of (inLimits p) (allInLimits ps) e),
+      preset-size p (limits-of p (left-of (presetInLimits p) (allInLimits ps) e)),
+      presets-size ps (right-of (presetInLimits p) (allInLimits ps) e),
     )
 
 -- the text of a head is at most 8,192 bytes long, the least output that an entry accepts

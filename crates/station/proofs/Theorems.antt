@@ -19,6 +19,6 @@ pub use Rattle.station.proofs.heads.LineLoop.{ReadAccepted, ReadRefused
 pub use Rattle.station.proofs.heads.OneLine.{records-back}
 -- preset records, in a list and by value
 pub use Rattle.station.proofs.CodeRecords.{records-step}
-pub use Rattle.station.proofs.records.BankLoops.{saved-loaded, saved-over, loaded-whole}
+pub use Rattle.station.proofs.records.CopiedLoops.{saved-loaded, saved-over, loaded-whole}
 -- bytes that are written one run after the other
 pub use Rattle.station.proofs.output.Runs.{wrote-none, wrote-then, wrote-fits, left-all, left-wrote, left-none, left-then, join-append}

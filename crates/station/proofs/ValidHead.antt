@@ -13,7 +13,7 @@ use lib.Dec.{eqb, ltb, leb}
 use lib.Pow.{pow-pos}
 use Rattle.laws.proofs.Tests.{both, left-of, right-of, false-of-not, neither-left, neither-right, conjunction-at}
 use Rattle.laws.proofs.Comparisons.{lt-of, le-of, eq-of, ne-of, ltb-yes, leb-yes, eqb-yes, eqb-no}
-use Rattle.station.specs.Head.{Preset, Head, noPreset, InLimits, Valid, within, inLimits, hasNumber, allInLimits, allDistinct, masksIn, valid}
+use Rattle.station.specs.Head.{Preset, Head, noPreset, InLimits, Valid, within, presetInLimits, hasNumber, allInLimits, allDistinct, masksIn, valid}
 
 -- ---- the limits of a preset
 
@@ -26,7 +26,7 @@ within-high lo hi n e = le-of n hi (right-of (leb lo n) (leb n hi) e)
 pub of-within : (lo hi n : ℕ) → lo ≤ n → n ≤ hi → within lo hi n ≡ true
 of-within lo hi n l h = both (leb lo n) (leb n hi) (leb-yes lo n l) (leb-yes n hi h)
 
-pub limits-of : (p : Preset) → inLimits p ≡ true → InLimits p
+pub limits-of : (p : Preset) → presetInLimits p ≡ true → InLimits p
 limits-of p e =
     let part =
     conjunction-at (within 1 255 (p .number) ∷ leb (p .priority) 9 ∷ leb (p .mandatory) 64 ∷ leb (p .optional) 64 ∷ []) e in
@@ -38,7 +38,7 @@ limits-of p e =
       optional = le-of (p .optional) 64 (part 3);
     }
 
-pub of-limits : (p : Preset) → InLimits p → inLimits p ≡ true
+pub of-limits : (p : Preset) → InLimits p → presetInLimits p ≡ true
 of-limits p l =
     rw (
       leb-yes 1 (p .number) (l .number-low),
@@ -52,14 +52,14 @@ of-limits p l =
 all-limits-of : (ps : List Preset) → allInLimits ps ≡ true → (i : ℕ) → i < length ps → InLimits (getD ps i noPreset)
 unfolding allInLimits
 all-limits-of [] e i h = absurd (omega arith)
-all-limits-of (p ∷ ps) e zero h = limits-of p (left-of (inLimits p) (allInLimits ps) e)
-all-limits-of (p ∷ ps) e (suc i) h = all-limits-of ps (right-of (inLimits p) (allInLimits ps) e) i (omega arith)
+all-limits-of (p ∷ ps) e zero h = limits-of p (left-of (presetInLimits p) (allInLimits ps) e)
+all-limits-of (p ∷ ps) e (suc i) h = all-limits-of ps (right-of (presetInLimits p) (allInLimits ps) e) i (omega arith)
 
 of-all-limits : (ps : List Preset) → ((i : ℕ) → i < length ps → InLimits (getD ps i noPreset)) → allInLimits ps ≡ true
 unfolding allInLimits
 of-all-limits [] f = refl
 of-all-limits (p ∷ ps) f =
-    both (inLimits p) (allInLimits ps) (of-limits p (f 0 (omega arith))) (of-all-limits ps (λ i h. f (suc i) (omega arith)))
+    both (presetInLimits p) (allInLimits ps) (of-limits p (f 0 (omega arith))) (of-all-limits ps (λ i h. f (suc i) (omega arith)))
 
 -- ---- masks
 

@@ -16,7 +16,7 @@ use lib.Dec.{eqb, ltb}
 use lib.Pow.{pow-pos}
 use Rattle.laws.proofs.Tests.{clash, both, left-of, right-of, false-of-not, true-of-not, neither-left, neither-right}
 use Rattle.laws.proofs.Comparisons.{ge-of, gt-of, ne-of, ltb-yes, eqb-no}
-use Rattle.station.specs.Head.{Preset, Head, bareHead, withBusy, withPresets, Valid, within, inLimits, hasNumber, allInLimits, allDistinct, masksIn}
+use Rattle.station.specs.Head.{Preset, Head, bareHead, withBusy, withPresets, Valid, within, presetInLimits, hasNumber, allInLimits, allDistinct, masksIn}
 use Rattle.station.specs.Refusal.{firstOf}
 use Rattle.station.specs.Text.{lines, join}
 use Rattle.station.specs.Form.{Pairs, Form, frameLine, busyLine, presetLine, clockLine, callLine, isEvent, print}
@@ -30,12 +30,12 @@ use Rattle.station.proofs.Reading.{NoCause, no-cause, headOf-means}
 
 -- ---- one more preset
 
-limits-append : (ps : List Preset) (p : Preset) → allInLimits ps ≡ true → inLimits p ≡ true → allInLimits (ps ++ (p ∷ [])) ≡ true
+limits-append : (ps : List Preset) (p : Preset) → allInLimits ps ≡ true → presetInLimits p ≡ true → allInLimits (ps ++ (p ∷ [])) ≡ true
 unfolding allInLimits
-limits-append [] p e l = both (inLimits p) true l refl
+limits-append [] p e l = both (presetInLimits p) true l refl
 limits-append (x ∷ ps) p e l =
-    both (inLimits x) (allInLimits (ps ++ (p ∷ []))) (left-of (inLimits x) (allInLimits ps) e)
-    (limits-append ps p (right-of (inLimits x) (allInLimits ps) e) l)
+    both (presetInLimits x) (allInLimits (ps ++ (p ∷ []))) (left-of (presetInLimits x) (allInLimits ps) e)
+    (limits-append ps p (right-of (presetInLimits x) (allInLimits ps) e) l)
 
 number-append : (n : ℕ) (ps : List Preset) (p : Preset) → hasNumber n ps ≡ false → eqb n (p .number) ≡ false → hasNumber n (ps ++ (p ∷ [])) ≡ false
 unfolding hasNumber
@@ -98,7 +98,7 @@ data Good : SoFar → List Form → Type 0 where
       → formsOf h ≡ fs → Good (record { stage = atBusy least; head = h }) fs
   in-presets : {h : Head} {fs : List Form} → Parts h → formsOf h ≡ fs → Good (record { stage = atPresets; head = h }) fs
 
-no-mask : (n b : ℕ) → getD {A = ℕ} (replicate n 0) b 0 ≡ 0
+pub no-mask : (n b : ℕ) → getD {A = ℕ} (replicate n 0) b 0 ≡ 0
 no-mask zero b = refl
 no-mask (suc n) zero = refl
 no-mask (suc n) (suc b) = no-mask n b
@@ -181,7 +181,7 @@ good-preset r fs x a w c =
       masks = a .masks;
       busy = a .busy;
       number = omega (arith, length-append (h .presets) (x ∷ []));
-      limits = limits-append (h .presets) x (a .limits) (true-of-not (inLimits x) (c .in-limits));
+      limits = limits-append (h .presets) x (a .limits) (true-of-not (presetInLimits x) (c .in-limits));
       distinct = distinct-append (h .presets) x (a .distinct) (c .unused);
     })
     (ap (λ (k : List Form). frameLine (h .slots) (h .bridges) ∷ k)

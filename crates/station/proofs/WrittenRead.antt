@@ -17,7 +17,7 @@ use lib.Dec.{eqb, ltb}
 use lib.Pow.{pow-mono}
 use Rattle.laws.proofs.Tests.{Is, is-true, is-false, is, left-of, right-of, false-of-not, neither-left, neither-right, none-some}
 use Rattle.laws.proofs.Comparisons.{lt-of, ge-of, ne-of, ltb-no, leb-no, eqb-no}
-use Rattle.station.specs.Head.{Preset, Head, bareHead, withBusy, withPresets, Valid, inLimits, hasNumber, allInLimits, allDistinct}
+use Rattle.station.specs.Head.{Preset, Head, bareHead, withBusy, withPresets, Valid, presetInLimits, hasNumber, allInLimits, allDistinct}
 use Rattle.station.specs.Form.{Pairs, Form, frameLine, busyLine, presetLine, print}
 use Rattle.station.specs.Writing.{maskOf, stretches, busyLineOf, busyLines, formsOf, textOf}
 use Rattle.station.specs.Reading.{accepted, headOf, Stage, atBusy, atPresets, begun, SoFar, begin, ends, tried, more, Passes, no-more, one-more, at-end}
@@ -74,12 +74,12 @@ presets-reach s b stage busy done (p ∷ ps) g l d n =
     then-reaches {r = under s b stage busy done} {f = presetLine p} refl
     (record {
       in-place = ap not g;
-      in-limits = ap not (left-of (inLimits p) (allInLimits ps) l);
+      in-limits = ap not (left-of (presetInLimits p) (allInLimits ps) l);
       unused = distinct-unused done p ps d;
       fits = leb-no 32 (length done) few;
     })
     (rw snoc at
-    (presets-reach s b atPresets busy (done ++ (p ∷ [])) ps refl (right-of (inLimits p) (allInLimits ps) l) (rw snoc d) (rw snoc n)))
+    (presets-reach s b atPresets busy (done ++ (p ∷ [])) ps refl (right-of (presetInLimits p) (allInLimits ps) l) (rw snoc d) (rw snoc n)))
 
 -- ---- busy lines
 

@@ -8,8 +8,7 @@ use lib.Dec.{leb}
 use Rattle.station.specs.Limits.{mostJobs}
 use Rattle.station.specs.Head as meant
 use Rattle.station.specs.Form.{Form, frameLine, busyLine, presetLine, clockLine, callLine, jobsOf}
-use Rattle.station.specs.method.Numeral.{seen}
-use Rattle.station.specs.Jobs.{padded, noJobs}
+use Rattle.station.specs.Jobs.{padded, noJobs, seen}
 pub use Rattle.station.specs.Jobs.{jobInLimits}
 unfoldable pub use Rattle.station.specs.Jobs.{jobsInLimits}
 use Rattle.station.specs.declared.brackets.Jobs.{Jobs}
@@ -17,7 +16,7 @@ use Rattle.station.specs.declared.types.Refusal.{Refusal}
 use Rattle.station.specs.declared.types.Refusal.the-variants as refusal
 use Rattle.station.specs.declared.forms.Line.{Line}
 use Rattle.station.specs.declared.forms.Line.the-variants.{NoForm, Frame, Busy, Preset, Clock, Call}
-use Rattle.station.specs.declared.events.Event.the-variants.{SetClock, Place, Fault}
+use Rattle.station.specs.declared.events.Event.the-variants.{SetClock, PlaceJobs, Fault}
 use Rattle.station.specs.declared.events.EventRead.{EventRead}
 
 -- a refusal has no jobs
@@ -33,8 +32,8 @@ abbrev pub callInLimits : List meant.Job → Bool
 callInLimits l = leb (length l) mostJobs && jobsInLimits l
 
 -- A call: its jobs first in the array and zeros after them, or its refusal.
-abbrev pub callMeant : List meant.Job → EventRead
-callMeant l = pickEvent (callInLimits l) (record { event = Place (length l); jobs = padded mostJobs l }) (fault refusal.OutOfLimits)
+abbrev pub callRead : List meant.Job → EventRead
+callRead l = pickEvent (callInLimits l) (record { event = PlaceJobs (length l); jobs = padded mostJobs l }) (fault refusal.OutOfLimits)
 
 -- The event of a line: "a line that is not one of the five forms" is refused; "A head line after an event is out of place"; a clock; a call.
 abbrev pub eventIn : Option Form → EventRead
@@ -43,13 +42,13 @@ eventIn (some (frameLine s b)) = fault refusal.OutOfPlace
 eventIn (some (busyLine b p)) = fault refusal.OutOfPlace
 eventIn (some (presetLine p)) = fault refusal.OutOfPlace
 eventIn (some (clockLine t)) = record { event = SetClock (seen t); jobs = noJobs }
-eventIn (some (callLine p)) = callMeant (jobsOf p)
+eventIn (some (callLine p)) = callRead (jobsOf p)
 
 -- ---- the same by what was read of the line
 
 -- the jobs of a call that has its form
 abbrev pub callEvent : Jobs → EventRead
-callEvent j = pickEvent (leb (j .count) mostJobs && j .fit) (record { event = Place (j .count); jobs = j .jobs }) (fault refusal.OutOfLimits)
+callEvent j = pickEvent (leb (j .count) mostJobs && j .fit) (record { event = PlaceJobs (j .count); jobs = j .jobs }) (fault refusal.OutOfLimits)
 
 -- any other line; no call is among them, so that it does not matter what is said of one
 abbrev pub lineEvent : Line → EventRead

@@ -34,12 +34,12 @@ abbrev pub jobOf : ℕ → ℕ → Job
 jobOf n c = record { number = n; slots = c }
 
 -- bit s of a mask
-abbrev pub taken : ℕ → ℕ → Bool
-taken mask s = eqb (mask / 2 ^ s % 2) 1
+abbrev pub hasBit : ℕ → ℕ → Bool
+hasBit mask s = eqb (mask / 2 ^ s % 2) 1
 
 -- the head's busy cells
 abbrev pub busyAt : Head → ℕ → ℕ → Bool
-busyAt h s b = taken (getD (h .busy) b 0) s
+busyAt h s b = hasBit (getD (h .busy) b 0) s
 
 -- "number, priority, required, refinement"
 abbrev pub presetOf : ℕ → ℕ → ℕ → ℕ → Preset
@@ -101,8 +101,8 @@ abbrev pub frameInLimits : ℕ → ℕ → Bool
 frameInLimits slots bridges = within 1 mostSlots slots && within 1 mostBridges bridges
 
 -- `InLimits` as a test
-abbrev pub inLimits : Preset → Bool
-inLimits p = within 1 mostNumber (p .number) && leb (p .priority) worstPriority && leb (p .mandatory) mostMandatory && leb (p .optional) mostOptional
+abbrev pub presetInLimits : Preset → Bool
+presetInLimits p = within 1 mostNumber (p .number) && leb (p .priority) worstPriority && leb (p .mandatory) mostMandatory && leb (p .optional) mostOptional
 
 -- some preset of the list has the number n
 unfoldable pub hasNumber : ℕ → List Preset → Bool
@@ -112,7 +112,7 @@ hasNumber n (p ∷ ps) = eqb n (p .number) || hasNumber n ps
 -- every preset is within the limits
 unfoldable pub allInLimits : List Preset → Bool
 allInLimits [] = true
-allInLimits (p ∷ ps) = inLimits p && allInLimits ps
+allInLimits (p ∷ ps) = presetInLimits p && allInLimits ps
 
 -- no number twice
 unfoldable pub allDistinct : List Preset → Bool

@@ -1,12 +1,11 @@
 -- The jobs of a call: their limits by document 01's table, and as the code reads them, into an array of eight. Document 01, "The station text".
 -- Assumes nothing.
-use Prim.Native.Nat.{ℕ, zero, suc}
+use Prim.Native.Nat.{ℕ, zero, suc, min}
 use mathlib.Core.Bool.{Bool, true, _&&_}
 use mathlib.Core.List.{List, [], _∷_}
 use Rattle.station.specs.Limits.{mostJobs, mostLength, mostNumber}
 use Rattle.station.specs.Head as meant
 use Rattle.station.specs.Head.{within}
-use Rattle.station.specs.method.Numeral.{seen}
 use Rattle.station.specs.declared.types.Job.{Job}
 
 -- "c: from 1 to 64; preset or job number: from 1 to 255"
@@ -17,6 +16,10 @@ jobInLimits j = within 1 mostNumber (j .number) && within 1 mostLength (j .slots
 unfoldable pub jobsInLimits : List meant.Job → Bool
 jobsInLimits [] = true
 jobsInLimits (j ∷ l) = jobInLimits j && jobsInLimits l
+
+-- a value as it is read: 65,535 stands for itself and for all above it
+abbrev pub seen : ℕ → ℕ
+seen v = min v 65535
 
 -- a job as it is read
 abbrev pub jobSeen : meant.Job → Job

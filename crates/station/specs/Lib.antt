@@ -17,5 +17,7 @@ pub mod ReadHead
 pub mod WriteHead
 pub mod Entries
 pub mod Wrote
+-- Ahead of request 2026-01: the meaning of rows.
+pub mod Rows
 -- What only the code's method needs.
 pub mod method

@@ -8,7 +8,7 @@ use mathlib.Core.List.{List, [], _∷_, _++_, map}
 use lib.ListN.{length, set}
 use lib.Dec.{ltb, leb}
 use Rattle.station.specs.Limits.{mostPresets, mostBytes}
-use Rattle.station.specs.Head.{Head, bareHead, withBusy, withPresets, within, frameInLimits, inLimits, hasNumber}
+use Rattle.station.specs.Head.{Head, bareHead, withBusy, withPresets, within, frameInLimits, presetInLimits, hasNumber}
 use Rattle.station.specs.Refusal.{Refusal, noForm, outOfLimits, outOfPlace, numberUsed, tooMany, textTooLong, try, firstOf}
 use Rattle.station.specs.Text.{lines}
 use Rattle.station.specs.Form.{Form, frameLine, busyLine, presetLine, clockLine, callLine, isEvent, print, form}
@@ -75,7 +75,7 @@ tried r (busyLine b p) = record {
 }
 tried r (presetLine p) = record {
   misplaced = not (begun (r .stage));
-  outside = not (inLimits p);
+  outside = not (presetInLimits p);
   used = hasNumber (p .number) (r .head .presets);
   full = leb mostPresets (length (r .head .presets));
   next = record { stage = atPresets; head = withPresets (r .head) (r .head .presets ++ (p ∷ [])) };

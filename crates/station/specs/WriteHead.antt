@@ -19,12 +19,12 @@ use Rattle.station.specs.Types.{refusalIn, headIn, validRecord}
 -- the length of the text that was written, or what the writing is refused for
 pub data Answer : Type 0 where
   written : ℕ → Answer
-  refused : Refusal → Answer
+  refused : ℕ → Refusal → Answer
 
 -- the answer that the code's answer stands for
 abbrev pub answerIn : Writing → Answer
 answerIn (Written n) = written n
-answerIn (Refused r) = refused (refusalIn r)
+answerIn (Refused n r) = refused n (refusalIn r)
 
 -- The causes, in document 01's order: "output below 8,192 bytes, the frame's size regardless", 8, and "a head record that no text yields", 2.
 abbrev pub writeCauses : Head → List Preset → List ℕ → List (Option Refusal)
@@ -33,7 +33,7 @@ writeCauses h ps out = try tooShort (ltb (length out) leastOutput) ∷ try outOf
 -- the refusal, or the length n
 abbrev pub answerOf : Option Refusal → ℕ → Answer
 answerOf none n = written n
-answerOf (some r) n = refused r
+answerOf (some r) n = refused 0 r
 
 -- the output as it was where there is a refusal; else the text t at its start, the "output bytes past what is written" as they were
 abbrev pub outputOf : Option Refusal → List ℕ → List ℕ → List ℕ

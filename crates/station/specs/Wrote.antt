@@ -13,10 +13,10 @@ moved n at k = max at (min (at + k) n)
 -- The bytes bs were written into the output l from the place at on, those past its end left out: it is now l₁, and the next place is r.
 pub record Wrote (l : List ℕ) (at : ℕ) (bs : List ℕ) (l₁ : List ℕ) (r : ℕ) : Type 0 where
   pub output : l₁ ≡ sets l at bs
-  pub place : r ≡ moved (length l) at (length bs)
+  pub position : r ≡ moved (length l) at (length bs)
 
 -- What is still to be written: the bytes b into the output l₁ from the place r on come to the same as the bytes a into the output l from the place at on.
 pub record Left (l : List ℕ) (at : ℕ) (a : List ℕ) (l₁ : List ℕ) (r : ℕ) (b : List ℕ) : Type 0 where
   pub output : sets l₁ r b ≡ sets l at a
-  pub place : moved (length l₁) r (length b) ≡ moved (length l) at (length a)
+  pub position : moved (length l₁) r (length b) ≡ moved (length l) at (length a)
   pub size : length l₁ ≡ length l

@@ -14,10 +14,9 @@ ghost use Prim.Native.Nat.{_+_, _≤_, min};
 ghost use lib.ListN.{drop};
 ghost use Rattle.station.specs.Limits.{mostSlots};
 ghost use Rattle.station.specs.Form.{readBrackets, readJobs};
-ghost use Rattle.station.specs.method.Numeral.{seen};
-ghost use Rattle.station.specs.Jobs.{noJobs};
+ghost use Rattle.station.specs.Jobs.{noJobs, seen};
 ghost use Rattle.station.specs.Writing.{maskTo};
-ghost use Rattle.station.specs.method.Bracket.{noBracket, BracketAt, notOrdered, MaskedSoFar, stretched, takenIn, jobsRead};
+ghost use Rattle.station.specs.method.Bracket.{noBracket, BracketAt, notOrdered, MaskedSoFar, stretched, busyMaskIn, jobsRead};
 
 // A bracket of two numbers: whether one was found, whether it ends the line, its numbers as they are read, and the place of the next one.
 pub struct Bracket {
@@ -36,7 +35,7 @@ pub struct Stretches {
 }
 
 // The stretches of a busy line, if it has its form.
-pub struct Taken {
+pub struct BusyMask {
     pub found: bool,
     pub mask: u64,
     pub ordered: bool,
@@ -74,8 +73,8 @@ fn bracket_at(text: &[u8], at: usize) -> Bracket
     if !first.found {
         return no_bracket();
     }
-    let place = first.next;
-    let second = number_at(text, place);
+    let position = first.next;
+    let second = number_at(text, position);
     if !second.found {
         return no_bracket();
     }
@@ -158,8 +157,8 @@ fn at_most_64(slots: usize) -> u32
 }
 
 // The stretches from `at` to the end of the line, in a frame of `slots` slots, 64 at most.
-pub(crate) fn stretches_at(text: &[u8], at: usize, slots: usize) -> Taken
-    ensures { λ r. ⌜ r ≡ takenIn (min slots mostSlots) (readBrackets (drop at (now (text .entry)))) ⌝ }
+pub(crate) fn stretches_at(text: &[u8], at: usize, slots: usize) -> BusyMask
+    ensures { λ r. ⌜ r ≡ busyMaskIn (min slots mostSlots) (readBrackets (drop at (now (text .entry)))) ⌝ }
 {
     let last = at_most_64(slots);
     let mut s = Stretches {
@@ -171,7 +170,7 @@ pub(crate) fn stretches_at(text: &[u8], at: usize, slots: usize) -> Taken
     loop {
         let b = bracket_at(text, i);
         if !b.found {
-            return Taken {
+            return BusyMask {
                 found: false,
                 mask: 0,
                 ordered: false,
@@ -179,7 +178,7 @@ pub(crate) fn stretches_at(text: &[u8], at: usize, slots: usize) -> Taken
         }
         s = with_stretch(s, b.first, b.second, last);
         if b.last {
-            return Taken {
+            return BusyMask {
                 found: true,
                 mask: s.mask,
                 ordered: s.ordered,

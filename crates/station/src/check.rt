@@ -16,7 +16,7 @@ ghost use mathlib.Core.Bool.{_&&_};
 ghost use lib.ListN.{length};
 ghost use lib.Dec.{eqb, ltb};
 ghost use Rattle.station.specs.Limits.{mostBridges, mostPresets};
-ghost use Rattle.station.specs.Head.{presetOf, frameInLimits, inLimits, allInLimits, allDistinct, masksIn};
+ghost use Rattle.station.specs.Head.{presetOf, frameInLimits, presetInLimits, allInLimits, allDistinct, masksIn};
 ghost use Rattle.station.specs.method.MaskTest.{maskIn};
 ghost use Rattle.station.specs.Types.{presetIn, presetsIn, jobIn, validRecord};
 ghost use Rattle.station.specs.Jobs.{jobInLimits};
@@ -38,7 +38,7 @@ pub(crate) fn frame_in_limits(slots: usize, bridges: usize) -> bool
 
 // The values of a preset, in a record or as they are read, are within their limits.
 pub(crate) fn preset_in_limits(number: u32, priority: u32, mandatory: u32, optional: u32) -> bool
-    ensures { λ r. ⌜ r ≡ inLimits (presetOf number priority mandatory optional) ⌝ }
+    ensures { λ r. ⌜ r ≡ presetInLimits (presetOf number priority mandatory optional) ⌝ }
 {
     ((1 <= number) & (number <= MOST_NUMBER))
         & (priority <= WORST_PRIORITY)
@@ -82,7 +82,7 @@ fn masks_in(busy: [u64; MOST_BRIDGES], bridges: usize, slots: usize) -> bool
 
 // The record of a preset within its limits.
 fn record_in_limits(preset: Preset) -> bool
-    ensures { λ r. ⌜ r ≡ inLimits (presetIn preset) ⌝ }
+    ensures { λ r. ⌜ r ≡ presetInLimits (presetIn preset) ⌝ }
 {
     preset_in_limits(
         preset.number as u32,

@@ -3,7 +3,7 @@
 mod counted; // counted.rt: what the entries do with the records by value, where the list has as many records as are counted
 
 use crate::entries::counted::answer_of;
-use crate::entries::counted::bank_of;
+use crate::entries::counted::presets_of;
 use crate::entries::counted::read_counted;
 use crate::entries::counted::write_counted;
 use crate::heads::ReadAnswer;
@@ -30,8 +30,8 @@ pub fn write_head(head: Head, presets: &[Preset], out: &mut [u8]) -> Writing
     ensures { λ r. ⌜ WroteEntry (length (now (presets .entry))) head (now (presets .entry)) (now (out .entry)) r (now (out .exit)) ⌝ }
 {
     let records = record_count(presets);
-    let bank = load(presets);
-    write_counted(records, head, bank, out)
+    let copied = load(presets);
+    write_counted(records, head, copied, out)
 }
 
 // Reads the head of a text into the list of preset records. Answers the number of the head's lines and bytes, and the head; or the line at fault and the cause, 0 and 10
@@ -41,8 +41,8 @@ pub fn read_head(text: &[u8], head: Head, presets: &mut [Preset]) -> HeadAnswer
     ensures { λ r. ⌜ leftBy r (now (presets .exit)) ≡ entryRead (length (now (presets .entry))) (now (text .entry)) head (now (presets .entry)) ⌝ }
 {
     let records = record_count(presets);
-    let bank = load(presets);
-    let read = read_counted(records, text, head, bank);
-    save(presets, bank_of(read), MOST_PRESETS);
+    let copied = load(presets);
+    let read = read_counted(records, text, head, copied);
+    save(presets, presets_of(read), MOST_PRESETS);
     answer_of(read)
 }

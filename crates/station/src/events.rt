@@ -17,7 +17,7 @@ ghost use Rattle.station.specs.Event.{fault, callEvent, lineEvent, event
 // whatever the table and the clock are.
 pub enum Event {
     SetClock(u32),
-    Place(usize),
+    PlaceJobs(usize),
     Fault(Refusal),
 }
 
@@ -50,7 +50,7 @@ fn call_event(list: Jobs) -> EventRead
     }
     let jobs = list.jobs;
     EventRead {
-        event: Event::Place(n),
+        event: Event::PlaceJobs(n),
         jobs,
     }
 }

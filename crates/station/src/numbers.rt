@@ -3,7 +3,8 @@ ghost use mathlib.Core.Path.{_≡_};
 ghost use Prim.Native.Nat.{_+_, _-_, _*_, _≤_};
 ghost use lib.ListN.{drop};
 ghost use Rattle.station.specs.Form.{starts};
-ghost use Rattle.station.specs.method.Numeral.{seen, leads, closes, noNumeral, numeralAt, numeralThen, numeralLast};
+ghost use Rattle.station.specs.method.Numeral.{leads, closes, noNumeral, numeralAt, numeralThen, numeralLast};
+ghost use Rattle.station.specs.Jobs.{seen};
 
 // What reading a number found: its value, which stops at 65,535, and the place after it.
 pub struct Numeral {

@@ -39,13 +39,13 @@ fn places_before(len: usize, bytes: usize) -> usize
 fn word_by_bytes(out: &mut [u8], at: usize, text: &[u8]) -> usize
     ensures { λ r. ⌜ Wrote (now (out .entry)) at (now (text .entry)) (now (out .exit)) r ⌝ }
 {
-    let mut place = at;
+    let mut position = at;
     let mut i = 0;
     while i < text.len() {
-        place = put(out, place, text[i]);
+        position = put(out, position, text[i]);
         i += 1;
     }
-    place
+    position
 }
 
 // Writes the bytes of a text at a place. Answers the next place. Small enough for a compiler to put in its caller's place, where a text that is known becomes one

@@ -1,5 +1,5 @@
-// The preset records of a borrowed slice: their number, one of them, and the first 32 by value, the bank. The functions that take the slice only copy records out of it
-// or into it: what works on records takes the bank.
+// The preset records of a borrowed slice: their number, one of them, and the first 32 by value, the copied. The functions that take the slice only copy records out of it
+// or into it: what works on records takes the copied.
 use crate::limits::MOST_PRESETS;
 use crate::types::NO_PRESETS;
 use crate::types::NO_RECORD;
@@ -13,13 +13,13 @@ ghost use Rattle.station.specs.Records.{loaded, saved};
 
 // The records with one of them replaced; past the end there is none, and they stay as they are.
 pub(crate) fn with_record(
-    bank: [Preset; MOST_PRESETS],
+    copied: [Preset; MOST_PRESETS],
     at: usize,
     given: Preset,
 ) -> [Preset; MOST_PRESETS]
-    ensures { λ r. ⌜ r ≡ set bank at given ⌝ }
+    ensures { λ r. ⌜ r ≡ set copied at given ⌝ }
 {
-    let mut after = bank;
+    let mut after = copied;
     if at < MOST_PRESETS {
         after[at] = given;
     }
@@ -52,12 +52,12 @@ fn set_record(presets: &mut [Preset], i: usize, given: Preset)
     }
 }
 
-// The record of the bank at a place; past the end the record of zeros.
-fn bank_at(bank: [Preset; MOST_PRESETS], at: usize) -> Preset
-    ensures { λ r. ⌜ r ≡ getD bank at noRecord ⌝ }
+// The record of the copied at a place; past the end the record of zeros.
+fn copied_at(copied: [Preset; MOST_PRESETS], at: usize) -> Preset
+    ensures { λ r. ⌜ r ≡ getD copied at noRecord ⌝ }
 {
     if at < MOST_PRESETS {
-        return bank[at];
+        return copied[at];
     }
     NO_RECORD
 }
@@ -73,13 +73,13 @@ fn no_records() -> [Preset; MOST_PRESETS]
 pub fn load(presets: &[Preset]) -> [Preset; MOST_PRESETS]
     ensures { λ r. ⌜ r ≡ loaded (now (presets .entry)) ⌝ }
 {
-    let mut bank = no_records();
+    let mut copied = no_records();
     let mut i = 0;
     while i < MOST_PRESETS {
-        bank = with_record(bank, i, record_at(presets, i));
+        copied = with_record(copied, i, record_at(presets, i));
         i += 1;
     }
-    bank
+    copied
 }
 
 // The smaller of a number and 32.
@@ -89,14 +89,14 @@ fn at_most_32(n: usize) -> usize
     if n < MOST_PRESETS { n } else { MOST_PRESETS }
 }
 
-// The first n records of the bank go back to the front of the list, as far as both have them; every other record stays.
-pub fn save(presets: &mut [Preset], bank: [Preset; MOST_PRESETS], n: usize)
-    ensures { λ _. ⌜ now (presets .exit) ≡ saved (now (presets .entry)) bank n ⌝ }
+// The first n records of the copied go back to the front of the list, as far as both have them; every other record stays.
+pub fn save(presets: &mut [Preset], copied: [Preset; MOST_PRESETS], n: usize)
+    ensures { λ _. ⌜ now (presets .exit) ≡ saved (now (presets .entry)) copied n ⌝ }
 {
     let count = at_most_32(n);
     let mut i = 0;
     while i < count {
-        set_record(presets, i, bank_at(bank, i));
+        set_record(presets, i, copied_at(copied, i));
         i += 1;
     }
 }

@@ -29,7 +29,7 @@ ghost use Rattle.station.specs.Wrote.{Wrote};
 // How writing a head ends: the length of the text, or the cause for which nothing was written.
 pub enum Writing {
     Written(usize),
-    Refused(Refusal),
+    Refused(usize, Refusal),
 }
 
 // Writes the frame line, `(frame S B)`. Answers the next place.
@@ -92,15 +92,15 @@ fn bracket(out: &mut [u8], at: usize, first: u8, last: u8, more: bool) -> usize
 fn stretch_list(out: &mut [u8], at: usize, mask: u64) -> usize
     ensures { λ r. ⌜ Wrote (now (out .entry)) at (bracketsOf (stretches mostSlots 1 mask)) (now (out .exit)) r ⌝ }
 {
-    let mut place = at;
+    let mut position = at;
     let mut from = next_busy(mask, 0);
     while from < MOST_SLOTS {
         let to = next_free(mask, from);
         let next = next_busy(mask, to);
-        place = bracket(out, place, (from + 1) as u8, to as u8, next < MOST_SLOTS);
+        position = bracket(out, position, (from + 1) as u8, to as u8, next < MOST_SLOTS);
         from = next;
     }
-    place
+    position
 }
 
 // Writes the busy line of a bridge, `(busy b (f t) (f t))`; nothing where no slot of it is busy. Answers the next place.
@@ -120,13 +120,13 @@ fn busy_line(out: &mut [u8], at: usize, bridge: u8, mask: u64) -> usize
 fn busy_lines(out: &mut [u8], at: usize, busy: [u64; MOST_BRIDGES]) -> usize
     ensures { λ r. ⌜ Wrote (now (out .entry)) at (join (map print (busyLines 1 busy))) (now (out .exit)) r ⌝ }
 {
-    let mut place = at;
+    let mut position = at;
     let mut b = 0;
     while b < MOST_BRIDGES {
-        place = busy_line(out, place, (b + 1) as u8, busy[b]);
+        position = busy_line(out, position, (b + 1) as u8, busy[b]);
         b += 1;
     }
-    place
+    position
 }
 
 // Writes a preset line, `(preset n p m o)`. Answers the next place.
@@ -150,14 +150,14 @@ fn preset_lines(out: &mut [u8], at: usize, presets: [Preset; MOST_PRESETS], coun
     requires { ⌜ count ≤ mostPresets ⌝ }
     ensures { λ r. ⌜ Wrote (now (out .entry)) at (join (map print (map presetLine (presetsIn count presets)))) (now (out .exit)) r ⌝ }
 {
-    let mut place = at;
+    let mut position = at;
     let mut i = 0;
     while i < count {
         let preset = presets[i];
-        place = preset_line(out, place, preset);
+        position = preset_line(out, position, preset);
         i += 1;
     }
-    place
+    position
 }
 
 // Writes the text of a valid head record at the start of the output. Answers the place after it.
@@ -180,10 +180,10 @@ pub fn write_head_by_value(head: Head, presets: [Preset; MOST_PRESETS], out: &mu
     ensures { λ r. ⌜ WroteHead head presets (now (out .entry)) r (now (out .exit)) ⌝ }
 {
     if out.len() < LEAST_OUTPUT {
-        return Writing::Refused(Refusal::TooShort);
+        return Writing::Refused(0, Refusal::TooShort);
     }
     if !valid_record(head, presets) {
-        return Writing::Refused(Refusal::OutOfLimits);
+        return Writing::Refused(0, Refusal::OutOfLimits);
     }
     Writing::Written(head_text(head, presets, out))
 }

@@ -1,7 +1,7 @@
 -- `call_by_value` and `call_by_counts`, law by law.
 --
 -- In order: the cells of a call's jobs (`cells-are`); the carrying out; the outcome where a cause of the frame is met (`frame-refused`), and on a running frame
--- a law for each answer (`counted-refused`, `counted-done`); the counts afterwards (`counted-after`). The causes of the frame are in check/FrameCauses.antt, those of the call in counts/causes/CallCauses.antt.
+-- a law for each answer (`counted-refused`, `counted-done`); the counts afterwards (`counted-after`); the frame afterwards (`call-running`, `done-running`). The causes of the frame are in check/FrameCauses.antt, those of the call in counts/causes/CallCauses.antt.
 -- Assumes nothing.
 use Prim.Native.Nat.{ℕ, _+_, _%_, _≤_, _<_}
 use native.Mathlib.Omega.{arith}
@@ -29,17 +29,17 @@ use Rattle.placing.specs.declared.check.Cause.the-variants.{Met, Passed}
 use Rattle.placing.specs.declared.call.CallAnswer as reply
 use Rattle.placing.specs.declared.call.CallAnswer.the-variants.{Taken, Refused}
 use Rattle.placing.specs.Table.{cell, callCell}
-use Rattle.placing.specs.State.{State}
+use Rattle.placing.specs.State.{State, stateOf}
 use Rattle.placing.specs.Valid.{jobAt}
 use Rattle.placing.specs.Call.{lengths, evictedSet, callFits}
 use Rattle.placing.specs.Types.{jobsIn}
 use Rattle.placing.specs.method.Jobs.{jobNumber}
-use Rattle.placing.specs.method.Limits.{inLimits}
-use Rattle.placing.specs.method.Rule.{placedIn, placedWithin}
+use Rattle.placing.specs.method.Limits.{sizesInLimits}
+use Rattle.placing.specs.method.Rule.{placeable, placedIn, placedWithin}
 use Rattle.placing.specs.method.Search.{Evicts}
-use Rattle.placing.specs.Outcomes.{frameCauses, jobsOutside, jobCauses, callCauses, CallAnswer, CallOutcome, calledState, callOf}
+use Rattle.placing.specs.Outcomes.{cost, costOf, frameCauses, jobsOutside, jobCauses, callCauses, CallAnswer, CallOutcome, calledState, callOf}
 use Rattle.placing.specs.Causes.{causeIn, callJobs, causesOf, frameCausesOf}
-use Rattle.placing.specs.CallDone.{callMeant, carriedOut, CarriedOut, CallDone}
+use Rattle.placing.specs.CallDone.{callMeant, CallDone}
 use Rattle.placing.proofs.Causes.{of-running}
 use Rattle.placing.proofs.check.FrameCauses.{causes-none, eleven, same-frame}
 use Rattle.placing.specs.method.Counts.{CountsOf, CapacitiesAt, MarkedBeside}
@@ -51,6 +51,7 @@ use Rattle.placing.proofs.HeadRecord.{record-valid}
 use Rattle.placing.specs.Claims.{Running}
 use Rattle.placing.proofs.rule.SlotsPlaced.{placed-within}
 use Rattle.placing.proofs.rule.PlacedFrame.{placed-called}
+use Rattle.placing.specs.method.CallParts.{callCarriedOut, CallCarriedOut}
 
 -- ---- the cells of a call's jobs
 
@@ -64,20 +65,20 @@ cells-are js long n few e cells h i l =
 
 module _ (h : Head) (jobs : List Job) (st : State) where
   abbrev notFeasible : CallOutcome
-  notFeasible = record { answer = CallAnswer.refused callNotFeasible; after = st }
+  notFeasible = record { answer = CallAnswer.refused 0 callNotFeasible; after = st }
 
   abbrev takenBy : CallOutcome
-  takenBy = record { answer = CallAnswer.taken (ones (evictedSet h (st .clock) jobs (cell h (st .table)))); after = calledState h jobs st }
+  takenBy = record { answer = CallAnswer.taken (costOf h jobs st); after = calledState h jobs st }
 
-  carried-no : callFits h (st .clock) jobs (cell h (st .table)) ≡ false → carriedOut h jobs st ≡ notFeasible
-  unfolding carriedOut
+  carried-no : callFits h (st .clock) jobs (cell h (st .table)) ≡ false → callCarriedOut h jobs st ≡ notFeasible
+  unfolding callCarriedOut
   carried-no e = rw e refl
 
-  carried-yes : callFits h (st .clock) jobs (cell h (st .table)) ≡ true → carriedOut h jobs st ≡ takenBy
-  unfolding carriedOut
+  carried-yes : callFits h (st .clock) jobs (cell h (st .table)) ≡ true → callCarriedOut h jobs st ≡ takenBy
+  unfolding callCarriedOut
   carried-yes e = rw e refl
 
-  pub carried-refused : callFits h (st .clock) jobs (cell h (st .table)) ≡ false → CarriedOut h jobs st (st .table) (Refused CallNotFeasible)
+  pub carried-refused : callFits h (st .clock) jobs (cell h (st .table)) ≡ false → CallCarriedOut h jobs st (st .table) (Refused 0 CallNotFeasible)
   carried-refused e =
       record {
         answer = sym (ap (λ (o : CallOutcome). o .answer) (carried-no e));
@@ -85,18 +86,18 @@ module _ (h : Head) (jobs : List Job) (st : State) where
       }
 
   pub carried-taken : (found : Evicted) → Evicts h (st .clock) jobs (cell h (st .table)) found → found .fits ≡ true → (needs : List ℕ) (k : ℕ) (late : List ℕ) {u : List ℕ}
-      → inLimits (h .slots) (h .bridges) k (length (st .table)) ≡ true
+      → placeable (h .slots) (h .bridges) needs k (length (st .table)) ≡ true
       → lengths jobs ≡ take k needs
       → ((i : ℕ) → i < length jobs → at late i ≡ callCell (jobAt jobs i .number))
-      → u ≡ placedWithin (h .slots) (h .bridges) (found .free) needs k (replicate 32 0) late late (st .table)
-      → CarriedOut h jobs st u (Taken (found .count))
+      → u ≡ placedWithin (h .slots) (h .bridges) (found .free) needs k (replicate 64 0) late late (st .table)
+      → CallCarriedOut h jobs st u (Taken (found .count))
   carried-taken found ev fits needs k late {u} limits en el eu =
       record {
-        answer = ap CallAnswer.taken (ev .count) ∙ sym (ap (λ (o : CallOutcome). o .answer) (carried-yes yes));
+        answer = ap (λ (n : ℕ). CallAnswer.taken (cost n)) (ev .count) ∙ sym (ap (λ (o : CallOutcome). o .answer) (carried-yes yes));
         table = eu
-            ∙ placed-within (h .slots) (h .bridges) (found .free) needs k (replicate 32 0) late late (st .table) limits
-            ∙ ap (λ (c : List ℕ). placedIn (h .slots) (h .bridges) (found .free) c (replicate 32 0) late late (st .table)) (sym en)
-            ∙ placed-called h (st .clock) jobs (found .free) (replicate 32 0) late late (st .table) (ev .free) (λ i l. zeros 32 i) el
+            ∙ placed-within (h .slots) (h .bridges) (found .free) needs k (replicate 64 0) late late (st .table) limits
+            ∙ ap (λ (c : List ℕ). placedIn (h .slots) (h .bridges) (found .free) c (replicate 64 0) late late (st .table)) (sym en)
+            ∙ placed-called h (st .clock) jobs (found .free) (replicate 64 0) late late (st .table) (ev .free) (λ i l. zeros 64 i) el
             ∙ sym (ap (λ (o : CallOutcome). o .after .table) (carried-yes yes));
       }
     where
@@ -107,7 +108,7 @@ module _ (h : Head) (jobs : List Job) (st : State) where
 
 module _ (h : Head) (jobs : List Job) (st : State) where
   of-stopped : (r : Refusal) → firstOf (frameCauses h st ++ callCauses h (st .clock) jobs (cell h (st .table))) ≡ some r
-      → callOf h jobs st ≡ record { answer = CallAnswer.refused r; after = st }
+      → callOf h jobs st ≡ record { answer = CallAnswer.refused 0 r; after = st }
   unfolding callOf
   of-stopped r e = rw (e, callOf) refl
 
@@ -119,7 +120,7 @@ module _ (head : record-of-head.Head) (ps : List record-of-preset.Preset) (jobs 
   abbrev h″ : Head
   h″ = headIn head ps
 
-  meant-stopped : (r : Refusal) → firstOf (causesOf head ps (st .table)) ≡ some r → callMeant head ps jobs st ≡ record { answer = CallAnswer.refused r; after = st }
+  meant-stopped : (r : Refusal) → firstOf (causesOf head ps (st .table)) ≡ some r → callMeant head ps jobs st ≡ record { answer = CallAnswer.refused 0 r; after = st }
   unfolding callMeant
   meant-stopped r e = rw (e, callMeant) refl
 
@@ -129,10 +130,10 @@ module _ (head : record-of-head.Head) (ps : List record-of-preset.Preset) (jobs 
 
   -- a cause of the frame is met
   call-stopped : (r : Refusal) → firstOf (frameCausesOf head ps st) ≡ some r
-      → callMeant head ps jobs st ≡ record { answer = CallAnswer.refused r; after = st }
+      → callMeant head ps jobs st ≡ record { answer = CallAnswer.refused 0 r; after = st }
   call-stopped r e = go (firstOf (causesOf head ps (st .table))) refl
     where
-      go : (o : Option Refusal) → firstOf (causesOf head ps (st .table)) ≡ o → callMeant head ps jobs st ≡ record { answer = CallAnswer.refused r; after = st }
+      go : (o : Option Refusal) → firstOf (causesOf head ps (st .table)) ≡ o → callMeant head ps jobs st ≡ record { answer = CallAnswer.refused 0 r; after = st }
       go none q =
           meant-call q
           ∙ of-stopped h″ jobs st r
@@ -143,13 +144,13 @@ module _ (head : record-of-head.Head) (ps : List record-of-preset.Preset) (jobs 
 
   -- ---- a law for each answer
 
-  refused-done : (q : refusal.Refusal) → callMeant head ps jobs st ≡ record { answer = CallAnswer.refused (refusalIn q); after = st }
-      → CallDone head ps jobs st (st .table) (Refused q)
+  refused-done : (q : refusal.Refusal) → callMeant head ps jobs st ≡ record { answer = CallAnswer.refused 0 (refusalIn q); after = st }
+      → CallDone head ps jobs st (st .table) (Refused 0 q)
   refused-done q e =
       record { answer = sym (ap (λ (o : CallOutcome). o .answer) e); table = sym (ap (λ (o : CallOutcome). o .after .table) e) }
 
   -- a cause of the frame is met
-  pub frame-refused : {w : cause.Cause} (q : refusal.Refusal) → causeIn w ≡ firstOf (frameCausesOf head ps st) → w ≡ Met q → CallDone head ps jobs st (st .table) (Refused q)
+  pub frame-refused : {w : cause.Cause} (q : refusal.Refusal) → causeIn w ≡ firstOf (frameCausesOf head ps st) → w ≡ Met q → CallDone head ps jobs st (st .table) (Refused 0 q)
   frame-refused q e m = refused-done q (call-stopped (refusalIn q) (sym e ∙ ap causeIn m))
 
   module _ (v : validRecord head ps ≡ true) (run : Running h″ st) where
@@ -163,7 +164,7 @@ module _ (head : record-of-head.Head) (ps : List record-of-preset.Preset) (jobs 
     meant = meant-call (causes-none head ps (st .table) (run .long) v)
 
     -- a cause of the call is met
-    pub counted-refused : {w : cause.Cause} (q : refusal.Refusal) → causeIn w ≡ firstOf own → w ≡ Met q → CallDone head ps jobs st (st .table) (Refused q)
+    pub counted-refused : {w : cause.Cause} (q : refusal.Refusal) → causeIn w ≡ firstOf own → w ≡ Met q → CallDone head ps jobs st (st .table) (Refused 0 q)
     counted-refused q e m = refused-done q (meant ∙ of-stopped h″ jobs st (refusalIn q) (only-own ∙ sym e ∙ ap causeIn m))
 
     -- none is, so that the call fits
@@ -176,21 +177,21 @@ module _ (head : record-of-head.Head) (ps : List record-of-preset.Preset) (jobs 
         seven = try callNotFeasible (not (callFits h″ (st .clock) jobs (cell h″ (st .table)))) ∷ []
 
     pub counted-done : {w : cause.Cause} {js : List Job} {u : List ℕ} {r : reply.CallAnswer} → causeIn w ≡ firstOf own → w ≡ Passed → jobs ≡ js
-        → CarriedOut h″ js st u r → CallDone head ps jobs st u r
+        → CallCarriedOut h″ js st u r → CallDone head ps jobs st u r
     counted-done {w} {js} {u} {r} e m same d =
         let free = sym e ∙ ap causeIn m in
-        let o : callMeant head ps jobs st ≡ carriedOut h″ js st =
+        let o : callMeant head ps jobs st ≡ callCarriedOut h″ js st =
         meant
         ∙ of-passed h″ jobs st (only-own ∙ free)
         ∙ sym (carried-yes h″ jobs st (fits free))
-        ∙ ap (λ (l : List Job). carriedOut h″ l st) same in
+        ∙ ap (λ (l : List Job). callCarriedOut h″ l st) same in
         record {
           answer = d .answer ∙ sym (ap (λ (x : CallOutcome). x .answer) o);
           table = d .table ∙ sym (ap (λ (x : CallOutcome). x .after .table) o);
         }
 
     -- the answer and the table of a call that none is met by
-    counted-answer : {w : cause.Cause} → causeIn w ≡ firstOf own → w ≡ Passed → callOf h″ jobs st .answer ≡ CallAnswer.taken (ones (evictedSet h″ (st .clock) jobs (cell h″ (st .table))))
+    counted-answer : {w : cause.Cause} → causeIn w ≡ firstOf own → w ≡ Passed → callOf h″ jobs st .answer ≡ CallAnswer.taken (costOf h″ jobs st)
     counted-answer e m = ap (λ (o : CallOutcome). o .answer) (of-passed h″ jobs st (only-own ∙ sym e ∙ ap causeIn m))
 
     counted-table : {u : List ℕ} {r : reply.CallAnswer} → CallDone head ps jobs st u r → u ≡ callOf h″ jobs st .after .table
@@ -203,11 +204,11 @@ pub counted-after : (head : record-of-head.Head) (ps : List record-of-preset.Pre
     → validRecord head ps ≡ true → Running (headIn head ps) st
     → {w : cause.Cause} → causeIn w ≡ firstOf (callCauses (headIn head ps) (st .clock) (callJobs n js) (cell (headIn head ps) (st .table))) → w ≡ Passed
     → {u : List ℕ} {r : reply.CallAnswer} → CallDone head ps (callJobs n js) st u r
-    → {marks after xs ys : List ℕ} {held : ℕ} → CountsOf (headIn head ps) (st .clock) (cell (headIn head ps) (st .table)) marks held xs
+    → {marks after xs ys : List ℕ} {admitted : ℕ} → CountsOf (headIn head ps) (st .clock) (cell (headIn head ps) (st .table)) marks admitted xs
     → (length marks ≡ 256 → n ≤ 8 → MarkedBeside (λ i. jobNumber js i % 256) marks n after)
-    → (inLimits (head .slots) (head .bridges) 0 (length u) ≡ true → CapacitiesAt u (head .slots) (head .bridges) (st .clock) ys)
-    → CountsOf (headIn head ps) (st .clock) (cell (headIn head ps) u) after (held + n) ys
-counted-after head ps js n st long v run e m {u} d {after = after} {ys = ys} {held = held} was marks counted =
+    → (sizesInLimits (head .slots) (head .bridges) 0 (length u) ≡ true → CapacitiesAt u (head .slots) (head .bridges) (st .clock) ys)
+    → CountsOf (headIn head ps) (st .clock) (cell (headIn head ps) u) after (admitted + n) ys
+counted-after head ps js n st long v run e m {u} d {after = after} {ys = ys} {admitted = admitted} was marks counted =
     let h = headIn head ps in
     let valid = record-valid head ps v in
     let known = cause-known js long n h (st .clock) (cell h (st .table)) (sym e ∙ ap causeIn m) in
@@ -217,6 +218,36 @@ counted-after head ps js n st long v run e m {u} d {after = after} {ys = ys} {he
     let taken = ap (λ (l : List Job). callOf h l st .answer) (sym same) ∙ counted-answer head ps (callJobs n js) st v run e m in
     let size : 512 ≤ length u = omega (arith, ap length table, call-claim h (jobsIn n js) st .past .long, run .long) in
     let free = counted (in-limits (head .slots) (head .bridges) 0 (length u) (valid .slots-high) (valid .bridges-high) (omega arith) size) in
-    subst (λ (l : List ℕ). CountsOf h (st .clock) (cell h l) after (held + n) ys) (sym table)
+    subst (λ (l : List ℕ). CountsOf h (st .clock) (cell h l) after (admitted + n) ys) (sym table)
     (counts-taken h st js long n (known .0) (known .1) taken was (marks (was .marks-long) (known .0))
     (subst (λ (l : List ℕ). CapacitiesAt l (head .slots) (head .bridges) (st .clock) ys) table free))
+
+-- ---- the frame afterwards
+
+-- A running frame is one after a call: what a call that is taken leaves is well-formed.
+pub call-running : (h : Head) (jobs : List Job) (st : State) → Running h st → Running h (stateOf (callOf h jobs st .after .table) (st .clock))
+call-running h jobs st run = go (firstOf (frameCauses h st ++ callCauses h (st .clock) jobs (cell h (st .table)))) refl
+  where
+    go : (o : Option Refusal) → firstOf (frameCauses h st ++ callCauses h (st .clock) jobs (cell h (st .table))) ≡ o
+        → Running h (stateOf (callOf h jobs st .after .table) (st .clock))
+    go none e =
+        let claim = call-claim h jobs st in
+        let taken = ap (λ (o : CallOutcome). o .answer) (of-passed h jobs st e) in
+        record {
+          long = omega (arith, run .long, claim .past .long);
+          valid = run .valid;
+          wellFormed = record { cells = claim .valid (costOf h jobs st) taken .wellFormed; clock = run .wellFormed .clock };
+        }
+    go (some r) e = rw (of-stopped h jobs st r e) run
+
+pub done-running : (head : record-of-head.Head) (ps : List record-of-preset.Preset) (jobs : List Job) (st : State) {u : List ℕ} {r : reply.CallAnswer}
+    → CallDone head ps jobs st u r → Running (headIn head ps) st → Running (headIn head ps) (stateOf u (st .clock))
+done-running head ps jobs st {u} d run = go (firstOf (causesOf head ps (st .table))) refl
+  where
+    left-by : (o : CallOutcome) → callMeant head ps jobs st ≡ o → Running (headIn head ps) (stateOf (o .after .table) (st .clock)) → Running (headIn head ps) (stateOf u (st .clock))
+    left-by o e after =
+        subst (λ (t : List ℕ). Running (headIn head ps) (stateOf t (st .clock))) (sym (d .table ∙ ap (λ (x : CallOutcome). x .after .table) e)) after
+
+    go : (o : Option Refusal) → firstOf (causesOf head ps (st .table)) ≡ o → Running (headIn head ps) (stateOf u (st .clock))
+    go none q = left-by (callOf (headIn head ps) jobs st) (meant-call head ps jobs st q) (call-running (headIn head ps) jobs st run)
+    go (some r) q = left-by (record { answer = CallAnswer.refused 0 r; after = st }) (meant-stopped head ps jobs st r q) run

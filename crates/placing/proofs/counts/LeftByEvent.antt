@@ -16,7 +16,7 @@ use Rattle.station.specs.declared.types.Job as record-job
 use Rattle.placing.specs.Table.{cell, isUsed}
 use Rattle.placing.specs.State.{State}
 use Rattle.placing.specs.Types.{jobsIn}
-use Rattle.placing.specs.Outcomes.{jobsOutside, CallAnswer, callOf}
+use Rattle.placing.specs.Outcomes.{Cost, jobsOutside, CallAnswer, callOf}
 use Rattle.placing.proofs.UsedNumbers.{numberOf, isOneOf, left-isUsed, left-jobCount}
 use Rattle.placing.proofs.ClaimsHold.{call-accepted, call-claim}
 use Rattle.placing.specs.method.Jobs.{jobNumber}
@@ -26,8 +26,8 @@ use Rattle.placing.proofs.counts.usable.UsableCells.{capacity-is}
 use Rattle.placing.proofs.counts.causes.CallCauses.{jobs-length, number-of, inside-number}
 
 -- the clock moved
-pub counts-passed : (h : Head) (c d : ℕ) (t : List ℕ) {u xs ys : List ℕ} {held : ℕ} → CountsOf h c (cell h t) u held xs
-    → (CapacitiesAt t (h .slots) (h .bridges) c xs → CapacitiesAt t (h .slots) (h .bridges) d ys) → CountsOf h d (cell h t) u held ys
+pub counts-passed : (h : Head) (c d : ℕ) (t : List ℕ) {u xs ys : List ℕ} {admitted : ℕ} → CountsOf h c (cell h t) u admitted xs
+    → (CapacitiesAt t (h .slots) (h .bridges) c xs → CapacitiesAt t (h .slots) (h .bridges) d ys) → CountsOf h d (cell h t) u admitted ys
 counts-passed h c d t was passed =
     let x = passed (record { long = was .long; right = λ k l. was .capacities k l ∙ sym (capacity-is h c t k) }) in
     record {
@@ -54,12 +54,12 @@ module _ (h : Head) (st : State) (js : List record-job.Job) (long : length js �
       let same : numberOf jobs i ≡ jobNumber js i % 256 = omega (arith, number-of js long n few i l) in
       ap (λ (k : ℕ). eqb k m) same))
 
-  pub counts-taken : {q : ℕ} {marks after xs ys : List ℕ} {held : ℕ} → callOf h jobs st .answer ≡ CallAnswer.taken q
-      → CountsOf h (st .clock) (cell h (st .table)) marks held xs
+  pub counts-taken : {q : Cost} {marks after xs ys : List ℕ} {admitted : ℕ} → callOf h jobs st .answer ≡ CallAnswer.taken q
+      → CountsOf h (st .clock) (cell h (st .table)) marks admitted xs
       → MarkedBeside (λ i. jobNumber js i % 256) marks n after
       → CapacitiesAt (callOf h jobs st .after .table) (h .slots) (h .bridges) (st .clock) ys
-      → CountsOf h (st .clock) (cell h (callOf h jobs st .after .table)) after (held + n) ys
-  counts-taken {q} {marks} {held = held} taken was beside x =
+      → CountsOf h (st .clock) (cell h (callOf h jobs st .after .table)) after (admitted + n) ys
+  counts-taken {q} {marks} {admitted = admitted} taken was beside x =
       let known = call-accepted h jobs st q taken in
       let u = cell h (callOf h jobs st .after .table) in
       let valid = call-claim h jobs st .valid q taken in

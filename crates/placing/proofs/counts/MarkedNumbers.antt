@@ -176,8 +176,8 @@ module _ (h : Head) (clock : ℕ) (t : List ℕ) {u : List ℕ} (m : Marked t (h
   job-marked n l =
       m .which n l ∙ ap (λ (k : ℕ). ltb 0 k) (sum-rows (h .slots) (h .bridges) (λ i. bit (eqb (getD t i 0) (callCell n))))
 
-  pub counts-of : {w xs : List ℕ} {held : ℕ} → length w ≡ 256 → ((n : ℕ) → n < 256 → marked w n ≡ (hasPreset h n || marked u n)) → held ≡ count 256 (marked u)
-      → CapacitiesAt t (h .slots) (h .bridges) clock xs → CountsOf h clock (cell h t) w held xs
+  pub counts-of : {w xs : List ℕ} {admitted : ℕ} → length w ≡ 256 → ((n : ℕ) → n < 256 → marked w n ≡ (hasPreset h n || marked u n)) → admitted ≡ count 256 (marked u)
+      → CapacitiesAt t (h .slots) (h .bridges) clock xs → CountsOf h clock (cell h t) w admitted xs
   counts-of size numbers many x =
       record {
         marks-long = size;

@@ -28,24 +28,26 @@ use Rattle.station.specs.declared.types.Refusal.the-variants.{OutOfLimits, Mand
 use Rattle.placing.specs.Table.{busyCell, Each, cell, presetCount, mandatoryCell, optionalCell}
 use Rattle.placing.specs.Plan.{mandatories, planFree, planFits, needs, grants, planned}
 use Rattle.placing.specs.method.Records.{recordAt}
-use Rattle.placing.specs.method.Grants.{filled, freeMasks, GrantedTo}
+use Rattle.placing.specs.method.Grants.{freeMasks, GrantedTo}
 use Rattle.placing.specs.method.Rule.{placedIn, placedWithin}
 use Rattle.placing.specs.Outcomes.{PlanAnswer, PlanOutcome, planCauses, planOf, written}
 use Rattle.placing.specs.Causes.{causesOf}
-use Rattle.placing.specs.PlanDone.{busyTo, planMeant, PlanDone, repliedIn, grantsIn}
+use Rattle.placing.specs.PlanDone.{planMeant, PlanDone, repliedIn, grantsIn}
 use Rattle.placing.specs.declared.grants.Granted as answer
 use Rattle.placing.specs.declared.plan.Planned as result
 use Rattle.placing.specs.declared.plan.PlanAnswer.the-variants.{Granted, Refused}
 use Rattle.placing.proofs.Causes.{met, recordCauses, no-record-cause}
 use Rattle.placing.proofs.check.FrameCauses.{causes-none}
 use Rattle.placing.proofs.PlanTheorem.{at-mandatories}
-use Rattle.placing.proofs.limits.Within.{in-limits}
+use Rattle.placing.proofs.rule.SlotsPlaced.{is-placeable}
 use Rattle.placing.proofs.rule.SlotsPlaced.{frame-within, placed-within}
 use Rattle.placing.proofs.WrittenTable.{place-below}
 use Rattle.placing.proofs.rule.PlacedFrame.{placed-planned}
 use Rattle.placing.proofs.HeadRecord.{count-high, record-valid, presets-count, preset-of}
-use Rattle.placing.proofs.grants.Computed.{free-at, granted-at, granted-needs, needs-length}
+use Rattle.placing.proofs.grants.Computed.{free-at, granted-at, granted-needs, needs-length, needs-high}
 use Rattle.placing.proofs.grants.Arrays.{filled-at, filled-ext, take-filled}
+use Rattle.placing.specs.Types.{filled}
+use Rattle.placing.specs.method.PlanParts.{busyTo}
 
 -- ---- a table whose first cells were made busy
 
@@ -107,23 +109,23 @@ module _ (head : record-of-head.Head) (ps : List record-of-preset.Preset) (long 
 
   -- what stands in an array filled from the preset records
   of-preset : (f : Preset → ℕ) (p : record-of-preset.Preset → ℕ) → ((i : ℕ) → i < head .count → p (recordAt ps i) ≡ f (presetAt h i))
-      → {l : List ℕ} → l ≡ filled 32 (head .count) (λ i. p (recordAt ps i)) → (i : ℕ) → i < presetCount h → at l i ≡ f (presetAt h i)
+      → {l : List ℕ} → l ≡ filled 64 (head .count) (λ i. p (recordAt ps i)) → (i : ℕ) → i < presetCount h → at l i ≡ f (presetAt h i)
   of-preset f p agree {l} e i m =
       let k : i < head .count = omega (arith, same) in
-      ap (λ (q : List ℕ). at q i) e ∙ filled-at 32 (head .count) (λ j. p (recordAt ps j)) i k (count-high head ps v) ∙ agree i k
+      ap (λ (q : List ℕ). at q i) e ∙ filled-at 64 (head .count) (λ j. p (recordAt ps j)) i k (omega (arith, count-high head ps v)) ∙ agree i k
 
   pub plan-written : (t : List ℕ) {u masks first early late : List ℕ} → 512 ≤ length t
       → u ≡ busyTo t (head .slots * head .bridges)
       → masks ≡ freeMasks (head .slots) (head .bridges) (head .busy)
-      → first ≡ filled 32 (head .count) (λ i. recordAt ps i .mandatory)
-      → early ≡ filled 32 (head .count) (λ i. 512 + recordAt ps i .number)
-      → late ≡ filled 32 (head .count) (λ i. 768 + recordAt ps i .number)
+      → first ≡ filled 64 (head .count) (λ i. recordAt ps i .mandatory)
+      → early ≡ filled 64 (head .count) (λ i. 512 + recordAt ps i .number)
+      → late ≡ filled 64 (head .count) (λ i. 768 + recordAt ps i .number)
       → placedWithin (head .slots) (head .bridges) masks (r .needs) (head .count) first early late u ≡ written h (planned h) t
   unfolding written
   plan-written t {u} {masks} {first} {early} {late} enough eu em ef ee el =
       placed-within (head .slots) (head .bridges) masks (r .needs) (head .count) first early late u
-      (in-limits (head .slots) (head .bridges) (head .count) (length u) (record-valid head ps v .slots-high) (record-valid head ps v .bridges-high) (count-high head ps v)
-      (omega (arith, ap length eu, busy-length t (head .slots * head .bridges))))
+      (is-placeable (head .slots) (head .bridges) (r .needs) (head .count) (length u) (record-valid head ps v .slots-high) (record-valid head ps v .bridges-high)
+      (omega (arith, count-high head ps v)) (omega (arith, ap length eu, busy-length t (head .slots * head .bridges))) low)
       ∙ ap (λ (c : List ℕ). placedIn (head .slots) (head .bridges) masks c first early late u) needs-are
       ∙ placed-planned h masks first early late u (needs-length h r g start few)
       (λ s l. ap (λ (q : List ℕ). at q s) em ∙ free-at head ps s (record-valid head ps v .slots-high) l)
@@ -133,6 +135,11 @@ module _ (head : record-of-head.Head) (ps : List record-of-preset.Preset) (long 
       busy
       ∙ ap (λ (q : List ℕ). front ++ q) (ap (drop (head .slots * head .bridges)) eu ∙ busy-drop t (head .slots * head .bridges))
     where
+      low : (i : ℕ) → i < head .count → at (r .needs) i ≤ 64
+      low i l =
+          let m : i < presetCount h = omega (arith, same) in
+          omega (arith, granted-at h r g start few i m, needs-high h start i m, record-valid head ps v .slots-high)
+
       needs-are : take (head .count) (r .needs) ≡ needs h
       needs-are = ap (λ (k : ℕ). take k (r .needs)) (sym same) ∙ granted-needs h r g start few
 
@@ -146,7 +153,7 @@ module _ (head : record-of-head.Head) (ps : List record-of-preset.Preset) (long 
           (omega (arith, frame-within (head .slots) (head .bridges) (record-valid head ps v .slots-high) (record-valid head ps v .bridges-high)))
 
   -- the array of the grants
-  pub grants-are : {n m l : List ℕ} → n ≡ r .needs → m ≡ filled 32 (head .count) (λ i. recordAt ps i .mandatory)
+  pub grants-are : {n m l : List ℕ} → n ≡ r .needs → m ≡ filled 64 (head .count) (λ i. recordAt ps i .mandatory)
       → l ≡ filled 32 (head .count) (λ i. at n i - at m i) → l ≡ filled 32 (head .count) (λ i. at (needs h) i - at (mandatories h) i)
   grants-are {n} {m} {l} en em el =
       el
@@ -172,10 +179,10 @@ module _ (head : record-of-head.Head) (ps : List record-of-preset.Preset) (long 
 -- ---- the outcome, case by case
 
 abbrev refusedBy : cause.Refusal → List ℕ → PlanOutcome
-refusedBy q t = record { answer = PlanAnswer.refused (refusalIn q); table = t }
+refusedBy q t = record { answer = PlanAnswer.refused 0 (refusalIn q); table = t }
 
 module _ (h : Head) (t : List ℕ) where
-  plan-stopped : (r : Refusal) → firstOf (planCauses h t) ≡ some r → planOf h t ≡ record { answer = PlanAnswer.refused r; table = t }
+  plan-stopped : (r : Refusal) → firstOf (planCauses h t) ≡ some r → planOf h t ≡ record { answer = PlanAnswer.refused 0 r; table = t }
   unfolding planOf
   plan-stopped r e = rw (e, planOf) refl
 
@@ -187,7 +194,7 @@ module _ (head : record-of-head.Head) (ps : List record-of-preset.Preset) (t : L
   abbrev h′ : Head
   h′ = headIn head ps
 
-  meant-stopped : (r : Refusal) → firstOf (causesOf head ps t) ≡ some r → planMeant head ps t ≡ record { answer = PlanAnswer.refused r; table = t }
+  meant-stopped : (r : Refusal) → firstOf (causesOf head ps t) ≡ some r → planMeant head ps t ≡ record { answer = PlanAnswer.refused 0 r; table = t }
   unfolding planMeant
   meant-stopped r e = rw (e, planMeant) refl
 
@@ -233,7 +240,7 @@ module _ (head : record-of-head.Head) (ps : List record-of-preset.Preset) (t : L
 -- ---- a law for each answer
 
 module _ (head : record-of-head.Head) (ps : List record-of-preset.Preset) (t : List ℕ) {r : result.Planned} where
-  pub plan-refused : (q : cause.Refusal) → planMeant head ps t ≡ refusedBy q t → r .answer ≡ Refused q → r .grants ≡ replicate 32 0 → PlanDone head ps t t r
+  pub plan-refused : (q : cause.Refusal) → planMeant head ps t ≡ refusedBy q t → r .answer ≡ Refused 0 q → r .grants ≡ replicate 32 0 → PlanDone head ps t t r
   unfolding filled
   plan-refused q e a z =
       record {

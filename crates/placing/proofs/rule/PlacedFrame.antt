@@ -19,7 +19,7 @@ use Rattle.laws.proofs.Tests.{Is, is-true, is-false, is}
 use Rattle.laws.proofs.Comparisons.{ltb-no}
 use Rattle.laws.proofs.Sums.{sum-ext}
 use Rattle.laws.proofs.Counts.{count-ext}
-use Rattle.station.specs.Head.{Head, Job, presetAt, taken}
+use Rattle.station.specs.Head.{Head, Job, presetAt, hasBit}
 use Rattle.placing.specs.Table.{Cells, Each, cell, presetCount, numberAt, mandatoryCell, optionalCell, busyCell, callCell}
 use Rattle.placing.specs.Valid.{jobAt}
 use Rattle.placing.specs.Plan.{placing, freeCount, planFree, planFreeCount, planCell, needs, planned}
@@ -27,7 +27,7 @@ use Rattle.placing.specs.Call.{callFree, lengths, called, callFreeCount}
 use Rattle.placing.specs.Outcomes.{written}
 use Rattle.placing.specs.method.Mask.{bridgeMask}
 use Rattle.placing.specs.method.Rule.{jobCell, freeIn, cellIn, placedIn}
-use Rattle.placing.proofs.MaskBits.{taken-mask}
+use Rattle.placing.proofs.MaskBits.{hasBit-mask}
 use Rattle.placing.proofs.rule.SlotsPlaced.{place-of}
 
 pub left-ext : (c : List ℕ) (x y : ℕ → ℕ) (n : ℕ) → ((s : ℕ) → s < n → x s ≡ y s) → (s : ℕ) → s ≤ n → left c x s ≡ left c y s
@@ -89,7 +89,7 @@ placed-written h masks c first early late t f v u masked writes holds =
     B = h .bridges
 
     free : (s b : ℕ) → s < h .slots → b < B → freeIn masks s b ≡ f s b
-    free s b l m = ap (λ (n : ℕ). taken n b) (masked s l) ∙ taken-mask B (λ a. f s a) b m
+    free s b l m = ap (λ (n : ℕ). hasBit n b) (masked s l) ∙ hasBit-mask B (λ a. f s a) b m
 
     counts : (s : ℕ) → s < h .slots → freeCount B (freeIn masks) s ≡ freeCount B f s
     counts s m = count-ext B (λ b. freeIn masks s b) (λ b. f s b) (λ b k. free s b m k)

@@ -8,27 +8,29 @@ use native.Mathlib.Nat.{suc-mul, mul-zero, mul-le-mul, mul-le-mul-right, mod-lt,
 use native.Mathlib.Numerals.{add-one}
 use native.Mathlib.Omega.{arith}
 use mathlib.Core.Path.{_≡_, refl, sym, _∙_, ap}
-use mathlib.Core.Bool.{Bool, true, false, cond, and-false}
+use mathlib.Core.Bool.{Bool, true, false, cond, _&&_, and-false}
 use mathlib.Core.List.{List, _++_}
 use lib.ListN.{length, take, drop, length-take, length-append, length-drop, List·getD-append}
 use lib.Seq.{length-take-le, ext-getD, getD-append-add, getD-drop, getD-take}
-use lib.Dec.{ltb, eqb}
-use Rattle.laws.specs.Sums.{bit, only, sum, position}
+use lib.Dec.{ltb, leb, eqb}
+use Rattle.laws.specs.Sums.{bit, only, sum, position, every}
 use Rattle.laws.specs.Lists.{at, tabulate}
 use Rattle.laws.specs.Placement.{before, chosen, left, lrtf}
 use Rattle.laws.specs.Cells.{takes, slotCell}
-use Rattle.laws.proofs.Tests.{Is, is-true, is-false, is}
-use Rattle.laws.proofs.Comparisons.{lt-of, ge-of, eq-of, ne-of, ltb-no}
+use Rattle.laws.proofs.Tests.{Is, is-true, is-false, is, both, left-of, right-of, fails-left, fails-right}
+use Rattle.laws.proofs.Comparisons.{lt-of, le-of, ge-of, eq-of, ne-of, leb-yes, leb-no, ltb-no}
+use Rattle.laws.proofs.Every.{every-all, all-every}
 use Rattle.laws.proofs.Sums.{sum-zero}
 use Rattle.laws.proofs.Counts.{count-none}
 use Rattle.laws.proofs.Lists.{length-tabulate, at-tabulate, at-past}
 use Rattle.laws.proofs.Placement.{left-length, left-step, left-got}
-use Rattle.station.specs.Head.{taken}
+use Rattle.station.specs.Head.{hasBit}
 use Rattle.placing.specs.Plan.{placing, freeCount}
-use Rattle.placing.specs.method.Limits.{inLimits}
-use Rattle.placing.specs.method.Rule.{dueCells, RowWritten, EmptyRow, Levelled, freeIn, cellIn, cellsIn, placedIn, placedWithin}
+use Rattle.placing.specs.method.Limits.{sizesInLimits}
+use Rattle.placing.specs.method.Rule.{dueCells, RowWritten, EmptyRow, Levelled, freeIn, cellIn, cellsIn, placeable, placedIn, placedWithin}
+use Rattle.placing.proofs.limits.Within.{in-limits, limits-of}
 use Rattle.placing.proofs.WrittenTable.{place-below}
-use Rattle.placing.proofs.MaskBits.{taken-zero}
+use Rattle.placing.proofs.MaskBits.{hasBit-zero}
 use Rattle.placing.proofs.rule.levels.Choice.{sum-past, chosen-past}
 use Rattle.placing.proofs.rule.row.RowWritten.{due-cell, row-as-it-was, slotCell-ext, takes-not-chosen}
 
@@ -103,17 +105,17 @@ module _ (B : ℕ) (w : ℕ → ℕ → ℕ) (t : List ℕ) where
           done .after i l
           ∙ sym (ap (at (front ++ rest)) over ∙ getD-append-add front rest (i - n * B) 0 ∙ getD-drop (n * B) t (i - n * B) 0 ∙ ap (at t) back)
 
--- The row that the code writes in slot s is the rule's. Of the 32 jobs of a mask only those of the list are chosen.
-pub row-rule : (B : ℕ) (masks c first early late t u : List ℕ) (s : ℕ) (a : ℕ → Bool) (v : ℕ → ℕ) → length c ≤ 32
-    → ((i : ℕ) → i < 32 → a i ≡ lrtf c (freeCount B (freeIn masks)) i s)
+-- The row that the code writes in slot s is the rule's. Of the 64 jobs of a mask only those of the list are chosen.
+pub row-rule : (B : ℕ) (masks c first early late t u : List ℕ) (s : ℕ) (a : ℕ → Bool) (v : ℕ → ℕ) → length c ≤ 64
+    → ((i : ℕ) → i < 64 → a i ≡ lrtf c (freeCount B (freeIn masks)) i s)
     → ((i : ℕ) → i < length c → v i ≡ cellIn c (freeCount B (freeIn masks)) first early late i s)
     → SlotsPlaced B (cellOf B masks c first early late t) t u s
     → (b : ℕ) → b < B
-    → slotCell 32 a (λ d. freeIn masks s d) v (λ d. at u (s * B + d)) b ≡ cellOf B masks c first early late t s b
+    → slotCell 64 a (λ d. freeIn masks s d) v (λ d. at u (s * B + d)) b ≡ cellOf B masks c first early late t s b
 unfolding placing
 row-rule B masks c first early late t u s a v few p q done b l =
     ap (λ (n : ℕ). cond (freeIn masks s b) n (at u (s * B + b)))
-    (sum-past (length c) 32 (λ i. only (takes a (λ d. freeIn masks s d) i b) (v i)) few (λ i h m.
+    (sum-past (length c) 64 (λ i. only (takes a (λ d. freeIn masks s d) i b) (v i)) few (λ i h m.
     ap (λ (x : Bool). only x (v i)) (takes-not-chosen a (λ d. freeIn masks s d) i b (p i m ∙ past i h))))
     ∙ slotCell-ext (length c) a (λ d. freeIn masks s d) v (λ d. at u (s * B + d)) b
     (λ i. lrtf c x i s)
@@ -142,7 +144,7 @@ pub record Progress (B : ℕ) (masks c first early late t : List ℕ) (k s : ℕ
   pub table : SlotsPlaced B (cellOf B masks c first early late t) t u s
   pub due : (i : ℕ) → i < k → at l i ≡ at first i - (at c i - at (left c (freeCount B (freeIn masks)) s) i)
   pub levelled : Levelled levels (at (left c (freeCount B (freeIn masks)) s))
-  pub most : (i : ℕ) → i < 32 → at (left c (freeCount B (freeIn masks)) s) i ≤ top
+  pub most : (i : ℕ) → i < 64 → at (left c (freeCount B (freeIn masks)) s) i ≤ top
 
 -- the jobs of an array of which the first k count
 module _ (B : ℕ) (masks array first early late t : List ℕ) (k : ℕ) where
@@ -169,26 +171,26 @@ module _ (B : ℕ) (masks array first early late t : List ℕ) (k : ℕ) where
       go i (is-false e) = omega (arith, at-past c i (omega (arith, length-take k array, ge-of i k e)))
 
   -- One slot: the choice, the row, what is due after it and the levels, as the code's functions state them.
-  module _ (enough : k ≤ length array) (few : k ≤ 32) (s : ℕ) (u l levels : List ℕ) (top : ℕ)
+  module _ (enough : k ≤ length array) (few : k ≤ 64) (s : ℕ) (u l levels : List ℕ) (top : ℕ)
       (so-far : Progress B masks c first early late t k s u l levels top) (a : ℕ → Bool)
-      (choice : (i : ℕ) → i < 32 → a i ≡ chosen 32 (at (left c free s)) (free s) i) where
+      (choice : (i : ℕ) → i < 64 → a i ≡ chosen 64 (at (left c free s)) (free s) i) where
     long : length c ≡ k
     long = length-take-le k array enough
 
-    chooses : (i : ℕ) → i < 32 → a i ≡ lrtf c free i s
+    chooses : (i : ℕ) → i < 64 → a i ≡ lrtf c free i s
     chooses i h =
         choice i h
-        ∙ chosen-past (length c) 32 (at (left c free s)) (omega (arith, long, few))
+        ∙ chosen-past (length c) 64 (at (left c free s)) (omega (arith, long, few))
         (λ j m. at-past (left c free s) j (omega (arith, left-length c free s, m))) (free s) i
 
-    after : (i : ℕ) → i < 32 → at (left c free s) i - bit (a i) ≡ at (left c free (s + 1)) i
+    after : (i : ℕ) → i < 64 → at (left c free s) i - bit (a i) ≡ at (left c free (s + 1)) i
     after i h = rw (add-one s) (omega (arith, left-step c free i s, ap bit (chooses i h)))
 
     wrote : (i : ℕ) → i < length c → dueCells l early late i ≡ cellIn c free first early late i s
     wrote i h = due-cell l early late i (at c i) (at (left c free s) i) (at first i) (so-far .due i (omega (arith, long, h)))
 
-    pub progress-more : (v m levels′ : List ℕ) (top′ : ℕ) → ((i : ℕ) → i < 32 → at (left c free s) i ≤ top′)
-        → RowWritten u v (s * B) B (slotCell 32 a (taken (at masks s)) (dueCells l early late) (λ b. at u (s * B + b)))
+    pub progress-more : (v m levels′ : List ℕ) (top′ : ℕ) → ((i : ℕ) → i < 64 → at (left c free s) i ≤ top′)
+        → RowWritten u v (s * B) B (slotCell 64 a (hasBit (at masks s)) (dueCells l early late) (λ b. at u (s * B + b)))
         → ((i : ℕ) → at m i ≡ at l i - bit (a i))
         → Levelled levels′ (λ i. at (left c free s) i - bit (a i))
         → Progress B masks c first early late t k (s + 1) v m levels′ top′
@@ -196,7 +198,7 @@ module _ (B : ℕ) (masks array first early late t : List ℕ) (k : ℕ) where
         record {
           table =
               slots-more B (cellOf B masks c first early late t) t u v s
-              (slotCell 32 a (taken (at masks s)) (dueCells l early late) (λ b. at u (s * B + b)))
+              (slotCell 64 a (hasBit (at masks s)) (dueCells l early late) (λ b. at u (s * B + b)))
               (so-far .table) row
               (row-rule B masks c first early late t u s a (dueCells l early late) (omega (arith, long, few)) chooses wrote (so-far .table));
           due = λ i h.
@@ -207,24 +209,24 @@ module _ (B : ℕ) (masks array first early late t : List ℕ) (k : ℕ) where
         }
 
   -- a slot with no free bridge
-  pub progress-over : k ≤ length array → k ≤ 32 → (s : ℕ) (u l levels : List ℕ) (top top′ : ℕ) → Progress B masks c first early late t k s u l levels top
-      → at masks s ≡ 0 → ((i : ℕ) → i < 32 → at (left c free s) i ≤ top′) → Progress B masks c first early late t k (s + 1) u l levels top′
+  pub progress-over : k ≤ length array → k ≤ 64 → (s : ℕ) (u l levels : List ℕ) (top top′ : ℕ) → Progress B masks c first early late t k s u l levels top
+      → at masks s ≡ 0 → ((i : ℕ) → i < 64 → at (left c free s) i ≤ top′) → Progress B masks c first early late t k (s + 1) u l levels top′
   progress-over enough few s u l levels top top′ so-far empty most =
       progress-more enough few s u l levels top so-far (λ i. false) nobody u l levels top′ most
       (row-as-it-was u (s * B) _ B (λ b h. sym (rw (off b) refl))) (λ i. omega arith)
       (λ q i p r j. so-far .levelled q i p r j ∙ ap (λ (n : ℕ). eqb n q) (omega arith))
     where
       off : (b : ℕ) → freeIn masks s b ≡ false
-      off b = ap (λ (m : ℕ). taken m b) empty ∙ taken-zero b
+      off b = ap (λ (m : ℕ). hasBit m b) empty ∙ hasBit-zero b
 
-      nobody : (i : ℕ) → i < 32 → false ≡ chosen 32 (at (left c free s)) (free s) i
+      nobody : (i : ℕ) → i < 64 → false ≡ chosen 64 (at (left c free s)) (free s) i
       nobody i h =
-          sym (ap (λ (d : ℕ). chosen 32 (at (left c free s)) d i) (count-none B (λ b. freeIn masks s b) (λ b m. off b))
-          ∙ (rw (ltb-no (position 32 (before (at (left c free s))) i) 0 zero-le) (and-false (ltb 0 (at (left c free s) i)))))
+          sym (ap (λ (d : ℕ). chosen 64 (at (left c free s)) d i) (count-none B (λ b. freeIn masks s b) (λ b m. off b))
+          ∙ (rw (ltb-no (position 64 (before (at (left c free s))) i) 0 zero-le) (and-false (ltb 0 (at (left c free s) i)))))
 
   -- Nobody needs a cell any more, and the free ones of the slots from s on are empty: these are as they are to be.
-  module _ (s : ℕ) (u l levels : List ℕ) (top : ℕ) (so-far : Progress B masks c first early late t k s u l levels top) (few : k ≤ 32)
-      (none : (i : ℕ) → i < 32 → at (left c free s) i ≤ 0) where
+  module _ (s : ℕ) (u l levels : List ℕ) (top : ℕ) (so-far : Progress B masks c first early late t k s u l levels top) (few : k ≤ 64)
+      (none : (i : ℕ) → i < 64 → at (left c free s) i ≤ 0) where
     now : (i : ℕ) → i < length c → at (left c free s) i ≡ 0
     now i h = omega (arith, none i (omega (arith, h, few, length-take k array)))
 
@@ -265,12 +267,48 @@ module _ (B : ℕ) (masks array first early late t : List ℕ) (k : ℕ) where
 
 -- ---- within the limits, and beyond them
 
+module _ (slots bridges : ℕ) (needs : List ℕ) (k cells : ℕ) where
+  abbrev fewJobs : Bool
+  fewJobs = leb k 64
+
+  abbrev lowNeeds : Bool
+  lowNeeds = every k (λ i. leb (at needs i) 64)
+
+  pub jobs-over : 64 < k → placeable slots bridges needs k cells ≡ false
+  unfolding placeable
+  jobs-over l = fails-left (fewJobs && lowNeeds) (sizesInLimits slots bridges 0 cells) (fails-left fewJobs lowNeeds (leb-no k 64 l))
+
+  pub needs-over : lowNeeds ≡ false → placeable slots bridges needs k cells ≡ false
+  unfolding placeable
+  needs-over e = fails-left (fewJobs && lowNeeds) (sizesInLimits slots bridges 0 cells) (fails-right fewJobs lowNeeds e)
+
+  pub all-but-frame : k ≤ 64 → lowNeeds ≡ true → placeable slots bridges needs k cells ≡ sizesInLimits slots bridges 0 cells
+  unfolding placeable
+  all-but-frame l e = ap (λ (b : Bool). b && sizesInLimits slots bridges 0 cells) (both fewJobs lowNeeds (leb-yes k 64 l) e)
+
+  pub is-placeable : slots ≤ 64 → bridges ≤ 8 → k ≤ 64 → 512 ≤ cells → ((i : ℕ) → i < k → at needs i ≤ 64) → placeable slots bridges needs k cells ≡ true
+  is-placeable f g l m each =
+      all-but-frame l (all-every k (λ i. leb (at needs i) 64) (λ i q. leb-yes (at needs i) 64 (each i q))) ∙ in-limits slots bridges 0 cells f g (omega arith) m
+
+  pub placeable-of : placeable slots bridges needs k cells ≡ true
+      → (slots ≤ 64) × (bridges ≤ 8) × (k ≤ 64) × (512 ≤ cells) × ((i : ℕ) → i < k → at needs i < 65)
+  unfolding placeable
+  placeable-of e =
+      let both-of = left-of (fewJobs && lowNeeds) (sizesInLimits slots bridges 0 cells) e in
+      let l = limits-of slots bridges 0 cells (right-of (fewJobs && lowNeeds) (sizesInLimits slots bridges 0 cells) e) in (
+        l .0,
+        l .1,
+        le-of k 64 (left-of fewJobs lowNeeds both-of),
+        l .3,
+        λ i q. let m = le-of (at needs i) 64 (every-all k (λ j. leb (at needs j) 64) (right-of fewJobs lowNeeds both-of) i q) in omega (arith, m),
+      )
+
 module _ (slots bridges : ℕ) (masks needs : List ℕ) (k : ℕ) (first early late t : List ℕ) where
-  pub placed-within : inLimits slots bridges k (length t) ≡ true
+  pub placed-within : placeable slots bridges needs k (length t) ≡ true
       → placedWithin slots bridges masks needs k first early late t ≡ placedIn slots bridges masks (take k needs) first early late t
   unfolding placedWithin
   placed-within e = rw e refl
 
-  pub placed-beyond : inLimits slots bridges k (length t) ≡ false → placedWithin slots bridges masks needs k first early late t ≡ t
+  pub placed-beyond : placeable slots bridges needs k (length t) ≡ false → placedWithin slots bridges masks needs k first early late t ≡ t
   unfolding placedWithin
   placed-beyond e = rw e refl

@@ -8,8 +8,9 @@ use mathlib.Core.List.{List}
 use lib.ListN.{getD, set, replicate}
 use lib.Dec.{ltb, leb, eqb}
 use Rattle.laws.specs.Sums.{count, every}
-use Rattle.station.specs.Head.{Head, Preset, taken, noPreset}
-use Rattle.placing.specs.Table.{numberIn, presetCount, eachCell}
+use Rattle.station.specs.Head.{Head, Preset, hasBit, noPreset}
+use Rattle.station.specs.Limits.{mostFrameJobs}
+use Rattle.placing.specs.Table.{cellAt, numberIn, presetCount, eachCell}
 
 -- ---- counts
 
@@ -28,7 +29,7 @@ placeOf v = cond (ltb v 512) 768 (v - 512)
 
 -- the counts after the first n cells of a table
 unfoldable pub tally : List ℕ → ℕ → List ℕ
-tally t n = counted 768 (λ i. placeOf (getD t i 0)) n
+tally t n = counted 768 (λ i. placeOf (cellAt t i)) n
 
 -- the counts of the presets' numbers after the first n presets
 unfoldable pub numbered : List Preset → ℕ → List ℕ
@@ -47,16 +48,16 @@ cellFits ns c busy v =
 
 -- "no number twice in a slot": of the cells from `start` on, the one at a has not the number n, or none
 abbrev pub differs : List ℕ → ℕ → ℕ → ℕ → Bool
-differs t start n a = ltb (getD t (start + a) 0) 512 || not (eqb (numberIn (getD t (start + a) 0)) n)
+differs t start n a = ltb (cellAt t (start + a)) 512 || not (eqb (numberIn (cellAt t (start + a))) n)
 
 -- the cell at b of the slot has no number that the slot had before
 abbrev pub isNew : List ℕ → ℕ → ℕ → Bool
-isNew t start b = ltb (getD t (start + b) 0) 512 || every b (differs t start (numberIn (getD t (start + b) 0)))
+isNew t start b = ltb (cellAt t (start + b)) 512 || every b (differs t start (numberIn (cellAt t (start + b))))
 
 -- cell (s, b) of a frame with these bridges and busy masks, by the cells before it
 abbrev pub fitsAt : ℕ → List ℕ → List ℕ → List ℕ → ℕ → ℕ → Bool
 fitsAt bridges busy ns t s b =
-    cellFits ns (tally t (s * bridges + b)) (taken (getD busy b 0) s) (getD t (s * bridges + b) 0) && isNew t (s * bridges) b
+    cellFits ns (tally t (s * bridges + b)) (hasBit (getD busy b 0) s) (cellAt t (s * bridges + b)) && isNew t (s * bridges) b
 
 -- ---- the first cell at fault
 
@@ -87,4 +88,4 @@ unfoldable pub checked : Head → List ℕ → Bool
 checked h t =
     eachCell h (fitsAt (h .bridges) (h .busy) (numbered (h .presets) (presetCount h)) t)
     && every (presetCount h) (presetMet (h .presets) (tally t (h .slots * h .bridges)))
-    && leb (count 256 (hasCall (tally t (h .slots * h .bridges)))) 64
+    && leb (count 256 (hasCall (tally t (h .slots * h .bridges)))) mostFrameJobs

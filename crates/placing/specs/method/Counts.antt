@@ -1,6 +1,6 @@
 -- What a call's own causes are decided by, counted for a table and a clock. Document 01, "Causes" and "What is granted, and where it goes".
 --
--- In order: the counts (`CountsOf`), and the cause that they decide (`CountedCause`); the parts that the code counts by: numbers that are marked, and the cells of a
+-- In order: the counts (`CountsOf`), and what they decide (`OwnCause`, `FitBeside`, `CountedCause`); the parts that the code counts by: numbers that are marked, and the cells of a
 -- slot that a call may use.
 -- Assumes nothing.
 use Prim.Native.Nat.{ℕ, _+_, _*_, _≤_, _<_}
@@ -9,44 +9,64 @@ use mathlib.Core.Bool.{Bool, _||_}
 use mathlib.Core.List.{List}
 use lib.ListN.{length, getD}
 use lib.Dec.{ltb, eqb}
-use Rattle.laws.specs.Sums.{count, only}
-use Rattle.laws.specs.Placement.{capacity}
+use Rattle.laws.specs.Sums.{sum, count, only}
+use Rattle.laws.specs.Placement.{capacity, excess}
+use Rattle.station.specs.Limits.{mostBridges}
 use Rattle.station.specs.Head.{Head, Job, Valid}
 use Rattle.station.specs.Refusal.{firstOf}
-use Rattle.placing.specs.Table.{Cells, WellFormed, isEmpty, isOptional, callCell, isUsed, jobCount}
-use Rattle.placing.specs.Valid.{usable}
+use Rattle.placing.specs.method.Limits.{capacityCount}
+use Rattle.placing.specs.Table.{cellAt, Cells, WellFormed, isEmpty, isOptional, callCell, isUsed, jobCount}
+use Rattle.placing.specs.Valid.{usable, jobAt}
 use Rattle.placing.specs.Call.{usableCount, callFits}
-use Rattle.placing.specs.Outcomes.{callCauses}
+use Rattle.placing.specs.Outcomes.{jobCauses, callCauses}
 use Rattle.placing.specs.Causes.{causeIn}
 use Rattle.placing.specs.declared.check.Cause as cause
 use Rattle.placing.specs.method.Jobs.{marked}
+use Rattle.placing.specs.method.Grants.{Sums}
 
 -- The counts are those of the head h, the clock and the cells t: "A number is used if a preset of the head or a call cell has it"; the job numbers of the table; and the
 -- capacities for 0 to 8 jobs of the cells that a call may use.
-pub record CountsOf (h : Head) (clock : ℕ) (t : Cells) (marks : List ℕ) (held : ℕ) (xs : List ℕ) : Type 0 where
+pub record CountsOf (h : Head) (clock : ℕ) (t : Cells) (marks : List ℕ) (admitted : ℕ) (xs : List ℕ) : Type 0 where
   pub marks-long : length marks ≡ 256
   pub used : (n : ℕ) → n < 256 → marked marks n ≡ isUsed h t n
-  pub jobs : held ≡ jobCount h t
-  pub long : length xs ≡ 9
-  pub capacities : (k : ℕ) → k < 9 → getD xs k 0 ≡ capacity (h .slots) (usableCount h clock t) k
+  pub jobs : admitted ≡ jobCount h t
+  pub long : length xs ≡ capacityCount
+  pub capacities : (k : ℕ) → k < capacityCount → getD xs k 0 ≡ capacity (h .slots) (usableCount h clock t) k
+
+-- What `own_cause` answers: for every table that has these used numbers and so many job numbers, the first of the causes 2, 4, 9 of the jobs.
+abbrev pub OwnCause : List ℕ → ℕ → List Job → cause.Cause → Type 0
+OwnCause marks admitted jobs r =
+    (h : Head) (t : Cells) → ((n : ℕ) → n < 256 → marked marks n ≡ isUsed h t n) → admitted ≡ jobCount h t → causeIn r ≡ firstOf (jobCauses h jobs t)
+
+-- What is unfinished beside some jobs: the first k of the needs c, the others being the jobs'. The sums of the r largest and the total are those of the k alone.
+pub record Unfinished (k : ℕ) (c : ℕ → ℕ) (jobs : List Job) (sums : List ℕ) (total : ℕ) : Type 0 where
+  pub largest : Sums (k + length jobs) (λ i. only (ltb i k) (c i)) sums
+  pub all : total ≡ sum k c
+  pub others : (i : ℕ) → i < length jobs → c (k + i) ≡ jobAt jobs i .slots
+
+-- What `fits_by_counts` answers: whether the jobs and what is unfinished fit together into any cells whose capacities for 0 to 8 are xs.
+abbrev pub FitBeside : List ℕ → ℕ → List ℕ → List Job → Bool → Type 0
+FitBeside sums total xs jobs r =
+    (k : ℕ) (c : ℕ → ℕ) → Unfinished k c jobs sums total → (n : ℕ) (x : ℕ → ℕ) → ((s : ℕ) → s < n → x s ≤ mostBridges)
+    → ((q : ℕ) → q < capacityCount → getD xs q 0 ≡ capacity n x q) → r ≡ eqb (excess (k + length jobs) c n x) 0
 
 -- What `cause_by_counts` answers: on every well-formed table of which these are the counts, the first of the causes of the call itself.
 abbrev pub CountedCause : List ℕ → ℕ → List ℕ → List Job → cause.Cause → Type 0
-CountedCause marks held xs jobs r =
-    (h : Head) (clock : ℕ) (t : Cells) → Valid h → WellFormed h t → CountsOf h clock t marks held xs → causeIn r ≡ firstOf (callCauses h clock jobs t)
+CountedCause marks admitted xs jobs r =
+    (h : Head) (clock : ℕ) (t : Cells) → Valid h → WellFormed h t → CountsOf h clock t marks admitted xs → causeIn r ≡ firstOf (callCauses h clock jobs t)
 
 -- whether the jobs fit, likewise, by the capacities alone
 abbrev pub CountedFit : List ℕ → List Job → Bool → Type 0
 CountedFit xs jobs r =
     (h : Head) (clock : ℕ) (t : Cells) → Valid h → WellFormed h t
-    → ((k : ℕ) → k < 9 → getD xs k 0 ≡ capacity (h .slots) (usableCount h clock t) k) → r ≡ callFits h clock jobs t
+    → ((k : ℕ) → k < capacityCount → getD xs k 0 ≡ capacity (h .slots) (usableCount h clock t) k) → r ≡ callFits h clock jobs t
 
 -- ---- numbers that are marked
 
 -- the numbers of the call cells among the first i cells of a table are marked, and no others
 pub record Marked (t : List ℕ) (i : ℕ) (used : List ℕ) : Type 0 where
   pub long : length used ≡ 256
-  pub which : (n : ℕ) → n < 256 → marked used n ≡ ltb 0 (count i (λ j. eqb (getD t j 0) (callCell n)))
+  pub which : (n : ℕ) → n < 256 → marked used n ≡ ltb 0 (count i (λ j. eqb (cellAt t j) (callCell n)))
 
 -- what one cell v marks: its number, if it is a call cell
 pub record Marks (v : ℕ) (before after : List ℕ) (r : ℕ) : Type 0 where
@@ -62,13 +82,17 @@ pub record MarkedBeside (f : ℕ → ℕ) (before : List ℕ) (i : ℕ) (after :
 
 -- ---- cells that a call may use
 
+-- the cells that a call may evict, as the code tells them: `isEvictable` of the head whose cell it is
+abbrev pub evictableCell : ℕ → Bool
+evictableCell v = isOptional v
+
 -- "It may use empty cells and refinement cells"
 abbrev pub freeCell : ℕ → Bool
-freeCell v = isEmpty v || isOptional v
+freeCell v = isEmpty v || evictableCell v
 
 -- how many of the n cells from a place of the table on are such
 unfoldable pub freeIn : List ℕ → ℕ → ℕ → ℕ
-freeIn t from n = count n (λ b. freeCell (getD t (from + b) 0))
+freeIn t from n = count n (λ b. freeCell (cellAt t (from + b)))
 
 -- and of a slot; "A call uses slots from the clock on."
 unfoldable pub slotFree : List ℕ → ℕ → ℕ → ℕ → ℕ
@@ -76,5 +100,5 @@ slotFree t bridges clock s = only (usable clock s) (freeIn t (s * bridges) bridg
 
 -- the list has the capacities for 0 to 8 of the free cells of so many slots
 pub record CapacitiesAt (t : List ℕ) (slots bridges clock : ℕ) (xs : List ℕ) : Type 0 where
-  pub long : length xs ≡ 9
-  pub right : (k : ℕ) → k < 9 → getD xs k 0 ≡ capacity slots (slotFree t bridges clock) k
+  pub long : length xs ≡ capacityCount
+  pub right : (k : ℕ) → k < capacityCount → getD xs k 0 ≡ capacity slots (slotFree t bridges clock) k

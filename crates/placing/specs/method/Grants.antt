@@ -11,28 +11,26 @@ use Rattle.laws.specs.Sums.{bit, only, sum, count, every}
 use Rattle.laws.specs.Lists.{at}
 use Rattle.laws.specs.Placement.{capacity, largest}
 use Rattle.laws.specs.method.Least.{lowest}
-use Rattle.station.specs.Head.{Head, taken}
+use Rattle.station.specs.Limits.{mostSlots, mostBridges, mostPresets}
+use Rattle.station.specs.Head.{Head, hasBit}
 use Rattle.station.specs.declared.types.Preset as types
 use Rattle.station.specs.declared.types.Head as record-of-head
 use Rattle.station.specs.Types.{headIn, validRecord}
+use Rattle.placing.specs.method.Limits.{capacityCount, mostPlaced}
 use Rattle.placing.specs.declared.grants.Granted as answer
 use Rattle.placing.specs.method.Mask.{bridgeMask}
 use Rattle.placing.specs.method.Records.{recordAt, priorities, rankIn}
 use Rattle.placing.specs.Plan.{planFits, planFreeCount, mandatories, needs}
 use Rattle.placing.specs.Table.{presetCount}
-
--- An array of m numbers of which the first n are f 0, .., f (n - 1), written one after the other, and the others 0.
-unfoldable pub filled : ℕ → ℕ → (ℕ → ℕ) → List ℕ
-filled m zero f = replicate m 0
-filled m (suc n) f = set (filled m n f) n (f n)
+use Rattle.placing.specs.Types.{filled}
 
 -- "A slot's free bridges are kept as one bit each": of slot s, from the masks of the busy slots of each bridge.
 abbrev pub freeMask : List ℕ → ℕ → ℕ → ℕ
-freeMask busy bridges s = bridgeMask bridges (λ b. not (taken (getD busy b 0) s))
+freeMask busy bridges s = bridgeMask bridges (λ b. not (hasBit (getD busy b 0) s))
 
 -- those of each slot of the frame, and 0 past it
 abbrev pub freeMasks : ℕ → ℕ → List ℕ → List ℕ
-freeMasks slots bridges busy = filled 64 slots (freeMask busy bridges)
+freeMasks slots bridges busy = filled mostSlots slots (freeMask busy bridges)
 
 -- the number of free bridges of slot s, from the masks
 abbrev pub freeOnes : List ℕ → ℕ → ℕ
@@ -40,16 +38,16 @@ freeOnes masks s = ones (getD masks s 0)
 
 -- The capacities ("the room for r") of the first slots for r up to 8. More than 8 presets have no more room than 8, since no slot has more bridges.
 abbrev pub Capacities : ℕ → (ℕ → ℕ) → List ℕ → Type 0
-Capacities slots free capacities = (r : ℕ) → r < 9 → getD capacities r 0 ≡ capacity slots free r
+Capacities slots free capacities = (r : ℕ) → r < capacityCount → getD capacities r 0 ≡ capacity slots free r
 
 -- "the r largest needs together" for r up to 8, of the first k needs
 pub record Sums (k : ℕ) (needs : ℕ → ℕ) (sums : List ℕ) : Type 0 where
-  pub long : length sums ≡ 9
-  pub each : (r : ℕ) → r < 9 → getD sums r 0 ≡ largest k needs r
+  pub long : length sums ≡ capacityCount
+  pub each : (r : ℕ) → r < capacityCount → getD sums r 0 ≡ largest k needs r
 
 -- "Needs fit exactly if, for every r, the r largest needs together do not exceed" the capacity for r: these for r up to 8, and all needs together that for 8
 abbrev pub fitsIn : List ℕ → ℕ → List ℕ → Bool
-fitsIn sums total capacities = every 9 (λ r. leb (at sums r) (at capacities r)) && leb total (at capacities 8)
+fitsIn sums total capacities = every capacityCount (λ r. leb (at sums r) (at capacities r)) && leb total (at capacities mostBridges)
 
 -- the r largest needs of the others together, from the sums of all and the need m of one preset
 abbrev pub otherSum : List ℕ → ℕ → ℕ → ℕ
@@ -58,19 +56,19 @@ otherSum sums m r = min (at sums r) (at sums (suc r) - m)
 -- the highest need up to `limit` that fits beside the needs of the others
 abbrev pub highestIn : List ℕ → ℕ → ℕ → List ℕ → ℕ → ℕ
 highestIn sums total m capacities limit =
-    lowest 8 (λ r. at capacities (suc r) - otherSum sums m r) (min limit (at capacities 8 - (total - m)))
+    lowest mostBridges (λ r. at capacities (suc r) - otherSum sums m r) (min limit (at capacities mostBridges - (total - m)))
 
 -- the sums after one need was raised from m to `top`
 pub record Raised (sums : List ℕ) (m top : ℕ) (r : List ℕ) : Type 0 where
-  pub long : length r ≡ 9
+  pub long : length r ≡ capacityCount
   pub none : at r 0 ≡ at sums 0
-  pub each : (q : ℕ) → q < 8 → at r (suc q) ≡ max (at sums (suc q)) (otherSum sums m q + top)
+  pub each : (q : ℕ) → q < mostBridges → at r (suc q) ≡ max (at sums (suc q)) (otherSum sums m q + top)
 
 -- what raising a need asks of the sums: the need is part of each but the first, and none is too large to add a need to it
 pub record Raisable (sums : List ℕ) (m top : ℕ) : Type 0 where
-  pub long : length sums ≡ 9
-  pub part : (q : ℕ) → q < 8 → m ≤ at sums (suc q)
-  pub low : (q : ℕ) → q < 9 → at sums q ≤ 65535
+  pub long : length sums ≡ capacityCount
+  pub part : (q : ℕ) → q < mostBridges → m ≤ at sums (suc q)
+  pub low : (q : ℕ) → q < capacityCount → at sums q ≤ 65535
   pub small : top ≤ 255
 
 -- whether preset j comes before a preset of priority p on line i
@@ -79,7 +77,7 @@ earlier ps p i j = ltb (priorities ps j) (p + bit (ltb j i))
 
 -- an order of n presets: those that come before priority p and line i, each at its rank
 pub record Ordered (ps : List types.Preset) (k p i n : ℕ) (order : List ℕ) : Type 0 where
-  pub long : length order ≡ 32
+  pub long : length order ≡ mostPresets
   pub many : n ≡ count k (earlier ps p i)
   pub stands : (j : ℕ) → j < k → earlier ps p i j ≡ true → getD order (rankIn ps k j) 0 ≡ j
 
@@ -87,10 +85,10 @@ pub record Ordered (ps : List types.Preset) (k p i n : ℕ) (order : List ℕ) :
 abbrev pub OrderOf : List types.Preset → ℕ → List ℕ → Type 0
 OrderOf ps k order = (i : ℕ) → i < k → getD order (rankIn ps k i) 0 ≡ i
 
--- What the presets of a head get in all, "in file order", in an array of 32: their mandatory slots and their grants where the mandatory slots
+-- What the presets of a head get in all, "in file order", in an array of 64: their mandatory slots and their grants where the mandatory slots
 -- fit, and zeros where they do not.
 abbrev pub needsOf : Head → List ℕ
-needsOf h = filled 32 (only (planFits h (mandatories h)) (presetCount h)) (at (needs h))
+needsOf h = filled mostPlaced (only (planFits h (mandatories h)) (presetCount h)) (at (needs h))
 
 -- What the loop over the ranks stands on: a head record that some text yields, its capacities, and mandatory slots that fit.
 pub record Fitting (head : record-of-head.Head) (presets : List types.Preset) (capacities : List ℕ) : Type 0 where
@@ -100,7 +98,7 @@ pub record Fitting (head : record-of-head.Head) (presets : List types.Preset) (c
 
 -- what it starts from: the mandatory slots, their sums, and all of them together
 pub record Started (head : record-of-head.Head) (presets : List types.Preset) (mandatory start : List ℕ) (all : ℕ) : Type 0 where
-  pub needs : mandatory ≡ filled 32 (head .count) (λ i. recordAt presets i .mandatory)
+  pub needs : mandatory ≡ filled mostPlaced (head .count) (λ i. recordAt presets i .mandatory)
   pub sums : Sums (head .count) (at mandatory) start
   pub total : all ≡ sum (head .count) (at mandatory)
 
@@ -114,12 +112,12 @@ pub record GrantedTo (h : Head) (r : answer.Granted) : Type 0 where
 pub record GrantedValid (head : record-of-head.Head) (presets : List types.Preset) (r : answer.Granted) : Type 0 where
   pub valid : r .valid ≡ true
   pub granted : GrantedTo (headIn head presets) r
-  pub mandatory : r .mandatory ≡ filled 32 (head .count) (λ i. recordAt presets i .mandatory)
+  pub mandatory : r .mandatory ≡ filled mostPlaced (head .count) (λ i. recordAt presets i .mandatory)
   pub free : r .free ≡ freeMasks (head .slots) (head .bridges) (head .busy)
 
 -- and for "a head record that no text yields": nothing
 abbrev pub grantedNothing : answer.Granted
-grantedNothing = record { valid = false; fits = false; needs = replicate 32 0; mandatory = replicate 32 0; free = replicate 64 0 }
+grantedNothing = record { valid = false; fits = false; needs = replicate mostPlaced 0; mandatory = replicate mostPlaced 0; free = replicate mostSlots 0 }
 
 -- What `grant` answers for a head record and its preset records.
 pub record GrantedFor (head : record-of-head.Head) (presets : List types.Preset) (r : answer.Granted) : Type 0 where

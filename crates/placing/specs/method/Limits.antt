@@ -1,9 +1,22 @@
--- The limits within which the code looks at a frame. Document 01, "The frame and its parts" and "Causes".
+-- The limits within which the code looks at a frame. Document 01's own, "The frame and its parts" and "Causes", are those of station.
 -- Assumes nothing.
-use Prim.Native.Nat.{ℕ}
+use Prim.Native.Nat.{ℕ, _+_}
 use mathlib.Core.Bool.{Bool, _&&_}
 use lib.Dec.{leb}
+use Rattle.station.specs.Limits.{mostSlots, mostBridges, mostPresets, mostFrameJobs, mostLength, leastCells}
 
--- S up to 64, B up to 8, n of up to 32 presets or jobs, and no "lent table below 512 cells .. the frame's size regardless"
-unfoldable pub inLimits : ℕ → ℕ → ℕ → ℕ → Bool
-inLimits slots bridges n cells = leb slots 64 && leb bridges 8 && leb n 32 && leb 512 cells
+-- how many numbers there are from 0 to the most bridges: a slot has as many free ones, and capacities are kept for as many jobs
+abbrev pub capacityCount : ℕ
+capacityCount = mostBridges + 1
+
+-- how many presets or jobs are placed at a time, at the most: as many as a frame has jobs
+abbrev pub mostPlaced : ℕ
+mostPlaced = mostFrameJobs
+
+-- how many levels there are for those that still need 0 to as many slots as the longest job
+abbrev pub levelCount : ℕ
+levelCount = mostLength + 1
+
+-- S and B within their limits, n presets, and no "lent table below 512 cells .. the frame's size regardless"
+unfoldable pub sizesInLimits : ℕ → ℕ → ℕ → ℕ → Bool
+sizesInLimits slots bridges n cells = leb slots mostSlots && leb bridges mostBridges && leb n mostPresets && leb leastCells cells

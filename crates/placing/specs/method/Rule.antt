@@ -6,12 +6,13 @@ use mathlib.Core.Bool.{Bool, true, _&&_, cond}
 use mathlib.Core.List.{List, _++_}
 use lib.ListN.{length, take, drop}
 use lib.Bits.{bitAnd, bitXor}
-use lib.Dec.{ltb, eqb}
-use Rattle.laws.specs.Sums.{bit, count}
+use lib.Dec.{ltb, leb, eqb}
+use Rattle.laws.specs.Sums.{bit, count, every}
 use Rattle.laws.specs.Lists.{at, tabulate}
 use Rattle.laws.specs.Placement.{chosen, left, lrtf}
-use Rattle.station.specs.Head.{taken}
-use Rattle.placing.specs.method.Limits.{inLimits}
+use Rattle.station.specs.Limits.{mostLength}
+use Rattle.station.specs.Head.{hasBit}
+use Rattle.placing.specs.method.Limits.{mostPlaced, levelCount, sizesInLimits}
 use Rattle.placing.specs.Table.{Cells}
 use Rattle.placing.specs.Plan.{placing, freeCount}
 
@@ -20,19 +21,19 @@ abbrev pub without : ℕ → ℕ → ℕ
 without a b = bitXor a (bitAnd a b)
 
 -- the first d of those that pass a test: of jobs that need the same, "the earlier line first"
-abbrev pub firstOf : (ℕ → Bool) → ℕ → ℕ → Bool
-firstOf f d i = f i && ltb (count i f) d
+abbrev pub firstFew : (ℕ → Bool) → ℕ → ℕ → Bool
+firstFew f d i = f i && ltb (count i f) d
 
 -- The jobs by levels, a mask a level: job i stands in level l if it still needs l slots. Jobs that need none stand nowhere.
 -- "those with the most slots still to get, never one with none left": whoever goes down the levels meets the jobs in that order.
 abbrev pub Levelled : List ℕ → (ℕ → ℕ) → Type 0
-Levelled t c = (l i : ℕ) → 0 < l → l < 256 → i < 32 → taken (at t l) i ≡ eqb (c i) l
+Levelled t c = (l i : ℕ) → 0 < l → l < levelCount → i < mostPlaced → hasBit (at t l) i ≡ eqb (c i) l
 
 -- One slot with d free cells: the mask r has the jobs that get one, of those with the needs c, and each of them stands one level lower in t.
 -- "as many presets as there are free bridges, those with the most slots still to get, never one with none left".
 pub record Served (t : List ℕ) (c : ℕ → ℕ) (d r : ℕ) : Type 0 where
-  pub picks : (i : ℕ) → i < 32 → taken r i ≡ chosen 32 c d i
-  pub levels : Levelled t (λ i. c i - bit (taken r i))
+  pub picks : (i : ℕ) → i < mostPlaced → hasBit r i ≡ chosen mostPlaced c d i
+  pub levels : Levelled t (λ i. c i - bit (hasBit r i))
 
 -- What a job writes that needs `need` slots in all and `rest` of them still: `early` in its first `first` slots, `late` in the others.
 -- "A preset's first m cells in time are required, the rest refinement."
@@ -60,7 +61,7 @@ EmptyRow t start n f = (b : ℕ) → b < n → f b ≡ true → at t (start + b)
 
 -- the free bridges that a list of masks gives, one mask a slot
 abbrev pub freeIn : List ℕ → ℕ → ℕ → Bool
-freeIn masks s b = taken (at masks s) b
+freeIn masks s b = hasBit (at masks s) b
 
 -- what job i writes in slot s, where the jobs with the needs c go by LRTF into the free cells x
 abbrev pub cellIn : List ℕ → (ℕ → ℕ) → List ℕ → List ℕ → List ℕ → ℕ → ℕ → ℕ
@@ -82,7 +83,11 @@ placedIn slots bridges masks c first early late t =
     (cellsIn bridges t) (i / bridges) (i % bridges))
     ++ drop (slots * bridges) t
 
+-- What `place` can look at: as many jobs as are placed at a time, none of which needs more slots than the longest job, and a frame and a lent table within the limits.
+unfoldable pub placeable : ℕ → ℕ → List ℕ → ℕ → ℕ → Bool
+placeable slots bridges needs k cells = leb k mostPlaced && every k (λ i. leb (at needs i) mostLength) && sizesInLimits slots bridges 0 cells
+
 -- The lent table after `place`, for the first k needs of an array: beyond the limits it is as it was.
 unfoldable pub placedWithin : ℕ → ℕ → List ℕ → List ℕ → ℕ → List ℕ → List ℕ → List ℕ → List ℕ → List ℕ
 placedWithin slots bridges masks needs k first early late t =
-    cond (inLimits slots bridges k (length t)) (placedIn slots bridges masks (take k needs) first early late t) t
+    cond (placeable slots bridges needs k (length t)) (placedIn slots bridges masks (take k needs) first early late t) t

@@ -13,6 +13,7 @@ use Rattle.laws.specs.Sums.{sum, only, count, greatest, position}
 use Rattle.laws.specs.Lists.{at}
 use Rattle.laws.specs.Placement.{before, capacity, excess}
 use Rattle.laws.specs.Eviction.{put, ones}
+use Rattle.station.specs.Limits.{mostSlots, mostBridges, mostPresets, mostJobs, leastCells}
 use Rattle.station.specs.Head.{Head, Job}
 use Rattle.station.specs.declared.types.Preset as record-of-preset
 use Rattle.station.specs.declared.types.Head as record-of-head
@@ -21,11 +22,12 @@ use Rattle.placing.specs.declared.search.Search.{Search}
 use Rattle.placing.specs.declared.search.taking.Tally.{Tally}
 use Rattle.placing.specs.declared.search.Evicted.{Evicted}
 use Rattle.placing.specs.declared.search.Demand.{Demand}
-use Rattle.placing.specs.method.Limits.{inLimits}
-use Rattle.placing.specs.Table.{Cells, cell, isOptional, isEmpty, numberIn}
+use Rattle.placing.specs.method.Limits.{capacityCount, sizesInLimits}
+use Rattle.placing.specs.Table.{cellAt, Cells, cell, isEmpty, numberIn}
 use Rattle.placing.specs.Valid.{usable}
 use Rattle.placing.specs.method.Mask.{bridgeMask}
-use Rattle.placing.specs.Call.{Place, downward, lengths, evictedSet, callFits, callFree}
+use Rattle.placing.specs.method.Counts.{evictableCell}
+use Rattle.placing.specs.Call.{CellPlace, downward, lengths, evictedSet, callFits, callFree}
 
 -- How many of the first n of the needs cs come before that of job i: the longer first, of equal ones the earlier.
 unfoldable pub longerBelow : List ℕ → ℕ → ℕ → ℕ
@@ -47,14 +49,9 @@ totalAt v w n m = sum n (λ i. only (eqb (v i) m) (w i))
 unfoldable pub excessUpTo : List ℕ → List ℕ → ℕ → ℕ
 excessUpTo cs xs k = greatest k (λ r. at cs r - at xs r)
 
--- v is by how much the first k of the needs cs exceed cells whose capacities for 0 to 8 are xs, of whatever slots they are
-abbrev pub ExcessOver : List ℕ → ℕ → List ℕ → ℕ → Type 0
-ExcessOver cs k xs v =
-    (n : ℕ) (x : ℕ → ℕ) → ((r : ℕ) → r < 9 → getD xs r 0 ≡ capacity n x r) → v ≡ excess (length (take k cs)) (at (take k cs)) n x
-
 -- the empty cells among the bridges from a place of the table on
 abbrev pub emptyIn : List ℕ → ℕ → ℕ → Bool
-emptyIn t from b = isEmpty (getD t (from + b) 0)
+emptyIn t from b = isEmpty (cellAt t (from + b))
 
 -- their mask
 unfoldable pub emptyMask : List ℕ → ℕ → ℕ → ℕ
@@ -81,7 +78,7 @@ pub record Kept : Type 0 where
   pub evicted : ℕ
 
 -- with one more cell
-abbrev pub withCell : Place → Kept → Kept
+abbrev pub withCell : CellPlace → Kept → Kept
 withCell z k =
     record {
       free = set (k .free) (z .slot) (bitOr (getD (k .free) (z .slot) 0) (2 ^ z .bridge));
@@ -90,11 +87,11 @@ withCell z k =
     }
 
 -- one cell of the walk: it is evicted if that lowers the shortage
-unfoldable pub stepped : ((ℕ → ℕ) → ℕ) → Place → Kept → Kept
+unfoldable pub stepped : ((ℕ → ℕ) → ℕ) → CellPlace → Kept → Kept
 stepped short z k = cond (ltb (short (put (at (k .counts)) (z .slot))) (short (at (k .counts)))) (withCell z k) k
 
 -- the walk over a list of cells, one after the other
-unfoldable pub walked : ((ℕ → ℕ) → ℕ) → List Place → Kept → Kept
+unfoldable pub walked : ((ℕ → ℕ) → ℕ) → List CellPlace → Kept → Kept
 walked short [] k = k
 walked short (z ∷ zs) k = walked short zs (stepped short z k)
 
@@ -120,12 +117,12 @@ overAt d x r = at (d .sums) r - capacity (d .slots) x r
 -- The numbers that the search keeps beside that are right: the capacities for 0 to 8, the shortage, and the least r at which there is as much of it. The bounds
 -- keep sums from overflowing: a cell is taken only where the shortage falls.
 pub record Stands (d : Demand) (s : Search) : Type 0 where
-  pub few-jobs : d .jobs ≤ 8
-  pub few-slots : d .slots ≤ 64
-  pub free-long : length (s .free) ≡ 64
-  pub counts-long : length (s .counts) ≡ 64
-  pub capacities-long : length (s .capacities) ≡ 9
-  pub capacities : (r : ℕ) → r < 9 → getD (s .capacities) r 0 ≡ capacity (d .slots) (at (s .counts)) r
+  pub few-jobs : d .jobs ≤ mostJobs
+  pub few-slots : d .slots ≤ mostSlots
+  pub free-long : length (s .free) ≡ mostSlots
+  pub counts-long : length (s .counts) ≡ mostSlots
+  pub capacities-long : length (s .capacities) ≡ capacityCount
+  pub capacities : (r : ℕ) → r < capacityCount → getD (s .capacities) r 0 ≡ capacity (d .slots) (at (s .counts)) r
   pub short : s .short ≡ shortFor d (at (s .counts))
   pub tight-in : s .tight ≤ d .jobs
   pub tight-at : overAt d (at (s .counts)) (s .tight) ≡ s .short
@@ -134,7 +131,7 @@ pub record Stands (d : Demand) (s : Search) : Type 0 where
   pub low : (z : ℕ) → getD (s .counts) z 0 + s .short ≤ 4096
 
 -- what a part of the walk answers: the numbers stand, and what is kept is what the walk over zs makes of what was kept
-pub record Walked (d : Demand) (zs : List Place) (s r : Search) : Type 0 where
+pub record Walked (d : Demand) (zs : List CellPlace) (s r : Search) : Type 0 where
   pub stands : Stands d r
   pub kept : keptIn r ≡ walked (shortFor d) zs (keptIn s)
 
@@ -148,47 +145,47 @@ pub record Starts (t : List ℕ) (bridges clock : ℕ) (d : Demand) (s : Search)
 -- ---- The eviction order over a list of cells, with the ranks by number in a list: `evictionOrder`, part by part. "The order of loss: worst rank
 -- first; for one preset the latest slot first."
 
--- a refinement cell of the preset that has the rank
+-- a cell that a call may evict, of the preset that has the rank
 abbrev pub ofRank : List ℕ → ℕ → ℕ → Bool
-ofRank ranks rank v = isOptional v && eqb (getD ranks (numberIn v) 0) rank
+ofRank ranks rank v = evictableCell v && eqb (getD ranks (numberIn v) 0) rank
 
 -- the cells of one rank in a slot, among its first n bridges
-unfoldable pub placesIn : List ℕ → ℕ → List ℕ → ℕ → ℕ → ℕ → List Place
+unfoldable pub placesIn : List ℕ → ℕ → List ℕ → ℕ → ℕ → ℕ → List CellPlace
 placesIn t bridges ranks rank slot n =
-    downward n (λ b. cond (ofRank ranks rank (getD t (slot * bridges + b) 0)) (record { slot = slot; bridge = b } ∷ []) [])
+    downward n (λ b. cond (ofRank ranks rank (cellAt t (slot * bridges + b))) (record { slot = slot; bridge = b } ∷ []) [])
 
 -- the cells of one rank in the first n slots, from the clock on
-unfoldable pub placesFrom : List ℕ → ℕ → ℕ → List ℕ → ℕ → ℕ → List Place
+unfoldable pub placesFrom : List ℕ → ℕ → ℕ → List ℕ → ℕ → ℕ → List CellPlace
 placesFrom t bridges clock ranks rank n =
     downward n (λ s. cond (usable clock s) (placesIn t bridges ranks rank s bridges) [])
 
 -- the cells of the first n ranks
-unfoldable pub placesOf : List ℕ → ℕ → ℕ → ℕ → List ℕ → ℕ → List Place
+unfoldable pub placesOf : List ℕ → ℕ → ℕ → ℕ → List ℕ → ℕ → List CellPlace
 placesOf t bridges slots clock ranks n = downward n (λ r. placesFrom t bridges clock ranks r slots)
 
 -- ---- The refinement cells as chains, one for each rank.
 
 -- the cell at a place of the chains, of which a slot has eight
-abbrev pub placeAt : ℕ → Place
-placeAt c = record { slot = c / 8; bridge = c % 8 }
+abbrev pub placeAt : ℕ → CellPlace
+placeAt c = record { slot = c / mostBridges; bridge = c % mostBridges }
 
 -- The cells zs are a chain from c on: c is one more than the first one's place, at a cell's place `next` has one more than the place of the cell after it, and 0 ends the chain.
-unfoldable pub Chain : List ℕ → ℕ → List Place → Type 0
+unfoldable pub Chain : List ℕ → ℕ → List CellPlace → Type 0
 Chain next c [] = c ≡ 0
 Chain next c (z ∷ zs) = (0 < c) × (z ≡ placeAt (c - 1)) × Chain next (getD next (c - 1) 0) zs
 
 -- for each rank the cells `of` it are a chain
-abbrev pub Chains : List ℕ → List ℕ → (ℕ → List Place) → Type 0
-Chains first next of = (r : ℕ) → r < 32 → Chain next (getD first r 0) (of r)
+abbrev pub Chains : List ℕ → List ℕ → (ℕ → List CellPlace) → Type 0
+Chains first next of = (r : ℕ) → r < mostPresets → Chain next (getD first r 0) (of r)
 
 -- the cells of each rank with one cell of a rank before them
-abbrev pub preceded : ℕ → ℕ → (ℕ → List Place) → ℕ → List Place
+abbrev pub preceded : ℕ → ℕ → (ℕ → List CellPlace) → ℕ → List CellPlace
 preceded rank place of r = cond (eqb rank r) (placeAt place ∷ []) [] ++ of r
 
 -- the chains go down, from below a place
 pub record Linked (first next : List ℕ) (bound : ℕ) : Type 0 where
-  pub first-long : length first ≡ 32
-  pub next-long : length next ≡ 512
+  pub first-long : length first ≡ mostPresets
+  pub next-long : length next ≡ leastCells
   pub below : (r : ℕ) → getD first r 0 ≤ bound
   pub down : (c : ℕ) → getD next c 0 ≤ c
 
@@ -208,11 +205,11 @@ pub record Evicts (h : Head) (clock : ℕ) (jobs : List Job) (t : Cells) (r : Ev
 
 -- What the search can look at: a frame, presets and a lent table within the limits, and at most eight jobs.
 abbrev pub searchable : record-of-head.Head → ℕ → ℕ → Bool
-searchable head k cells = leb k 8 && inLimits (head .slots) (head .bridges) (head .count) cells
+searchable head k cells = leb k mostJobs && sizesInLimits (head .slots) (head .bridges) (head .count) cells
 
 -- the answer where it cannot: the call does not fit
 abbrev pub unfit : Evicted
-unfit = record { fits = false; count = 0; free = replicate 64 0 }
+unfit = record { fits = false; count = 0; free = replicate mostSlots 0 }
 
 -- What `evict` answers for a head record, its preset records, the first k needs and a lent table: for all jobs of these lengths what the search finds,
 -- or that the call does not fit where the search cannot look at the frame. A head record that some text yields is within the limits.

@@ -1,10 +1,13 @@
 // The check of a table.
 use crate::cells::BUSY;
 use crate::cells::CALL;
+use crate::cells::Cell;
 use crate::cells::MANDATORY;
 use crate::cells::OPTIONAL;
 use crate::cells::VALUES;
 use crate::cells::number_in;
+use station::limits::MOST_FRAME_JOBS;
+use station::limits::MOST_PRESETS;
 use station::types::Head;
 use station::types::Preset;
 ghost use mathlib.Core.Path.{_≡_};
@@ -12,6 +15,7 @@ ghost use mathlib.Core.Bool.{true};
 ghost use Prim.Native.Nat.{_+_, _*_, _<_, _≤_};
 ghost use lib.ListN.{length};
 ghost use Rattle.laws.specs.Sums.{every, count};
+ghost use Rattle.station.specs.Limits.{mostSlots, mostBridges, mostPresets, leastCells};
 ghost use Rattle.station.specs.Types.{headIn, presetIn, validRecord};
 ghost use Rattle.placing.specs.method.Check.{tally, numbered, cellFits, FirstFault, isMet, presetMet, hasCall};
 ghost use Rattle.placing.specs.Table.{cell, wellFormed};
@@ -25,7 +29,7 @@ const OPTIONALS: usize = 256;
 const CALLS: usize = 512;
 
 // Whether a cell may hold v, by the counts of the presets' numbers and of the cells before it: busy just where the head says so.
-fn cell_fits(v: u16, busy: bool, numbers: &[u8; 256], counts: &[u16; COUNTS]) -> bool
+fn cell_fits(v: Cell, busy: bool, numbers: &[u8; 256], counts: &[u16; COUNTS]) -> bool
     ensures { λ r. ⌜ r ≡ cellFits (now (numbers .entry)) (now (counts .entry)) busy v ⌝ }
 {
     if busy {
@@ -57,8 +61,8 @@ fn cell_fits(v: u16, busy: bool, numbers: &[u8; 256], counts: &[u16; COUNTS]) ->
 // The first cell at fault, slot by slot and in each slot bridge by bridge, as its place in the table; the number of the frame's cells where none is. Each cell is
 // judged by the cells before it, so those behind the first at fault are not looked at. The cells before it that have numbers are counted, and their numbers get the
 // slot's mark in `last`, so that a number which has it already stands in the slot twice.
-fn scan(head: Head, numbers: &[u8; 256], table: &[u16], counts: &mut [u16; COUNTS]) -> usize
-    requires { ⌜ (head .slots ≤ 64) × (head .bridges ≤ 8) × (512 ≤ length (now table)) × (now counts ≡ tally (now table) 0) ⌝ }
+fn scan(head: Head, numbers: &[u8; 256], table: &[Cell], counts: &mut [u16; COUNTS]) -> usize
+    requires { ⌜ (head .slots ≤ mostSlots) × (head .bridges ≤ mostBridges) × (leastCells ≤ length (now table)) × (now counts ≡ tally (now table) 0) ⌝ }
     ensures { λ r. ⌜ FirstFault (head .slots) (head .bridges) (head .busy) (now (numbers .entry)) (now (table .entry)) r × (now (counts .exit) ≡ tally (now (table .entry)) r) ⌝ }
 {
     let slots = head.slots;
@@ -90,8 +94,8 @@ fn scan(head: Head, numbers: &[u8; 256], table: &[u16], counts: &mut [u16; COUNT
 }
 
 // How many presets have each number.
-fn preset_numbers(head: Head, presets: [Preset; 32]) -> [u8; 256]
-    requires { ⌜ head .count ≤ 32 ⌝ }
+fn preset_numbers(head: Head, presets: [Preset; MOST_PRESETS]) -> [u8; 256]
+    requires { ⌜ head .count ≤ mostPresets ⌝ }
     ensures { λ r. ⌜ r ≡ numbered (headIn head presets .presets) (head .count) ⌝ }
 {
     let count = head.count;
@@ -119,8 +123,8 @@ fn preset_met(preset: Preset, counts: &[u16; COUNTS]) -> bool
 }
 
 // The same of every preset.
-fn presets_met(head: Head, presets: [Preset; 32], counts: &[u16; COUNTS]) -> bool
-    requires { ⌜ head .count ≤ 32 ⌝ }
+fn presets_met(head: Head, presets: [Preset; MOST_PRESETS], counts: &[u16; COUNTS]) -> bool
+    requires { ⌜ head .count ≤ mostPresets ⌝ }
     ensures { λ r. ⌜ r ≡ every (head .count) (presetMet (headIn head presets .presets) (now (counts .entry))) ⌝ }
 {
     let count = head.count;
@@ -135,7 +139,7 @@ fn presets_met(head: Head, presets: [Preset; 32], counts: &[u16; COUNTS]) -> boo
 }
 
 // How many job numbers the table has.
-fn job_count(counts: &[u16; COUNTS]) -> u16
+fn job_count(counts: &[u16; COUNTS]) -> usize
     ensures { λ r. ⌜ r ≡ count 256 (hasCall (now (counts .entry))) ⌝ }
 {
     let mut jobs = 0;
@@ -151,8 +155,8 @@ fn job_count(counts: &[u16; COUNTS]) -> u16
 }
 
 // Whether the table is well-formed: no cell at fault, then the presets' counts, then the number of jobs.
-pub(crate) fn well_formed(head: Head, presets: [Preset; 32], table: &[u16]) -> bool
-    requires { ⌜ (validRecord head presets ≡ true) × (512 ≤ length (now table)) ⌝ }
+pub(crate) fn well_formed(head: Head, presets: [Preset; MOST_PRESETS], table: &[Cell]) -> bool
+    requires { ⌜ (validRecord head presets ≡ true) × (leastCells ≤ length (now table)) ⌝ }
     ensures { λ r. ⌜ r ≡ wellFormed (headIn head presets) (cell (headIn head presets) (now (table .entry))) ⌝ }
 {
     let cells = head.slots * head.bridges;
@@ -164,5 +168,5 @@ pub(crate) fn well_formed(head: Head, presets: [Preset; 32], table: &[u16]) -> b
     if !presets_met(head, presets, &counts) {
         return false;
     }
-    job_count(&counts) <= 64
+    job_count(&counts) <= MOST_FRAME_JOBS
 }

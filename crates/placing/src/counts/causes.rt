@@ -1,29 +1,30 @@
 // The causes of a call itself, tried by the counts of the table and the clock: 2, 4 and 9 of its jobs, then 7.
 use crate::check::Cause;
-use crate::counts::needs::job_needs;
-use crate::search::excess::excess_over;
+use crate::grants::fits;
+use crate::grants::raise_sums;
+use crate::limits::CAPACITY_COUNT;
 use station::check::job_in_limits;
+use station::limits::MOST_FRAME_JOBS;
+use station::limits::MOST_JOBS;
 use station::types::Job;
 use station::types::Refusal;
-ghost use Prim.Native.Nat.{_+_, _<_, _≤_};
+ghost use Prim.Native.Nat.{ℕ, _+_, _*_, _<_, _≤_};
 ghost use mathlib.Core.Path.{_≡_};
 ghost use mathlib.Core.Bool.{false, not};
 ghost use mathlib.Core.Option.{none};
 ghost use Rattle.laws.specs.Sums.{every};
+ghost use Rattle.laws.specs.Lists.{at};
+ghost use Rattle.station.specs.Limits.{mostJobs, mostFrameJobs, mostLength};
 ghost use Rattle.placing.specs.Types.{jobsIn};
 ghost use Rattle.placing.specs.Outcomes.{jobsOutside};
 ghost use Rattle.placing.specs.Causes.{causeIn, callJobs};
+ghost use Rattle.placing.specs.method.Limits.{capacityCount};
 ghost use Rattle.placing.specs.method.Jobs.{jobNumber, isOther, jobNew};
-ghost use Rattle.placing.specs.method.Counts.{CountedFit, CountedCause};
-
-// How many jobs a call has at the most, and how many job numbers a table.
-const JOBS: usize = 8;
-
-const NUMBERS: usize = 64;
+ghost use Rattle.placing.specs.method.Counts.{FitBeside, CountedFit, OwnCause, CountedCause};
 
 // Whether the first n jobs are no call's: none at all, or one outside its limits.
-fn jobs_outside(jobs: [Job; 8], n: usize) -> bool
-    requires { ⌜ n ≤ 8 ⌝ }
+fn jobs_outside(jobs: [Job; MOST_JOBS], n: usize) -> bool
+    requires { ⌜ n ≤ mostJobs ⌝ }
     ensures { λ r. ⌜ r ≡ jobsOutside (jobsIn n jobs) ⌝ }
 {
     if n == 0 {
@@ -40,8 +41,8 @@ fn jobs_outside(jobs: [Job; 8], n: usize) -> bool
 }
 
 // Whether no job before job i has the number of job i.
-fn is_first(jobs: [Job; 8], i: usize) -> bool
-    requires { ⌜ i < 8 ⌝ }
+fn is_first(jobs: [Job; MOST_JOBS], i: usize) -> bool
+    requires { ⌜ i < mostJobs ⌝ }
     ensures { λ r. ⌜ r ≡ every i (isOther jobs (jobNumber jobs i)) ⌝ }
 {
     let job = jobs[i];
@@ -58,8 +59,8 @@ fn is_first(jobs: [Job; 8], i: usize) -> bool
 }
 
 // Whether one of the first n jobs has a number that is used, or that a job before it has.
-fn jobs_used(used: &[u8; 256], jobs: [Job; 8], n: usize) -> bool
-    requires { ⌜ (n ≤ 8) × (jobsOutside (jobsIn n jobs) ≡ false) ⌝ }
+fn jobs_used(used: &[u8; 256], jobs: [Job; MOST_JOBS], n: usize) -> bool
+    requires { ⌜ (n ≤ mostJobs) × (jobsOutside (jobsIn n jobs) ≡ false) ⌝ }
     ensures { λ r. ⌜ r ≡ not (every n (jobNew (now (used .entry)) jobs)) ⌝ }
 {
     let mut i = 0;
@@ -77,31 +78,51 @@ fn jobs_used(used: &[u8; 256], jobs: [Job; 8], n: usize) -> bool
     false
 }
 
-// Whether the first n jobs fit into the cells that they may use, whose capacities for 0 to 8 are given. One job alone fits if it is no longer than the capacity for one.
-fn jobs_fit(capacities: &[usize; 9], jobs: [Job; 8], n: usize) -> bool
-    requires { ⌜ (n ≤ 8) × (jobsOutside (jobsIn n jobs) ≡ false) ⌝ }
+// Whether the first n jobs fit beside what is unfinished, of which the sums of the r longest for r from 0 to 8 and all of it together are given, into cells whose
+// capacities for 0 to 8 are given.
+fn fits_by_counts(
+    sums: [usize; CAPACITY_COUNT],
+    total: usize,
+    capacities: &[usize; CAPACITY_COUNT],
+    jobs: [Job; MOST_JOBS],
+    n: usize,
+) -> bool
+    requires { ⌜ (n ≤ mostJobs) × (jobsOutside (jobsIn n jobs) ≡ false) × ((r : ℕ) → r < capacityCount → at sums r ≤ mostFrameJobs * mostLength) × (total ≤ mostFrameJobs * mostLength) ⌝ }
+    ensures { λ r. ⌜ FitBeside sums total (now (capacities .entry)) (jobsIn n jobs) r ⌝ }
+{
+    let mut all = sums;
+    let mut together = total;
+    let mut i = 0;
+    while i < n {
+        let job = jobs[i];
+        let need = job.slots as usize;
+        raise_sums(&mut all, 0, need);
+        together += need;
+        i += 1;
+    }
+    fits(&all, together, capacities)
+}
+
+// Whether the first n jobs fit into the cells that they may use, whose capacities for 0 to 8 are given. Nothing is unfinished beside them, so that one job alone fits if it
+// is no longer than the capacity for one.
+fn jobs_fit(capacities: &[usize; CAPACITY_COUNT], jobs: [Job; MOST_JOBS], n: usize) -> bool
+    requires { ⌜ (n ≤ mostJobs) × (jobsOutside (jobsIn n jobs) ≡ false) ⌝ }
     ensures { λ r. ⌜ CountedFit (now (capacities .entry)) (jobsIn n jobs) r ⌝ }
 {
     if n == 1 {
         let job = jobs[0];
         return job.slots as usize <= capacities[1];
     }
-    let needs = job_needs(jobs);
-    excess_over(needs, n, capacities) == 0
+    let none = [0usize; CAPACITY_COUNT];
+    fits_by_counts(none, 0, capacities, jobs, n)
 }
 
-// The causes of a call of the first n jobs itself, by the counts of the table and the clock: 2 for a ninth job, for none, or for one outside its limits, 4 for a number
-// that is used or twice in the call, 9 for more than 64 job numbers, 7 where the call does not fit.
-pub(crate) fn cause_by_counts(
-    used: &[u8; 256],
-    held: usize,
-    capacities: &[usize; 9],
-    jobs: [Job; 8],
-    n: usize,
-) -> Cause
-    ensures { λ r. ⌜ CountedCause (now (used .entry)) held (now (capacities .entry)) (callJobs n jobs) r × (causeIn r ≡ none → held + n ≤ 64) ⌝ }
+// The causes of the first n jobs of a call, by the numbers that are used and how many of them the call cells have: 2 for a ninth job, for none, or for one outside its
+// limits, 4 for a number that is used or twice in the call, 9 for more than 64 job numbers.
+fn own_cause(used: &[u8; 256], admitted: usize, jobs: [Job; MOST_JOBS], n: usize) -> Cause
+    ensures { λ r. ⌜ OwnCause (now (used .entry)) admitted (callJobs n jobs) r × (causeIn r ≡ none → (admitted + n ≤ mostFrameJobs) × (n ≤ mostJobs) × (jobsOutside (jobsIn n jobs) ≡ false)) ⌝ }
 {
-    if JOBS < n {
+    if MOST_JOBS < n {
         return Cause::Met(Refusal::OutOfLimits);
     }
     if jobs_outside(jobs, n) {
@@ -110,8 +131,24 @@ pub(crate) fn cause_by_counts(
     if jobs_used(used, jobs, n) {
         return Cause::Met(Refusal::NumberUsed);
     }
-    if NUMBERS - n < held {
+    if MOST_FRAME_JOBS - n < admitted {
         return Cause::Met(Refusal::TooMany);
+    }
+    Cause::Passed
+}
+
+// The causes of a call of the first n jobs itself, by the counts of the table and the clock: those of its jobs, then 7 where it does not fit.
+pub(crate) fn cause_by_counts(
+    used: &[u8; 256],
+    admitted: usize,
+    capacities: &[usize; CAPACITY_COUNT],
+    jobs: [Job; MOST_JOBS],
+    n: usize,
+) -> Cause
+    ensures { λ r. ⌜ CountedCause (now (used .entry)) admitted (now (capacities .entry)) (callJobs n jobs) r × (causeIn r ≡ none → admitted + n ≤ mostFrameJobs) ⌝ }
+{
+    if let Cause::Met(r) = own_cause(used, admitted, jobs, n) {
+        return Cause::Met(r);
     }
     if !jobs_fit(capacities, jobs, n) {
         return Cause::Met(Refusal::CallNotFeasible);

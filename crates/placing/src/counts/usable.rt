@@ -1,28 +1,32 @@
 // The capacities of the cells that a call may use: those of a table and a clock, and what is left of them where the clock moves.
 use crate::capacities::capacities_of;
-use crate::cells::is_optional;
+use crate::cells::Cell;
+use crate::cells::is_evictable;
+use crate::limits::CAPACITY_COUNT;
 use crate::limits::in_limits;
 use crate::numbers::less;
 use crate::numbers::smaller;
 use crate::search::empty::first_slot;
+use station::limits::MOST_BRIDGES;
 ghost use Prim.Native.Nat.{ℕ, _+_, _-_, _<_, _≤_, min};
 ghost use mathlib.Core.Path.{_≡_};
 ghost use mathlib.Core.Bool.{true};
 ghost use lib.ListN.{length, getD};
 ghost use Rattle.laws.specs.Sums.{bit};
 ghost use Rattle.laws.specs.method.Capacities.{ByFree};
+ghost use Rattle.station.specs.Limits.{mostSlots, mostBridges, leastCells};
 ghost use Rattle.placing.specs.Valid.{clockIn};
-ghost use Rattle.placing.specs.method.Limits.{inLimits};
+ghost use Rattle.placing.specs.method.Limits.{sizesInLimits, capacityCount};
 ghost use Rattle.placing.specs.method.Counts.{freeCell, freeIn, slotFree, CapacitiesAt};
 
-// 1 for a cell that a call may use, an empty or an optional one; else 0.
-fn free_cell(v: u16) -> u16
+// 1 for a cell that a call may use, an empty one or one that it may evict; else 0.
+fn free_cell(v: Cell) -> u16
     ensures { λ r. ⌜ (r ≡ bit (freeCell v)) × (r ≤ 1) ⌝ }
 {
     if v == 0 {
         return 1;
     }
-    if is_optional(v) {
+    if is_evictable(v) {
         return 1;
     }
     0
@@ -30,13 +34,13 @@ fn free_cell(v: u16) -> u16
 
 // How many cells of the slot whose first cell is at `from` a call may use. Always eight cells are looked at, so that one vector instruction looks at all; those past the
 // slot count for nothing.
-fn free_in(table: &[u16], from: usize, bridges: usize) -> usize
-    requires { ⌜ (bridges ≤ 8) × (from + 8 ≤ length (now table)) ⌝ }
+fn free_in(table: &[Cell], from: usize, bridges: usize) -> usize
+    requires { ⌜ (bridges ≤ mostBridges) × (from + mostBridges ≤ length (now table)) ⌝ }
     ensures { λ r. ⌜ r ≡ freeIn (now (table .entry)) from bridges ⌝ }
 {
     let mut free: u16 = 0;
     let mut b = 0;
-    while b < 8 {
+    while b < MOST_BRIDGES {
         let one = free_cell(table[from + b]);
         if b < bridges {
             free += one;
@@ -47,11 +51,16 @@ fn free_in(table: &[u16], from: usize, bridges: usize) -> usize
 }
 
 // For 0 to 8 the number of slots that have as many cells that a call may use. A slot before the clock has none.
-fn count_slots(table: &[u16], slots: usize, bridges: usize, clock: usize) -> [usize; 9]
-    requires { ⌜ (slots ≤ 64) × (bridges ≤ 8) × (512 ≤ length (now table)) ⌝ }
+fn count_slots(
+    table: &[Cell],
+    slots: usize,
+    bridges: usize,
+    clock: usize,
+) -> [usize; CAPACITY_COUNT]
+    requires { ⌜ (slots ≤ mostSlots) × (bridges ≤ mostBridges) × (leastCells ≤ length (now table)) ⌝ }
     ensures { λ r. ⌜ ByFree r slots (slotFree (now (table .entry)) bridges clock) ⌝ }
 {
-    let mut with = [0usize; 9];
+    let mut with = [0usize; CAPACITY_COUNT];
     let mut s = first_slot(clock, slots);
     with[0] = s;
     while s < slots {
@@ -63,22 +72,27 @@ fn count_slots(table: &[u16], slots: usize, bridges: usize, clock: usize) -> [us
 }
 
 // The capacities for 0 to 8 of the cells that a call may use, of a table and a clock within the limits.
-pub(crate) fn capacities_at(slots: usize, bridges: usize, table: &[u16], clock: usize) -> [usize; 9]
-    ensures { λ r. ⌜ (inLimits slots bridges 0 (length (now (table .entry))) ≡ true → CapacitiesAt (now (table .entry)) slots bridges clock r) ⌝ }
+pub(crate) fn capacities_at(
+    slots: usize,
+    bridges: usize,
+    table: &[Cell],
+    clock: usize,
+) -> [usize; CAPACITY_COUNT]
+    ensures { λ r. ⌜ (sizesInLimits slots bridges 0 (length (now (table .entry))) ≡ true → CapacitiesAt (now (table .entry)) slots bridges clock r) ⌝ }
 {
     if !in_limits(slots, bridges, 0, table.len()) {
-        return [0usize; 9];
+        return [0usize; CAPACITY_COUNT];
     }
     let with = count_slots(table, slots, bridges, clock);
     capacities_of(&with, slots)
 }
 
 // Takes a slot that has x free cells off the capacities.
-fn take_slot(capacities: &mut [usize; 9], x: usize)
-    ensures { λ _. ⌜ (length (now (capacities .exit)) ≡ length (now (capacities .entry))) × (length (now (capacities .entry)) ≡ 9 → (r : ℕ) → r < 9 → getD (now (capacities .exit)) r 0 ≡ getD (now (capacities .entry)) r 0 - min r x) ⌝ }
+fn take_slot(capacities: &mut [usize; CAPACITY_COUNT], x: usize)
+    ensures { λ _. ⌜ (length (now (capacities .exit)) ≡ length (now (capacities .entry))) × (length (now (capacities .entry)) ≡ capacityCount → (r : ℕ) → r < capacityCount → getD (now (capacities .exit)) r 0 ≡ getD (now (capacities .entry)) r 0 - min r x) ⌝ }
 {
     let mut r = 0;
-    while r < 9 {
+    while r < CAPACITY_COUNT {
         capacities[r] = less(capacities[r], smaller(r, x));
         r += 1;
     }
@@ -89,12 +103,12 @@ fn take_slot(capacities: &mut [usize; 9], x: usize)
 pub fn pass_slots(
     slots: usize,
     bridges: usize,
-    table: &[u16],
+    table: &[Cell],
     from: usize,
     to: usize,
-    capacities: &mut [usize; 9],
+    capacities: &mut [usize; CAPACITY_COUNT],
 )
-    ensures { λ _. ⌜ (inLimits slots bridges 0 (length (now (table .entry))) ≡ true → clockIn slots from ≡ true → clockIn slots to ≡ true → from ≤ to
+    ensures { λ _. ⌜ (sizesInLimits slots bridges 0 (length (now (table .entry))) ≡ true → clockIn slots from ≡ true → clockIn slots to ≡ true → from ≤ to
         → CapacitiesAt (now (table .entry)) slots bridges from (now (capacities .entry)) → CapacitiesAt (now (table .entry)) slots bridges to (now (capacities .exit))) ⌝ }
 {
     if !in_limits(slots, bridges, 0, table.len()) {

@@ -1,7 +1,9 @@
 // Who gets a cell in one slot: largest remaining time first. The jobs are kept by levels, a mask a level: level l has, as one bit each, those that still
 // need l slots, so that whoever goes down the levels meets those with the most slots still to get first.
+use crate::limits::MOST_PLACED;
 use crate::numbers::wide;
 use crate::rule::masks::without_lowest;
+use station::limits::MOST_LENGTH;
 ghost use mathlib.Core.Path.{_≡_};
 ghost use mathlib.Core.Bool.{_&&_};
 ghost use Prim.Native.Nat.{ℕ, _-_, _<_, _≤_, _^_};
@@ -9,20 +11,32 @@ ghost use lib.ListN.{length, replicate};
 ghost use lib.Count.{ones};
 ghost use lib.Dec.{ltb, eqb};
 ghost use Rattle.laws.specs.Lists.{at};
-ghost use Rattle.station.specs.Head.{taken};
-ghost use Rattle.placing.specs.method.Rule.{without, firstOf, Levelled, Served};
+ghost use Rattle.station.specs.Head.{hasBit};
+ghost use Rattle.placing.specs.method.Limits.{mostPlaced, levelCount};
+ghost use Rattle.placing.specs.method.Rule.{without, firstFew, Levelled, Served};
+
+// How many levels there are: for those that still need 0 to as many slots as the longest job.
+pub(crate) const LEVELS: usize = MOST_LENGTH as usize + 1;
+
+// The level of job i: what it needs.
+fn level_of(needs: &[u8; MOST_PLACED], i: usize) -> usize
+    requires { ⌜ (i < mostPlaced) × (at (now needs) i < levelCount) ⌝ }
+    ensures { λ r. ⌜ (r ≡ at (now (needs .entry)) i) × (r < levelCount) ⌝ }
+{
+    wide(needs[i])
+}
 
 // Puts the first k jobs into levels in which nobody stands, and answers the highest level of a job, or 0.
-pub(crate) fn enter(levels: &mut [u32; 256], needs: &[u8; 32], k: usize) -> usize
-    requires { ⌜ (k ≤ 32) × (now levels ≡ replicate 256 0) ⌝ }
-    ensures { λ r. ⌜ (length (now (levels .exit)) ≡ 256)
-        × ((l i : ℕ) → taken (at (now (levels .exit)) l) i ≡ (ltb i k && eqb (at (now (needs .entry)) i) l))
-        × (r < 256) × ((i : ℕ) → i < k → at (now (needs .entry)) i ≤ r) ⌝ }
+pub(crate) fn enter(levels: &mut [u64; LEVELS], needs: &[u8; MOST_PLACED], k: usize) -> usize
+    requires { ⌜ (k ≤ mostPlaced) × ((i : ℕ) → i < k → at (now needs) i < levelCount) × (now levels ≡ replicate levelCount 0) ⌝ }
+    ensures { λ r. ⌜ (length (now (levels .exit)) ≡ levelCount)
+        × ((l i : ℕ) → hasBit (at (now (levels .exit)) l) i ≡ (ltb i k && eqb (at (now (needs .entry)) i) l))
+        × (r < levelCount) × ((i : ℕ) → i < k → at (now (needs .entry)) i ≤ r) ⌝ }
 {
     let mut top = 0;
     for i in 0..k {
-        let l = wide(needs[i]);
-        levels[l] = levels[l] | (1u32 << i);
+        let l = level_of(needs, i);
+        levels[l] = levels[l] | (1u64 << i);
         if top < l {
             top = l;
         }
@@ -31,8 +45,8 @@ pub(crate) fn enter(levels: &mut [u32; 256], needs: &[u8; 32], k: usize) -> usiz
 }
 
 // The highest level from `from` down in which somebody stands that is not in the mask `served`, or 0.
-pub(crate) fn highest(levels: &[u32; 256], from: usize, served: u32) -> usize
-    requires { ⌜ from < 256 ⌝ }
+pub(crate) fn highest(levels: &[u64; LEVELS], from: usize, served: u64) -> usize
+    requires { ⌜ from < levelCount ⌝ }
     ensures { λ r. ⌜ (r ≤ from) × ((l : ℕ) → r < l → l ≤ from → without (at (now (levels .entry)) l) served ≡ 0) ⌝ }
 {
     let mut l = from;
@@ -48,13 +62,13 @@ pub(crate) fn highest(levels: &[u32; 256], from: usize, served: u32) -> usize
 
 // The first jobs of a mask, and how many more were asked for.
 pub(crate) struct First {
-    pub jobs: u32,
+    pub jobs: u64,
     pub more: u32,
 }
 
 // The first d jobs of a mask, or all of it: "Equal ones: the earlier line first". The lowest bits go one by one, which costs less than to count them.
-fn first_of(mask: u32, d: u32) -> First
-    ensures { λ r. ⌜ (r .jobs < 2 ^ 32) × ((i : ℕ) → i < 32 → taken (r .jobs) i ≡ firstOf (taken mask) d i) × (r .more ≡ d - ones (r .jobs)) ⌝ }
+fn first_of(mask: u64, d: u32) -> First
+    ensures { λ r. ⌜ (r .jobs < 2 ^ mostPlaced) × ((i : ℕ) → i < mostPlaced → hasBit (r .jobs) i ≡ firstFew (hasBit mask) d i) × (r .more ≡ d - ones (r .jobs)) ⌝ }
 {
     let mut rest = mask;
     let mut more = d;
@@ -75,12 +89,12 @@ fn first_of(mask: u32, d: u32) -> First
 }
 
 // The jobs that get one of d cells, where nobody stands above level `top`. Each of them moves to the level below; there it is passed over, since it has got a cell.
-pub(crate) fn choose(levels: &mut [u32; 256], top: usize, d: u32) -> u32
-    requires { ⌜ (top < 256) × (length (now levels) ≡ 256) ⌝ }
-    ensures { λ r. ⌜ (length (now (levels .exit)) ≡ 256)
-        × ((c : ℕ → ℕ) → Levelled (now (levels .entry)) c → ((i : ℕ) → i < 32 → c i ≤ top) → Served (now (levels .exit)) c d r) ⌝ }
+pub(crate) fn choose(levels: &mut [u64; LEVELS], top: usize, d: u32) -> u64
+    requires { ⌜ (top < levelCount) × (length (now levels) ≡ levelCount) ⌝ }
+    ensures { λ r. ⌜ (length (now (levels .exit)) ≡ levelCount)
+        × ((c : ℕ → ℕ) → Levelled (now (levels .entry)) c → ((i : ℕ) → i < mostPlaced → c i ≤ top) → Served (now (levels .exit)) c d r) ⌝ }
 {
-    let mut served: u32 = 0;
+    let mut served: u64 = 0;
     let mut rest = d;
     let mut l = top;
     while 0 < l {

@@ -6,12 +6,13 @@ ghost use Prim.Native.Nat.{_-_, _<_, _≤_};
 ghost use lib.Bits.{bitAnd};
 ghost use lib.Count.{trailingZeros};
 ghost use Rattle.laws.specs.Sums.{count};
-ghost use Rattle.station.specs.Head.{taken};
+ghost use Rattle.station.specs.Limits.{mostBridges};
+ghost use Rattle.station.specs.Head.{hasBit};
 
 // How many of the first `bridges` bridges are free; what the mask has past them does not count.
 pub(crate) fn count_free(mask: u8, bridges: usize) -> u32
-    requires { ⌜ bridges ≤ 8 ⌝ }
-    ensures { λ r. ⌜ r ≡ count bridges (taken mask) ⌝ }
+    requires { ⌜ bridges ≤ mostBridges ⌝ }
+    ensures { λ r. ⌜ r ≡ count bridges (hasBit mask) ⌝ }
 {
     u16::count_ones(widened(mask) % (1u16 << bridges))
 }
@@ -33,15 +34,15 @@ pub(crate) fn without_next(mask: u8) -> u8
     mask & (mask - 1)
 }
 
-// The earliest job of a mask, or 32 if there is none.
-pub(crate) fn next_job(mask: u32) -> usize
-    ensures { λ r. ⌜ r ≡ trailingZeros 32 mask ⌝ }
+// The earliest job of a mask, or 64 if there is none.
+pub(crate) fn next_job(mask: u64) -> usize
+    ensures { λ r. ⌜ r ≡ trailingZeros 64 mask ⌝ }
 {
-    index(u32::trailing_zeros(mask))
+    index(u64::trailing_zeros(mask))
 }
 
 // A mask without its lowest bit, or 0.
-pub(crate) fn without_lowest(mask: u32) -> u32
+pub(crate) fn without_lowest(mask: u64) -> u64
     ensures { λ r. ⌜ r ≡ bitAnd mask (mask - 1) ⌝ }
 {
     if mask == 0 {

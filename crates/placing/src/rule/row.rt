@@ -1,4 +1,6 @@
 // One slot's row of the table: what each job writes there, who takes which free bridge, and the row itself.
+use crate::cells::Cell;
+use crate::limits::MOST_PLACED;
 use crate::rule::masks::next_free;
 use crate::rule::masks::next_job;
 use crate::rule::masks::without_lowest;
@@ -10,12 +12,19 @@ ghost use lib.ListN.{length, set};
 ghost use Rattle.laws.specs.Sums.{bit};
 ghost use Rattle.laws.specs.Lists.{at};
 ghost use Rattle.laws.specs.Cells.{slotCell};
-ghost use Rattle.station.specs.Head.{taken};
+ghost use Rattle.station.specs.Limits.{mostBridges};
+ghost use Rattle.station.specs.Head.{hasBit};
+ghost use Rattle.placing.specs.method.Limits.{mostPlaced};
 ghost use Rattle.placing.specs.method.Rule.{dueCells, RowWritten, emptied, EmptyRow};
 
 // What job i writes next, `early[i]` as long as it has cells of that kind due, then `late[i]`; it then has one less due.
-fn next_cell(due: &mut [u8; 32], early: &[u16; 32], late: &[u16; 32], i: usize) -> u16
-    requires { ⌜ (i < 32) × (length (now due) ≡ 32) ⌝ }
+fn next_cell(
+    due: &mut [u8; MOST_PLACED],
+    early: &[Cell; MOST_PLACED],
+    late: &[Cell; MOST_PLACED],
+    i: usize,
+) -> Cell
+    requires { ⌜ (i < mostPlaced) × (length (now due) ≡ mostPlaced) ⌝ }
     ensures { λ r. ⌜ (r ≡ dueCells (now (due .entry)) (now (early .entry)) (now (late .entry)) i)
         × (now (due .exit) ≡ set (now (due .entry)) i (at (now (due .entry)) i - 1)) ⌝ }
 {
@@ -29,10 +38,10 @@ fn next_cell(due: &mut [u8; 32], early: &[u16; 32], late: &[u16; 32], i: usize) 
 
 // Empties those bridges of the row that starts at `start` which are left in the mask; the others keep their cells. In most slots the jobs have taken every free bridge,
 // so that it goes from one bridge of the mask to the next.
-fn empty_row(table: &mut [u16], start: usize, bridges: usize, mask: u8)
-    requires { ⌜ (bridges ≤ 8) × (start + bridges ≤ length (now table)) ⌝ }
+fn empty_row(table: &mut [Cell], start: usize, bridges: usize, mask: u8)
+    requires { ⌜ (bridges ≤ mostBridges) × (start + bridges ≤ length (now table)) ⌝ }
     ensures { λ _. ⌜ RowWritten (now (table .entry)) (now (table .exit)) start bridges
-        (emptied (taken mask) (λ b. at (now (table .entry)) (start + b))) ⌝ }
+        (emptied (hasBit mask) (λ b. at (now (table .entry)) (start + b))) ⌝ }
 {
     let mut rest = mask;
     while 0 < rest {
@@ -47,22 +56,22 @@ fn empty_row(table: &mut [u16], start: usize, bridges: usize, mask: u8)
 // Writes the row that starts at `start`: the free bridges in ascending order take what the chosen jobs write, in their order, or 0; the others keep their cells.
 // A chosen job that finds no free bridge writes nothing. Where the free bridges are empty already, none is emptied: `empties` is then false.
 pub(crate) fn write_row(
-    table: &mut [u16],
+    table: &mut [Cell],
     start: usize,
     bridges: usize,
     mask: u8,
-    chosen: u32,
-    due: &mut [u8; 32],
-    early: &[u16; 32],
-    late: &[u16; 32],
+    chosen: u64,
+    due: &mut [u8; MOST_PLACED],
+    early: &[Cell; MOST_PLACED],
+    late: &[Cell; MOST_PLACED],
     empties: bool,
 )
-    requires { ⌜ (bridges ≤ 8) × (start + bridges ≤ length (now table)) × (length (now due) ≡ 32) ⌝ }
-    ensures { λ _. ⌜ (length (now (table .exit)) ≡ length (now (table .entry))) × (length (now (due .exit)) ≡ 32)
-        × ((i : ℕ) → at (now (due .exit)) i ≡ at (now (due .entry)) i - bit (taken chosen i))
-        × ((empties ≡ false → EmptyRow (now (table .entry)) start bridges (taken mask))
+    requires { ⌜ (bridges ≤ mostBridges) × (start + bridges ≤ length (now table)) × (length (now due) ≡ mostPlaced) ⌝ }
+    ensures { λ _. ⌜ (length (now (table .exit)) ≡ length (now (table .entry))) × (length (now (due .exit)) ≡ mostPlaced)
+        × ((i : ℕ) → at (now (due .exit)) i ≡ at (now (due .entry)) i - bit (hasBit chosen i))
+        × ((empties ≡ false → EmptyRow (now (table .entry)) start bridges (hasBit mask))
         → RowWritten (now (table .entry)) (now (table .exit)) start bridges
-        (slotCell 32 (taken chosen) (taken mask) (dueCells (now (due .entry)) (now (early .entry)) (now (late .entry)))
+        (slotCell mostPlaced (hasBit chosen) (hasBit mask) (dueCells (now (due .entry)) (now (early .entry)) (now (late .entry)))
         (λ b. at (now (table .entry)) (start + b)))) ⌝ }
 {
     let mut free = mask;

@@ -1,4 +1,6 @@
 // The walk over the optional cells in eviction order: a cell that lowers the shortage is evicted.
+use crate::cells::Cell;
+use crate::limits::CAPACITY_COUNT;
 use crate::search::Demand;
 use crate::search::Evicted;
 use crate::search::Search;
@@ -7,6 +9,10 @@ use crate::search::excess::tightest;
 use crate::search::links::link_slots;
 use crate::search::longest::raise;
 use crate::search::ranks::ranks_of;
+use station::limits::LEAST_CELLS;
+use station::limits::MOST_BRIDGES;
+use station::limits::MOST_PRESETS;
+use station::limits::MOST_SLOTS;
 use station::types::Head;
 use station::types::Preset;
 ghost use Prim.Native.Nat.{ℕ, _+_, _*_, _-_, _<_, _≤_};
@@ -14,9 +20,10 @@ ghost use mathlib.Core.Path.{_≡_};
 ghost use mathlib.Core.Bool.{true};
 ghost use mathlib.Core.List.{List, [], _∷_};
 ghost use lib.ListN.{length, getD};
+ghost use Rattle.station.specs.Limits.{mostBridges, mostPresets};
 ghost use Rattle.station.specs.Types.{headIn};
 ghost use Rattle.placing.specs.Table.{cell};
-ghost use Rattle.placing.specs.Call.{Place, downward, evictionOrder};
+ghost use Rattle.placing.specs.Call.{CellPlace, downward, evictionOrder};
 ghost use Rattle.placing.specs.method.Search.{searchOf, Stands, shortFor, keptIn, walked, Walked, Chain, Chains, Linked, answered, searchable};
 
 // The numbers of a search, beside its arrays, which the walk changes in place.
@@ -41,14 +48,14 @@ fn tight_after(found: usize, x: usize, tight: usize) -> usize
 // is then less by 1.
 fn take_cell(
     demand: Demand,
-    free: &mut [u8; 64],
-    counts: &mut [usize; 64],
-    capacities: &mut [usize; 9],
+    free: &mut [u8; MOST_SLOTS],
+    counts: &mut [usize; MOST_SLOTS],
+    capacities: &mut [usize; CAPACITY_COUNT],
     kept: Tally,
     slot: usize,
     bridge: usize,
 ) -> Tally
-    requires { ⌜ (slot < demand .slots) × (bridge < 8) × Stands demand (searchOf (now free) (now counts) (now capacities) kept) × (getD (now counts) slot 0 < kept .tight) ⌝ }
+    requires { ⌜ (slot < demand .slots) × (bridge < mostBridges) × Stands demand (searchOf (now free) (now counts) (now capacities) kept) × (getD (now counts) slot 0 < kept .tight) ⌝ }
     ensures { λ r. ⌜ Walked demand (record { slot = slot; bridge = bridge } ∷ []) (searchOf (now (free .entry)) (now (counts .entry)) (now (capacities .entry)) kept) (searchOf (now (free .exit)) (now (counts .exit)) (now (capacities .exit)) r) ⌝ }
 {
     let sums = demand.sums;
@@ -56,7 +63,7 @@ fn take_cell(
     let short = kept.short - 1;
     free[slot] = free[slot] | bridge_bit(bridge);
     counts[slot] = x + 1;
-    raise(capacities, x, 8, 1);
+    raise(capacities, x, MOST_BRIDGES, 1);
     let found = tightest(&sums, capacities, x + 1, short);
     let tight = tight_after(found, x, kept.tight);
     Tally {
@@ -66,27 +73,38 @@ fn take_cell(
     }
 }
 
-// The walk over a chain of cells: those that lower the shortage are evicted.
+// The walk over a chain of cells: those that lower the shortage are evicted. It ends as soon as there is no shortage.
 fn through_chain(
-    next: &[u16; 512],
+    next: &[u16; LEAST_CELLS],
     from: usize,
     demand: Demand,
-    free: &mut [u8; 64],
-    counts: &mut [usize; 64],
-    capacities: &mut [usize; 9],
+    free: &mut [u8; MOST_SLOTS],
+    counts: &mut [usize; MOST_SLOTS],
+    capacities: &mut [usize; CAPACITY_COUNT],
     kept: Tally,
 ) -> Tally
-    requires { ⌜ (from ≤ demand .slots * 8) × ((c : ℕ) → getD (now next) c 0 ≤ c) × Stands demand (searchOf (now free) (now counts) (now capacities) kept) ⌝ }
-    ensures { λ r. ⌜ Stands demand (searchOf (now (free .exit)) (now (counts .exit)) (now (capacities .exit)) r) × ((zs : List Place) → Chain (now (next .entry)) from zs → Walked demand zs (searchOf (now (free .entry)) (now (counts .entry)) (now (capacities .entry)) kept) (searchOf (now (free .exit)) (now (counts .exit)) (now (capacities .exit)) r)) ⌝ }
+    requires { ⌜ (from ≤ demand .slots * mostBridges) × ((c : ℕ) → getD (now next) c 0 ≤ c) × Stands demand (searchOf (now free) (now counts) (now capacities) kept) ⌝ }
+    ensures { λ r. ⌜ Stands demand (searchOf (now (free .exit)) (now (counts .exit)) (now (capacities .exit)) r) × ((zs : List CellPlace) → Chain (now (next .entry)) from zs → Walked demand zs (searchOf (now (free .entry)) (now (counts .entry)) (now (capacities .entry)) kept) (searchOf (now (free .exit)) (now (counts .exit)) (now (capacities .exit)) r)) ⌝ }
 {
     let mut current = kept;
     let mut c = from;
     while 0 < c {
+        if current.short == 0 {
+            return current;
+        }
         let place = c - 1;
-        let slot = place / 8;
+        let slot = place / MOST_BRIDGES;
         c = next[place] as usize;
         if counts[slot] < current.tight {
-            let taken = take_cell(demand, free, counts, capacities, current, slot, place % 8);
+            let taken = take_cell(
+                demand,
+                free,
+                counts,
+                capacities,
+                current,
+                slot,
+                place % MOST_BRIDGES,
+            );
             current = taken;
         }
     }
@@ -95,17 +113,17 @@ fn through_chain(
 
 // The walk over the chains of the first n ranks, from the worst down. It ends as soon as there is no shortage.
 fn through_ranks(
-    first: &[u16; 32],
-    next: &[u16; 512],
+    first: &[u16; MOST_PRESETS],
+    next: &[u16; LEAST_CELLS],
     n: usize,
     demand: Demand,
-    free: &mut [u8; 64],
-    counts: &mut [usize; 64],
-    capacities: &mut [usize; 9],
+    free: &mut [u8; MOST_SLOTS],
+    counts: &mut [usize; MOST_SLOTS],
+    capacities: &mut [usize; CAPACITY_COUNT],
     kept: Tally,
 ) -> Tally
-    requires { ⌜ (n ≤ 32) × Linked (now first) (now next) (demand .slots * 8) × Stands demand (searchOf (now free) (now counts) (now capacities) kept) ⌝ }
-    ensures { λ r. ⌜ ((of : ℕ → List Place) → Chains (now (first .entry)) (now (next .entry)) of → Walked demand (downward n of) (searchOf (now (free .entry)) (now (counts .entry)) (now (capacities .entry)) kept) (searchOf (now (free .exit)) (now (counts .exit)) (now (capacities .exit)) r)) ⌝ }
+    requires { ⌜ (n ≤ mostPresets) × Linked (now first) (now next) (demand .slots * mostBridges) × Stands demand (searchOf (now free) (now counts) (now capacities) kept) ⌝ }
+    ensures { λ r. ⌜ ((of : ℕ → List CellPlace) → Chains (now (first .entry)) (now (next .entry)) of → Walked demand (downward n of) (searchOf (now (free .entry)) (now (counts .entry)) (now (capacities .entry)) kept) (searchOf (now (free .exit)) (now (counts .exit)) (now (capacities .exit)) r)) ⌝ }
 {
     let mut current = kept;
     let mut r = n;
@@ -130,9 +148,9 @@ fn through_ranks(
 
 // The walk over the refinement cells from what the search starts with, and its answer.
 pub(crate) fn walk(
-    table: &[u16],
+    table: &[Cell],
     head: Head,
-    presets: [Preset; 32],
+    presets: [Preset; MOST_PRESETS],
     clock: usize,
     demand: Demand,
     start: Search,
@@ -150,8 +168,8 @@ pub(crate) fn walk(
         evicted: start.evicted,
     };
     let ranks = ranks_of(presets, count);
-    let mut first = [0u16; 32];
-    let mut next = [0u16; 512];
+    let mut first = [0u16; MOST_PRESETS];
+    let mut next = [0u16; LEAST_CELLS];
     link_slots(
         table,
         head.bridges,

@@ -17,9 +17,8 @@ use Rattle.station.specs.declared.types.Job.{Job}
 use Rattle.station.specs.declared.brackets.Jobs.{Jobs}
 use Rattle.station.specs.Head as meant
 use Rattle.station.specs.Form.{CallJobs, lastJob, alsoJob, readBrackets, readJobs, jobsOf}
-use Rattle.station.specs.method.Numeral.{seen}
 use Rattle.station.specs.declared.brackets.Bracket.{Bracket}
-use Rattle.station.specs.Jobs.{jobSeen, jobInLimits, jobsInLimits, noJob, padded, noJobs}
+use Rattle.station.specs.Jobs.{jobSeen, jobInLimits, jobsInLimits, noJob, padded, noJobs, seen}
 use Rattle.station.proofs.Form.{made-also, read-jobs}
 use Rattle.station.proofs.numbers.Decimals.{seen-within}
 use Rattle.station.specs.method.Bracket.{jobsRead, BracketAt, no-bracket, last-bracket, next-bracket}

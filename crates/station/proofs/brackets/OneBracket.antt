@@ -14,11 +14,12 @@ use Rattle.station.specs.declared.brackets.Bracket.{Bracket}
 use Rattle.station.specs.Text.{bytes}
 use Rattle.station.specs.Decimal.{digitCount, plain}
 use Rattle.station.specs.Form.{last, next, starts, word, whole, _orElse_, also, readBrackets}
-use Rattle.station.specs.method.Numeral.{seen, front, closes, numeralAt, numeralThen}
+use Rattle.station.specs.method.Numeral.{front, closes, numeralAt, numeralThen}
 use Rattle.station.specs.method.Bracket.{noBracket, BracketAt, no-bracket, last-bracket, next-bracket}
 use Rattle.station.proofs.Form.{brackets-step}
 use Rattle.station.proofs.numbers.Decimals.{starts-length, plain-inside}
 use Rattle.station.proofs.numbers.Recognised.{word-yes, word-no, number-yes, number-no, ends-yes, ends-no, then-yes, then-no, then-value, then-next}
+use Rattle.station.specs.Jobs.{seen}
 
 -- a bracket that was not found
 missing : (t : List ℕ) (at : ℕ) (r : Bracket) → r ≡ noBracket → readBrackets (drop at t) ≡ none → BracketAt t at r

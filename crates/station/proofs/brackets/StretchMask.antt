@@ -17,13 +17,13 @@ use lib.Dec.{leb}
 use lib.Pow.{pow-pos, pow-mono}
 use Rattle.laws.proofs.Tests.{Is, is, is-true, is-false, clash, right-of, test-ext}
 use Rattle.station.specs.declared.brackets.Stretches.{Stretches}
-use Rattle.station.specs.declared.brackets.Taken.{Taken}
+use Rattle.station.specs.declared.brackets.BusyMask.{BusyMask}
 use Rattle.station.specs.Form.{Pairs, last, next, also, readBrackets}
 use Rattle.station.specs.Writing.{maskTo, maskOf, ordered}
-use Rattle.station.specs.method.Numeral.{seen}
 use Rattle.station.specs.declared.brackets.Bracket.{Bracket}
-use Rattle.station.specs.method.Bracket.{noStretch, MaskedSoFar, pickStretches, stretched, takenIn, BracketAt, no-bracket, last-bracket, next-bracket}
+use Rattle.station.specs.method.Bracket.{noStretch, MaskedSoFar, pickStretches, stretched, busyMaskIn, BracketAt, no-bracket, last-bracket, next-bracket}
 use Rattle.station.proofs.Stretches.{Stretch, stretch-of, of-stretch}
+use Rattle.station.specs.Jobs.{seen}
 
 -- ---- the mask of one stretch
 
@@ -80,15 +80,15 @@ stretched-masked hi s f t h g = go (is (s .ordered && (leb (s .from) f && leb f 
 
 -- ---- the stretches so far, and those that are left
 
-abbrev made : Bool → ℕ → Taken
+abbrev made : Bool → ℕ → BusyMask
 made b m = record { found = true; mask = cond b m 0; ordered = b }
 
 -- what the whole line makes
-abbrev pub folded : ℕ → Stretches → Option Pairs → Taken
+abbrev pub folded : ℕ → Stretches → Option Pairs → BusyMask
 folded hi s none = record { found = false; mask = 0; ordered = false }
 folded hi s (some p) = made (s .ordered && ordered (s .from) hi p) (s .mask + maskOf p)
 
-pub folded-start : (hi : ℕ) (o : Option Pairs) → folded hi noStretch o ≡ takenIn hi o
+pub folded-start : (hi : ℕ) (o : Option Pairs) → folded hi noStretch o ≡ busyMaskIn hi o
 folded-start hi none = refl
 folded-start hi (some p) = let e : 0 + maskOf p ≡ maskOf p = omega arith in rw e refl
 

@@ -19,7 +19,7 @@ use Rattle.laws.proofs.Comparisons.{lt-of, ge-of, eq-of, ne-of, ltb-yes, le-of,
 use Rattle.laws.proofs.Stores.{zeros}
 use Rattle.station.specs.declared.types.Preset.{Preset}
 use Rattle.station.specs.declared.types.Head.{Head}
-use Rattle.station.specs.Head.{Valid, within, inLimits, hasNumber, allInLimits, allDistinct, masksIn, valid}
+use Rattle.station.specs.Head.{Valid, within, presetInLimits, hasNumber, allInLimits, allDistinct, masksIn, valid}
 use Rattle.station.specs.method.MaskTest.{maskIn}
 use Rattle.station.specs.Types.{presetIn, presetsIn, noRecord, headIn, validRecord}
 use Rattle.station.proofs.ValidHead.{Parts, parts, valid-parts}
@@ -67,11 +67,11 @@ masks-end k s ms = rw (drop-length ms) refl
 -- ---- preset records
 
 module _ (i n : ℕ) (ps : List Preset) (h : i < n) (l : n ≤ length ps) where
-  pub limits-fault : inLimits (presetIn (getD ps i noRecord)) ≡ false → allInLimits (map presetIn (drop i (take n ps))) ≡ false
+  pub limits-fault : presetInLimits (presetIn (getD ps i noRecord)) ≡ false → allInLimits (map presetIn (drop i (take n ps))) ≡ false
   unfolding allInLimits
   limits-fault e = rw (records-step i n ps h l, e) refl
 
-  pub limits-next : inLimits (presetIn (getD ps i noRecord)) ≡ true
+  pub limits-next : presetInLimits (presetIn (getD ps i noRecord)) ≡ true
       → allInLimits (map presetIn (drop i (take n ps))) ≡ allInLimits (map presetIn (drop (suc i) (take n ps)))
   unfolding allInLimits
   limits-next e = rw (records-step i n ps h l, e) refl

@@ -29,14 +29,14 @@ use Rattle.station.specs.Types.{headIn}
 use Rattle.station.proofs.Writing.{read-valid}
 use Rattle.station.specs.ReadHead.{recordOf, headRead}
 use Rattle.station.specs.Records.{loaded, saved}
-use Rattle.station.proofs.records.BankLoops.{loaded-whole, saved-loaded, saved-over}
+use Rattle.station.proofs.records.CopiedLoops.{loaded-whole, saved-loaded, saved-over}
 use Rattle.station.specs.WriteHead.{WroteHead, writeAnswer, writeOutput, answerOf, outputOf}
 use Rattle.station.specs.Entries.{entryAnswer, entryOutput, WroteEntry, entryReading, entryRead, refusedAtStart, leftBy, answerOf as answerWith}
 
 -- ---- writing
 
 module _ (records : ℕ) (h : Head) (ps : List Preset) (out : List ℕ) where
-  pub write-few : records < 32 → WroteEntry records h ps out (Refused TooShort) out
+  pub write-few : records < 32 → WroteEntry records h ps out (Refused 0 TooShort) out
   unfolding firstOf
   write-few l = let q = ltb-yes records 32 l in record { answer = rw q refl; output = rw q refl }
 

@@ -17,11 +17,11 @@ use Rattle.station.specs.Text.{bytes}
 use Rattle.station.specs.Form.{CallJobs, Form, frameLine, busyLine, presetLine, clockLine, callLine, jobsOf, starts, word, made, readJobs, print}
 use Rattle.station.specs.Form.{frameIn, busyIn, presetIn, clockIn, callIn, form}
 use Rattle.station.proofs.Form.{word-had, form-had}
-use Rattle.station.specs.method.Numeral.{seen}
 use Rattle.station.specs.declared.brackets.Jobs.{Jobs}
 use Rattle.station.specs.method.Bracket.{jobsRead}
 use Rattle.station.specs.method.ReadLine.{lineIn}
 use Rattle.station.specs.Event.{callEvent, lineEvent, eventIn}
+use Rattle.station.specs.Jobs.{seen}
 
 -- ---- the first word of a call
 

@@ -11,14 +11,13 @@ use mathlib.Core.List.{List}
 use Rattle.laws.proofs.Tests.{clash}
 use Rattle.station.specs.declared.forms.Read.{Read}
 use Rattle.station.specs.declared.forms.Line.the-variants.{Busy, Call}
-use Rattle.station.specs.declared.brackets.Taken.{Taken}
+use Rattle.station.specs.declared.brackets.BusyMask.{BusyMask}
 use Rattle.station.specs.declared.brackets.Jobs.{Jobs}
 use Rattle.station.specs.Form.{Pairs, CallJobs, Form, frameLine, busyLine, presetLine, clockLine, callLine, _orElse_, made}
 use Rattle.station.specs.Form.{frameIn, busyIn, presetIn, form}
-use Rattle.station.specs.method.Numeral.{seen}
-use Rattle.station.specs.Jobs.{noJobs}
+use Rattle.station.specs.Jobs.{noJobs, seen}
 use Rattle.station.specs.method.ReadLine.{readIn, hasForm, headForm, eventForm}
-use Rattle.station.specs.method.Bracket.{takenIn, jobsRead}
+use Rattle.station.specs.method.Bracket.{busyMaskIn, jobsRead}
 
 -- ---- the first of two forms that is there
 
@@ -51,13 +50,13 @@ form-parts l = or-three (frameIn l) (busyIn l) (presetIn l) (eventForm l)
 -- ---- a busy line by its stretches
 
 module _ (hi b : ℕ) where
-  pub busy-none : (o : Option Pairs) (t : Taken) → t ≡ takenIn hi o → t .found ≡ false → made (busyLine b) o ≡ none
+  pub busy-none : (o : Option Pairs) (t : BusyMask) → t ≡ busyMaskIn hi o → t .found ≡ false → made (busyLine b) o ≡ none
   busy-none none t e h = refl
-  busy-none (some p) t e h = absurd (clash (sym (ap (λ (x : Taken). x .found) e) ∙ h))
+  busy-none (some p) t e h = absurd (clash (sym (ap (λ (x : BusyMask). x .found) e) ∙ h))
 
-  pub busy-some : (o : Option Pairs) (t : Taken) → t ≡ takenIn hi o → t .found ≡ true
+  pub busy-some : (o : Option Pairs) (t : BusyMask) → t ≡ busyMaskIn hi o → t .found ≡ true
       → record { line = Busy (seen b) (t .mask) (t .ordered); jobs = noJobs } ≡ readIn hi (made (busyLine b) o)
-  busy-some none t e h = absurd (clash (sym h ∙ ap (λ (x : Taken). x .found) e))
+  busy-some none t e h = absurd (clash (sym h ∙ ap (λ (x : BusyMask). x .found) e))
   busy-some (some p) t e h = rw e refl
 
 -- ---- a call by its jobs

@@ -20,13 +20,13 @@ use Rattle.station.specs.declared.types.Refusal.the-variants.{OutOfLimit
 use Rattle.station.specs.declared.heads.steps.State.{State}
 use Rattle.station.specs.declared.heads.steps.Verdict.the-variants.{Goes}
 use Rattle.station.specs.Head as meant
-use Rattle.station.specs.Head.{within, inLimits, hasNumber}
+use Rattle.station.specs.Head.{within, presetInLimits, hasNumber}
 use Rattle.station.specs.Refusal.{firstOf}
 use Rattle.station.specs.Reading.{busyMisplaced}
-use Rattle.station.specs.method.Numeral.{seen}
 use Rattle.station.specs.Types.{presetIn}
 use Rattle.station.specs.ReadHead.{recordOf}
 use Rattle.station.specs.method.HeadStep.{stageIn, stopped, afterFrame, frameStep, afterBusy, busyStep, afterPreset, presetStep}
+use Rattle.station.specs.Jobs.{seen}
 
 -- ---- numbers as they are read
 
@@ -68,21 +68,21 @@ pub busy-from-one : (k b : ℕ) (o : Bool) → not (within 1 k b && o) ≡ false
 busy-from-one k b o e = le-of 1 b (left-of (leb 1 b) (leb b k) (left-of (within 1 k b) o (true-of-not (within 1 k b && o) e)))
 
 module _ (s : State) (p : meant.Preset) where
-  pub preset-refused : not (inLimits p) ≡ true → stopped s OutOfLimits ≡ presetStep s p
+  pub preset-refused : not (presetInLimits p) ≡ true → stopped s OutOfLimits ≡ presetStep s p
   unfolding firstOf
   preset-refused e = rw e refl
 
-  pub preset-used : not (inLimits p) ≡ false → hasNumber (p .number) (map presetIn (take (s .head .count) (s .presets))) ≡ true
+  pub preset-used : not (presetInLimits p) ≡ false → hasNumber (p .number) (map presetIn (take (s .head .count) (s .presets))) ≡ true
       → stopped s NumberUsed ≡ presetStep s p
   unfolding firstOf
   preset-used e u = rw (e, u) refl
 
-  pub preset-many : not (inLimits p) ≡ false → hasNumber (p .number) (map presetIn (take (s .head .count) (s .presets))) ≡ false → 32 ≤ s .head .count
+  pub preset-many : not (presetInLimits p) ≡ false → hasNumber (p .number) (map presetIn (take (s .head .count) (s .presets))) ≡ false → 32 ≤ s .head .count
       → stopped s TooMany ≡ presetStep s p
   unfolding firstOf
   preset-many e u h = rw (e, u, leb-yes 32 (s .head .count) h) refl
 
-  pub preset-goes : not (inLimits p) ≡ false → hasNumber (p .number) (map presetIn (take (s .head .count) (s .presets))) ≡ false → s .head .count < 32
+  pub preset-goes : not (presetInLimits p) ≡ false → hasNumber (p .number) (map presetIn (take (s .head .count) (s .presets))) ≡ false → s .head .count < 32
       → record { verdict = Goes; state = afterPreset s p } ≡ presetStep s p
   unfolding firstOf
   preset-goes e u h = rw (e, u, leb-no 32 (s .head .count) h) refl

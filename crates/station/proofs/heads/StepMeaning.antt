@@ -21,12 +21,11 @@ use Rattle.station.specs.declared.heads.steps.Verdict.{Verdict}
 use Rattle.station.specs.declared.heads.steps.Verdict.the-variants.{Goes, Ends, Fails}
 use Rattle.station.specs.declared.heads.steps.Step.{Step}
 use Rattle.station.specs.Head as meant
-use Rattle.station.specs.Head.{presetOf, withBusy, withPresets, within, inLimits, hasNumber}
+use Rattle.station.specs.Head.{presetOf, withBusy, withPresets, within, presetInLimits, hasNumber}
 use Rattle.station.specs.Refusal.{firstOf}
 use Rattle.station.specs.Form.{Pairs, Form, frameLine, busyLine, presetLine, clockLine, callLine}
 use Rattle.station.specs.Writing.{maskOf, ordered}
 use Rattle.station.specs.Reading.{Reading, accepted, refused, Stage, atFrame, atBusy, atPresets, begun, SoFar, busyMisplaced, tried, readFrom}
-use Rattle.station.specs.method.Numeral.{seen}
 use Rattle.station.specs.method.ReadLine.{lineIn}
 use Rattle.station.specs.Types.{refusalIn, presetIn, headIn}
 use Rattle.station.specs.ReadHead.{recordOf}
@@ -36,6 +35,7 @@ use Rattle.station.proofs.numbers.Decimals.{seen-leb, seen-within}
 use Rattle.station.proofs.ValidHead.{within-high, limits-of}
 use mathlib.Core.List.{map-append}
 use Rattle.station.proofs.heads.OneLine.{seen-ltb, seen-small}
+use Rattle.station.specs.Jobs.{seen}
 
 -- ---- stages
 
@@ -225,7 +225,7 @@ module _ (old : List Preset) (s : State) (k : Kept old s) (n : ℕ) (ls : List (
     PresetMeans q = LineMeans old (soFarIn s) n (some (presetLine p)) ls (presetStep s q)
 
     -- a value outside its limits
-    preset-no : inLimits p ≡ false → PresetMeans (asRead p)
+    preset-no : presetInLimits p ≡ false → PresetMeans (asRead p)
     unfolding readFrom tried firstOf
     preset-no e =
         rw (
@@ -238,12 +238,12 @@ module _ (old : List Preset) (s : State) (k : Kept old s) (n : ℕ) (ls : List (
         (record { reads = rw (g, e) refl; kept = k })
 
     -- within them, and the number is used
-    preset-taken : inLimits p ≡ true → hasNumber (p .number) inUse ≡ true → PresetMeans p
+    preset-taken : presetInLimits p ≡ true → hasNumber (p .number) inUse ≡ true → PresetMeans p
     unfolding readFrom tried firstOf
     preset-taken e u = rw (e, u) (record { reads = rw (g, e, u) refl; kept = k })
 
     -- not used, and the 33rd
-    preset-over : inLimits p ≡ true → hasNumber (p .number) inUse ≡ false → leb 32 (s .head .count) ≡ true → PresetMeans p
+    preset-over : presetInLimits p ≡ true → hasNumber (p .number) inUse ≡ false → leb 32 (s .head .count) ≡ true → PresetMeans p
     unfolding readFrom tried firstOf
     preset-over e u c = rw (e, u, c) (record { reads = rw (g, e, u, count-length, c) refl; kept = k })
 
@@ -271,7 +271,7 @@ module _ (old : List Preset) (s : State) (k : Kept old s) (n : ℕ) (ls : List (
     }
 
     -- no cause holds
-    preset-fits : inLimits p ≡ true → hasNumber (p .number) inUse ≡ false → leb 32 (s .head .count) ≡ false → PresetMeans p
+    preset-fits : presetInLimits p ≡ true → hasNumber (p .number) inUse ≡ false → leb 32 (s .head .count) ≡ false → PresetMeans p
     unfolding readFrom tried firstOf
     preset-fits e u c =
         let l : s .head .count < 32 = gt-of 32 (s .head .count) c in
@@ -292,9 +292,9 @@ module _ (old : List Preset) (s : State) (k : Kept old s) (n : ℕ) (ls : List (
 
     -- values within their limits were read as they are
     preset-line : PresetMeans (asRead p)
-    preset-line = go (is (inLimits p)) (is (hasNumber (p .number) inUse)) (is (leb 32 (s .head .count)))
+    preset-line = go (is (presetInLimits p)) (is (hasNumber (p .number) inUse)) (is (leb 32 (s .head .count)))
       where
-        raw : inLimits p ≡ true → PresetMeans p → PresetMeans (asRead p)
+        raw : presetInLimits p ≡ true → PresetMeans p → PresetMeans (asRead p)
         raw e x =
             let l = limits-of p e in
             let sa : seen (p .number) ≡ p .number = seen-small (p .number) 255 (omega arith) (l .number-high) in
@@ -303,7 +303,7 @@ module _ (old : List Preset) (s : State) (k : Kept old s) (n : ℕ) (ls : List (
             let so : seen (p .optional) ≡ p .optional = seen-small (p .optional) 64 (omega arith) (l .optional) in
             rw (sa, sp, sm, so) x
 
-        go : Is (inLimits p) → Is (hasNumber (p .number) inUse) → Is (leb 32 (s .head .count)) → PresetMeans (asRead p)
+        go : Is (presetInLimits p) → Is (hasNumber (p .number) inUse) → Is (leb 32 (s .head .count)) → PresetMeans (asRead p)
         go (is-false e) u c = preset-no e
         go (is-true e) (is-true u) c = raw e (preset-taken e u)
         go (is-true e) (is-false u) (is-true c) = raw e (preset-over e u c)

@@ -20,9 +20,10 @@ use Rattle.station.specs.Head.{within}
 use Rattle.station.specs.Decimal.{isDigit, digitCount, plain, value, valueFrom}
 use Rattle.station.specs.Form.{starts}
 use Rattle.station.specs.Text.{bytes}
-use Rattle.station.specs.method.Numeral.{seen, leads, frontFrom, numeralAt, noNumeral, numeralThen, closes, numeralLast}
+use Rattle.station.specs.method.Numeral.{leads, frontFrom, numeralAt, noNumeral, numeralThen, closes, numeralLast}
 use Rattle.station.specs.declared.numbers.Numeral.{Numeral}
 use Rattle.station.proofs.Decimal.{digit-low, digit-high}
+use Rattle.station.specs.Jobs.{seen}
 
 -- ---- a word byte by byte
 

@@ -17,7 +17,8 @@ use Rattle.station.specs.declared.numbers.Numeral.{Numeral}
 use Rattle.station.specs.Text.{bytes}
 use Rattle.station.specs.Decimal.{digitCount, plain}
 use Rattle.station.specs.Form.{starts, word, number, whole}
-use Rattle.station.specs.method.Numeral.{seen, front, closes, pickNumeral, numeralThen, numeralLast}
+use Rattle.station.specs.method.Numeral.{front, closes, pickNumeral, numeralThen, numeralLast}
+use Rattle.station.specs.Jobs.{seen}
 
 module _ {A : Type 0} (t : List ℕ) where
   pub word-yes : (w : List ℕ) (i j : ℕ) (k : List ℕ → Option A) → starts w (drop i t) ≡ true → i + length w ≡ j → word w (drop i t) k ≡ k (drop j t)

@@ -39,17 +39,17 @@ sets-place l at (v ∷ a) b = sets-moved l at (suc (length a)) b (λ z. omega ar
 -- nothing is written
 pub wrote-none : (l : List ℕ) (at : ℕ) → Wrote l at [] l at
 unfolding moved
-wrote-none l at = record { output = refl; place = omega arith }
+wrote-none l at = record { output = refl; position = omega arith }
 
 -- one byte within the output
 pub wrote-byte : (l : List ℕ) (at b : ℕ) → at < length l → Wrote l at (b ∷ []) (set l at b) (at + 1)
 unfolding moved
-wrote-byte l at b h = record { output = refl; place = omega arith }
+wrote-byte l at b h = record { output = refl; position = omega arith }
 
 -- past the end nothing is written
 pub wrote-out : (l : List ℕ) (at : ℕ) (bs : List ℕ) → length l ≤ at → Wrote l at bs l at
 unfolding moved
-wrote-out l at bs h = record { output = sym (sets-out l at bs h); place = omega arith }
+wrote-out l at bs h = record { output = sym (sets-out l at bs h); position = omega arith }
 
 -- the output stays as long as it was
 pub wrote-length : {l : List ℕ} {at : ℕ} {bs : List ℕ} {l₁ : List ℕ} {r : ℕ} → Wrote l at bs l₁ r → length l₁ ≡ length l
@@ -58,11 +58,11 @@ wrote-length {l} {at} {bs} w = ap length (w .output) ∙ length-sets l at bs
 -- the next place after bytes that fit
 pub wrote-place : {l : List ℕ} {at : ℕ} {bs : List ℕ} {l₁ : List ℕ} {r : ℕ} → Wrote l at bs l₁ r → at + length bs ≤ length l → r ≡ at + length bs
 unfolding moved
-wrote-place {l} {at} {bs} w h = omega (arith, w .place)
+wrote-place {l} {at} {bs} w h = omega (arith, w .position)
 
 -- all is still to be written
 pub left-all : (l : List ℕ) (at : ℕ) (a : List ℕ) → Left l at a l at a
-left-all l at a = record { output = refl; place = refl; size = refl }
+left-all l at a = record { output = refl; position = refl; size = refl }
 
 -- a run was written, and b is left
 pub left-wrote : {l : List ℕ} {at : ℕ} {all : List ℕ} {l₁ : List ℕ} {r : ℕ} (a b : List ℕ) {l₂ : List ℕ} {r₂ : ℕ}
@@ -71,16 +71,16 @@ unfolding moved
 left-wrote {l} {at} {all} {l₁} {r} a b {l₂} {r₂} h w =
     let same = wrote-length w in
     let size : length (a ++ b) ≡ length a + length b = length-append a b in
-    let place = w .place in
-    let total : moved (length l₁) r (length (a ++ b)) ≡ moved (length l) at (length all) = h .place in
+    let position = w .position in
+    let total : moved (length l₁) r (length (a ++ b)) ≡ moved (length l) at (length all) = h .position in
     record {
       output =
           ap (λ (x : List ℕ). sets x r₂ b) (w .output)
-          ∙ ap (λ (i : ℕ). sets (sets l₁ r a) i b) (place ∙ ap (λ (n : ℕ). moved n r (length a)) (sym (length-sets l₁ r a)))
+          ∙ ap (λ (i : ℕ). sets (sets l₁ r a) i b) (position ∙ ap (λ (n : ℕ). moved n r (length a)) (sym (length-sets l₁ r a)))
           ∙ sets-place′ l₁ r a b
           ∙ sym (sets-append l₁ r a b)
           ∙ h .output;
-      place = ap (λ (n : ℕ). moved n r₂ (length b)) same ∙ further (length l₁) r (length a) (length b) (length (a ++ b)) r₂ place size ∙ total;
+      position = ap (λ (n : ℕ). moved n r₂ (length b)) same ∙ further (length l₁) r (length a) (length b) (length (a ++ b)) r₂ position size ∙ total;
       size = same ∙ h .size;
     }
   where
@@ -93,12 +93,12 @@ left-wrote {l} {at} {all} {l₁} {r} a b {l₂} {r₂} h w =
 -- nothing is left
 pub left-none : {l : List ℕ} {at : ℕ} {all : List ℕ} {l₁ : List ℕ} {r : ℕ} → Left l at all l₁ r [] → Wrote l at all l₁ r
 unfolding moved
-left-none {l} {at} {all} {l₁} {r} h = let p : moved (length l₁) r 0 ≡ moved (length l) at (length all) = h .place in record { output = h .output; place = omega arith }
+left-none {l} {at} {all} {l₁} {r} h = let p : moved (length l₁) r 0 ≡ moved (length l) at (length all) = h .position in record { output = h .output; position = omega arith }
 
 -- what was left is written
 pub left-then : {l : List ℕ} {at : ℕ} {all : List ℕ} {l₁ : List ℕ} {r : ℕ} {b : List ℕ} {l₂ : List ℕ} {r₂ : ℕ}
     → Left l at all l₁ r b → Wrote l₁ r b l₂ r₂ → Wrote l at all l₂ r₂
-left-then h w = record { output = w .output ∙ h .output; place = w .place ∙ h .place }
+left-then h w = record { output = w .output ∙ h .output; position = w .position ∙ h .position }
 
 -- one run and then another
 pub wrote-then : {l : List ℕ} {at : ℕ} {a : List ℕ} {l₁ : List ℕ} {r : ℕ} {b : List ℕ} {l₂ : List ℕ} {r₂ : ℕ}
@@ -121,4 +121,4 @@ pub wrote-fits : {l : List ℕ} {bs : List ℕ} {l₁ : List ℕ} {r : ℕ} → 
 unfolding moved
 wrote-fits {l} {bs} {l₁} {r} w h =
     let z : 0 + length bs ≡ length bs = omega arith in
-    (w .output ∙ sets-eq bs l 0 (omega arith) ∙ ap (λ (k : ℕ). bs ++ drop k l) z, omega (arith, w .place))
+    (w .output ∙ sets-eq bs l 0 (omega arith) ∙ ap (λ (k : ℕ). bs ++ drop k l) z, omega (arith, w .position))

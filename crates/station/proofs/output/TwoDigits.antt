@@ -24,4 +24,4 @@ digits-hundreds n l =
 
 pub after-number : (n : ℕ) {l : List ℕ} {at : ℕ} {l₁ : List ℕ} {r : ℕ} → n < 10 ^ 20 → Wrote l at (digits n) l₁ r → (r ≤ at + 20) × (length l₁ ≡ length l)
 unfolding moved
-after-number n h w = (omega (arith, w .place, digits-length 20 n (omega arith) h), wrote-length w)
+after-number n h w = (omega (arith, w .position, digits-length 20 n (omega arith) h), wrote-length w)

@@ -1,7 +1,7 @@
--- The laws of a preset record, of 32 of them by value, the bank, and of a head record, at their short names.
+-- The laws of a preset record, of 32 of them by value, the copied, and of a head record, at their short names.
 --
 -- In order, of a preset record: its machine value, that its type's relation tells it, that it is had for nothing, that it can be copied, that its machine value is
--- one of the type that a local has; the record of zeros. The same of the bank and of a head record.
+-- one of the type that a local has; the record of zeros. The same of the copied and of a head record.
 -- Assumes nothing, but for the laws under a model, which take `Given`.
 use mathlib.Core.Path.{_≡_, refl}
 use mathlib.Core.List.{List, [], _∷_, map}
@@ -50,30 +50,30 @@ typed r is = let fields = LL.owed T.the-type T′.the-laws r (vals r) is in
 pub zeros-are : Is T.the-row noRecord (vals noRecord)
 zeros-are = LL.owes T.the-type T′.the-laws noRecord ((refl, lit< tt), ((refl, lit< tt), ((refl, lit< tt), ((refl, lit< tt), tt))))
 
--- ---- the bank
+-- ---- the copied
 
 abbrev pub Bank : RattleType
 Bank = Array T.the-row 32
 
-abbrev pub bank-mir : Ty
-bank-mir = tyArray T′.mir 32
+abbrev pub copied-mir : Ty
+copied-mir = tyArray T′.mir 32
 
-abbrev pub bank-val : List Preset → Val
-bank-val ps = arrayVal (map val ps)
+abbrev pub copied-val : List Preset → Val
+copied-val ps = arrayVal (map val ps)
 
-pub bank-tells : Tells Bank (Is Bank) (λ ps. bank-val ps ∷ [])
-bank-tells = array-tells T.the-row vals tells 32
+pub copied-tells : Tells Bank (Is Bank) (λ ps. copied-val ps ∷ [])
+copied-tells = array-tells T.the-row vals tells 32
 
 module _ {M : Type 1} (𝓤 : URA M) (H : Heap 𝓤) (A : Atoms 𝓤) (W : Given 𝓤 H A) where
-  pub bank-makes : Makes 𝓤 H A Bank (Is Bank)
-  bank-makes = array-makes 𝓤 H A W T.the-row (makes 𝓤 H A) 32
+  pub copied-makes : Makes 𝓤 H A Bank (Is Bank)
+  copied-makes = array-makes 𝓤 H A W T.the-row (makes 𝓤 H A) 32
 
-  pub bank-typed : (ps : List Preset) → Is Bank ps (bank-val ps ∷ []) → Holds (hasTy bank-mir (bank-val ps)) × WT (bank-val ps)
-  bank-typed ps is = array-lawful 𝓤 H A W T.the-row (LL.lawful T.the-type T′.the-laws 𝓤 H A W) 32 .typed ps _ is .0
+  pub copied-typed : (ps : List Preset) → Is Bank ps (copied-val ps ∷ []) → Holds (hasTy copied-mir (copied-val ps)) × WT (copied-val ps)
+  copied-typed ps is = array-lawful 𝓤 H A W T.the-row (LL.lawful T.the-type T′.the-laws 𝓤 H A W) 32 .typed ps _ is .0
 
--- a bank has 32 records
-pub bank-length : (ps : List Preset) → Is Bank ps (bank-val ps ∷ []) → length ps ≡ 32
-bank-length ps is = is .1 .0 .1
+-- a copied has 32 records
+pub copied-length : (ps : List Preset) → Is Bank ps (copied-val ps ∷ []) → length ps ≡ 32
+copied-length ps is = is .1 .0 .1
 
 -- ---- the head record
 

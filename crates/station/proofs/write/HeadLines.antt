@@ -55,12 +55,12 @@ head-text h = ap (λ (l : List ℕ). print (frameLine (h .slots) (h .bridges)) +
 
 module _ (h : Record) (ps : List Preset) (out : List ℕ) where
   -- 8: the output is too short
-  pub too-short : length out < 8192 → WroteHead h ps out (Refused TooShort) out
+  pub too-short : length out < 8192 → WroteHead h ps out (Refused 0 TooShort) out
   unfolding writeAnswer writeOutput firstOf
   too-short l = let q = ltb-yes (length out) 8192 l in record { answer = rw q refl; output = rw q refl }
 
   -- 2: no text yields the record
-  pub out-of-limits : 8192 ≤ length out → validRecord h ps ≡ false → WroteHead h ps out (Refused OutOfLimits) out
+  pub out-of-limits : 8192 ≤ length out → validRecord h ps ≡ false → WroteHead h ps out (Refused 0 OutOfLimits) out
   unfolding writeAnswer writeOutput firstOf
   out-of-limits l v = let q = ltb-no (length out) 8192 l in record { answer = rw (q, v) refl; output = rw (q, v) refl }
 

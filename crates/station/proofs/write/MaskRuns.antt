@@ -16,7 +16,7 @@ use lib.Dec.{eqb, ltb}
 use lib.Pow.{shr-shr}
 use Rattle.laws.proofs.Tests.{Is, is, is-true, is-false, none-some}
 use Rattle.laws.proofs.Comparisons.{eqb-no, eqb-self, lt-of, ge-of}
-use Rattle.station.specs.Head.{taken}
+use Rattle.station.specs.Head.{hasBit}
 use Rattle.station.specs.Text.{bytes, join}
 use Rattle.station.specs.Decimal.{digits}
 use Rattle.station.specs.Form.{Pairs, last, next, brackets, print, busyLine}
@@ -32,17 +32,17 @@ some-injective {p} {q} e = cc
 shift : (m i : ℕ) → m / 2 ^ i / 2 ≡ m / 2 ^ suc i
 shift m i = shr-shr m i 1 ∙ ap (λ (k : ℕ). m / 2 ^ k) (add-one i)
 
-pub from-free : (k m i : ℕ) → taken m i ≡ false → stretchesFrom (suc k) m i ≡ stretchesFrom k m (suc i)
+pub from-free : (k m i : ℕ) → hasBit m i ≡ false → stretchesFrom (suc k) m i ≡ stretchesFrom k m (suc i)
 unfolding stretches
 from-free k m i e = rw (e, shift m i) refl
 
-pub from-busy : (k m i : ℕ) → taken m i ≡ true → stretchesFrom (suc k) m i ≡ some (withSlot (suc i) (stretchesFrom k m (suc i)))
+pub from-busy : (k m i : ℕ) → hasBit m i ≡ true → stretchesFrom (suc k) m i ≡ some (withSlot (suc i) (stretchesFrom k m (suc i)))
 unfolding stretches
 from-busy k m i e = rw (e, shift m i) refl
 
 -- ---- the scan for a busy slot of the slots below hi
 
-pub busy-here : (hi m i : ℕ) → taken m i ≡ true → busyFrom (hi - i) m i ≡ i
+pub busy-here : (hi m i : ℕ) → hasBit m i ≡ true → busyFrom (hi - i) m i ≡ i
 unfolding busyFrom
 busy-here hi m i e = go (hi - i)
   where
@@ -50,7 +50,7 @@ busy-here hi m i e = go (hi - i)
     go zero = refl
     go (suc k) = rw e refl
 
-pub busy-next : (hi m i : ℕ) → i < hi → taken m i ≡ false → busyFrom (hi - i) m i ≡ busyFrom (hi - suc i) m (suc i)
+pub busy-next : (hi m i : ℕ) → i < hi → hasBit m i ≡ false → busyFrom (hi - i) m i ≡ busyFrom (hi - suc i) m (suc i)
 unfolding busyFrom
 busy-next hi m i h e =
     let d : hi - i ≡ suc (hi - suc i) = omega arith in
@@ -62,7 +62,7 @@ busy-end hi m i h = let d : hi - i ≡ 0 = omega arith in rw d refl
 
 -- ---- the scan for a free slot of the slots below hi
 
-pub free-here : (hi m i : ℕ) → taken m i ≡ false → freeFrom (hi - i) m i ≡ i
+pub free-here : (hi m i : ℕ) → hasBit m i ≡ false → freeFrom (hi - i) m i ≡ i
 unfolding freeFrom
 free-here hi m i e = go (hi - i)
   where
@@ -70,7 +70,7 @@ free-here hi m i e = go (hi - i)
     go zero = refl
     go (suc k) = rw e refl
 
-pub free-next : (hi m i : ℕ) → i < hi → taken m i ≡ true → freeFrom (hi - i) m i ≡ freeFrom (hi - suc i) m (suc i)
+pub free-next : (hi m i : ℕ) → i < hi → hasBit m i ≡ true → freeFrom (hi - i) m i ≡ freeFrom (hi - suc i) m (suc i)
 unfolding freeFrom
 free-next hi m i h e =
     let d : hi - i ≡ suc (hi - suc i) = omega arith in
@@ -85,7 +85,7 @@ free-end hi m i h = let d : hi - i ≡ 0 = omega arith in rw d refl
 pub busy-low : (k m i : ℕ) → i ≤ busyFrom k m i
 unfolding busyFrom
 busy-low zero m i = omega arith
-busy-low (suc k) m i = go (busy-low k m (suc i)) (taken m i)
+busy-low (suc k) m i = go (busy-low k m (suc i)) (hasBit m i)
   where
     go : suc i ≤ busyFrom k m (suc i) → (t : Bool) → i ≤ cond t i (busyFrom k m (suc i))
     go h true = omega arith
@@ -94,28 +94,28 @@ busy-low (suc k) m i = go (busy-low k m (suc i)) (taken m i)
 pub busy-high : (k m i : ℕ) → busyFrom k m i ≤ i + k
 unfolding busyFrom
 busy-high zero m i = omega arith
-busy-high (suc k) m i = go (busy-high k m (suc i)) (taken m i)
+busy-high (suc k) m i = go (busy-high k m (suc i)) (hasBit m i)
   where
     go : busyFrom k m (suc i) ≤ suc i + k → (t : Bool) → cond t i (busyFrom k m (suc i)) ≤ i + suc k
     go h true = omega arith
     go h false = omega arith
 
 -- the slot that is found is busy
-pub busy-found : (k m i : ℕ) → busyFrom k m i < i + k → taken m (busyFrom k m i) ≡ true
+pub busy-found : (k m i : ℕ) → busyFrom k m i < i + k → hasBit m (busyFrom k m i) ≡ true
 unfolding busyFrom
 busy-found zero m i h = absurd (omega arith)
-busy-found (suc k) m i h = go (busy-found k m (suc i)) (is (taken m i))
+busy-found (suc k) m i h = go (busy-found k m (suc i)) (is (hasBit m i))
   where
-    go : (busyFrom k m (suc i) < suc i + k → taken m (busyFrom k m (suc i)) ≡ true) → Is (taken m i) → taken m (busyFrom (suc k) m i) ≡ true
+    go : (busyFrom k m (suc i) < suc i + k → hasBit m (busyFrom k m (suc i)) ≡ true) → Is (hasBit m i) → hasBit m (busyFrom (suc k) m i) ≡ true
     go ih (is-true e) = rw (e, e) refl
     go ih (is-false e) =
         let f : busyFrom (suc k) m i ≡ busyFrom k m (suc i) = rw e refl in
-        ap (taken m) f ∙ ih (omega arith)
+        ap (hasBit m) f ∙ ih (omega arith)
 
 pub free-low : (k m i : ℕ) → i ≤ freeFrom k m i
 unfolding freeFrom
 free-low zero m i = omega arith
-free-low (suc k) m i = go (free-low k m (suc i)) (taken m i)
+free-low (suc k) m i = go (free-low k m (suc i)) (hasBit m i)
   where
     go : suc i ≤ freeFrom k m (suc i) → (t : Bool) → i ≤ cond t (freeFrom k m (suc i)) i
     go h true = omega arith
@@ -124,14 +124,14 @@ free-low (suc k) m i = go (free-low k m (suc i)) (taken m i)
 pub free-high : (k m i : ℕ) → freeFrom k m i ≤ i + k
 unfolding freeFrom
 free-high zero m i = omega arith
-free-high (suc k) m i = go (free-high k m (suc i)) (taken m i)
+free-high (suc k) m i = go (free-high k m (suc i)) (hasBit m i)
   where
     go : freeFrom k m (suc i) ≤ suc i + k → (t : Bool) → cond t (freeFrom k m (suc i)) i ≤ i + suc k
     go h true = omega arith
     go h false = omega arith
 
 -- past a busy slot
-pub free-after : (k m i : ℕ) → taken m i ≡ true → 0 < k → i < freeFrom k m i
+pub free-after : (k m i : ℕ) → hasBit m i ≡ true → 0 < k → i < freeFrom k m i
 unfolding freeFrom
 free-after zero m i e h = absurd (omega arith)
 free-after (suc k) m i e h = rw e (omega (arith, free-low k m (suc i)))
@@ -152,9 +152,9 @@ first-with s (some p) = go p (eqb (firstSlot p) (suc s))
 first-from : (k m i : ℕ) (p : Pairs) → stretchesFrom k m i ≡ some p → suc i ≤ firstSlot p
 unfolding stretches
 first-from zero m i p e = absurd (none-some e)
-first-from (suc k) m i p e = go (first-from k m (suc i)) (is (taken m i))
+first-from (suc k) m i p e = go (first-from k m (suc i)) (is (hasBit m i))
   where
-    go : ((q : Pairs) → stretchesFrom k m (suc i) ≡ some q → suc (suc i) ≤ firstSlot q) → Is (taken m i) → suc i ≤ firstSlot p
+    go : ((q : Pairs) → stretchesFrom k m (suc i) ≡ some q → suc (suc i) ≤ firstSlot q) → Is (hasBit m i) → suc i ≤ firstSlot p
     go ih (is-true t) =
         let same : withSlot (suc i) (stretchesFrom k m (suc i)) ≡ p = some-injective (sym (from-busy k m i t) ∙ e) in
         omega (arith, sym (first-with (suc i) (stretchesFrom k m (suc i))) ∙ ap firstSlot same)
@@ -164,9 +164,9 @@ first-from (suc k) m i p e = go (first-from k m (suc i)) (is (taken m i))
 pub from-next-busy : (k m i hi : ℕ) → i + k ≡ hi → stretchesFrom k m i ≡ stretchesFrom (hi - busyFrom k m i) m (busyFrom k m i)
 unfolding busyFrom
 from-next-busy zero m i hi h = let z : hi - i ≡ 0 = omega arith in rw z refl
-from-next-busy (suc k) m i hi h = go (from-next-busy k m (suc i) hi (omega arith)) (is (taken m i))
+from-next-busy (suc k) m i hi h = go (from-next-busy k m (suc i) hi (omega arith)) (is (hasBit m i))
   where
-    go : stretchesFrom k m (suc i) ≡ stretchesFrom (hi - busyFrom k m (suc i)) m (busyFrom k m (suc i)) → Is (taken m i)
+    go : stretchesFrom k m (suc i) ≡ stretchesFrom (hi - busyFrom k m (suc i)) m (busyFrom k m (suc i)) → Is (hasBit m i)
         → stretchesFrom (suc k) m i ≡ stretchesFrom (hi - busyFrom (suc k) m i) m (busyFrom (suc k) m i)
     go ih (is-true e) = let z : hi - i ≡ suc k = omega arith in rw (e, z) refl
     go ih (is-false e) =
@@ -184,7 +184,7 @@ join-run s t none = rw (eqb-self (suc s)) refl
 join-run s t (some p) = rw (eqb-self (suc s)) refl
 
 -- a slot in front of a free slot
-apart-run : (k m i : ℕ) → taken m (suc i) ≡ false → withSlot (suc i) (stretchesFrom (suc k) m (suc i)) ≡ runThen (suc i) (suc i) (stretchesFrom (suc k) m (suc i))
+apart-run : (k m i : ℕ) → hasBit m (suc i) ≡ false → withSlot (suc i) (stretchesFrom (suc k) m (suc i)) ≡ runThen (suc i) (suc i) (stretchesFrom (suc k) m (suc i))
 apart-run k m i e = go (stretchesFrom (suc k) m (suc i)) (λ p q. first-from k m (suc (suc i)) p (sym (from-free k m (suc i) e) ∙ q))
   where
     go : (o : Option Pairs) → ((p : Pairs) → o ≡ some p → suc (suc (suc i)) ≤ firstSlot p) → withSlot (suc i) o ≡ runThen (suc i) (suc i) o
@@ -192,20 +192,20 @@ apart-run k m i e = go (stretchesFrom (suc k) m (suc i)) (λ p q. first-from k m
     go (some p) h = rw (eqb-no (firstSlot p) (suc (suc i)) (λ q. omega (arith, h p refl))) refl
 
 -- the stretches of the slots below hi, from a busy slot on: the run that it begins, and the others
-pub from-run : (k m i hi : ℕ) → i + k ≡ hi → i < hi → taken m i ≡ true
+pub from-run : (k m i hi : ℕ) → i + k ≡ hi → i < hi → hasBit m i ≡ true
     → stretchesFrom k m i ≡ some (runThen (suc i) (freeFrom k m i) (stretchesFrom (hi - freeFrom k m i) m (freeFrom k m i)))
 unfolding freeFrom stretches
 from-run zero m i hi h l e = absurd (omega arith)
 from-run (suc zero) m i hi h l e =
     let z : hi - suc i ≡ 0 = omega arith in
     from-busy 0 m i e ∙ (rw (e, z) refl)
-from-run (suc (suc k)) m i hi h l e = go (from-run (suc k) m (suc i) hi (omega arith) (omega arith)) (is (taken m (suc i)))
+from-run (suc (suc k)) m i hi h l e = go (from-run (suc k) m (suc i) hi (omega arith) (omega arith)) (is (hasBit m (suc i)))
   where
     f : freeFrom (suc (suc k)) m i ≡ freeFrom (suc k) m (suc i)
     f = rw e refl
 
-    go : (taken m (suc i) ≡ true → stretchesFrom (suc k) m (suc i) ≡ some (runThen (suc (suc i)) (freeFrom (suc k) m (suc i)) (stretchesFrom (hi - freeFrom (suc k) m (suc i)) m (freeFrom (suc k) m (suc i)))))
-        → Is (taken m (suc i))
+    go : (hasBit m (suc i) ≡ true → stretchesFrom (suc k) m (suc i) ≡ some (runThen (suc (suc i)) (freeFrom (suc k) m (suc i)) (stretchesFrom (hi - freeFrom (suc k) m (suc i)) m (freeFrom (suc k) m (suc i)))))
+        → Is (hasBit m (suc i))
         → stretchesFrom (suc (suc k)) m i ≡ some (runThen (suc i) (freeFrom (suc (suc k)) m i) (stretchesFrom (hi - freeFrom (suc (suc k)) m i) m (freeFrom (suc (suc k)) m i)))
     go ih (is-true t) =
         let j = freeFrom (suc k) m (suc i) in
@@ -225,9 +225,9 @@ from-run (suc (suc k)) m i hi h l e = go (from-run (suc k) m (suc i) hi (omega a
 pub record NextRun (m i n : ℕ) : Type 0 where
   pub later : i < n
   pub high : n ≤ 64
-  pub found : n < 64 → taken m n ≡ true
+  pub found : n < 64 → hasBit m n ≡ true
 
-pub next-run : (m i t n : ℕ) → i < 64 → taken m i ≡ true → t ≡ freeFrom (64 - i) m i → n ≡ busyFrom (64 - t) m t → NextRun m i n
+pub next-run : (m i t n : ℕ) → i < 64 → hasBit m i ≡ true → t ≡ freeFrom (64 - i) m i → n ≡ busyFrom (64 - t) m t → NextRun m i n
 next-run m i t n h e to after =
     let on : i < t = rw to (free-after (64 - i) m i e (omega arith)) in
     let top : t ≤ i + (64 - i) = rw to (free-high (64 - i) m i) in
@@ -255,7 +255,7 @@ text-run f t none more e = rw e (sym (regroup (bytes "(") (digits f) (bytes " ")
 text-run f t (some p) more e = rw e (sym (regroup (bytes "(") (digits f) (bytes " ") (digits t) (bytes ") ") (brackets p)))
 
 -- some slot of those below hi is busy from slot n on
-more-from : (hi m n : ℕ) → (n < hi → taken m n ≡ true) → ltb n hi ≡ isSome (stretchesFrom (hi - n) m n)
+more-from : (hi m n : ℕ) → (n < hi → hasBit m n ≡ true) → ltb n hi ≡ isSome (stretchesFrom (hi - n) m n)
 unfolding stretches
 more-from hi m n found = go (is (ltb n hi))
   where
@@ -270,7 +270,7 @@ more-from hi m n found = go (is (ltb n hi))
         rw (q, d) refl
 
 -- From the busy slot i on: the bracket of its run, which ends in slot t, and the brackets from the next busy slot n on.
-pub bracket-step : (m i t n : ℕ) → i < 64 → taken m i ≡ true → t ≡ freeFrom (64 - i) m i → n ≡ busyFrom (64 - t) m t
+pub bracket-step : (m i t n : ℕ) → i < 64 → hasBit m i ≡ true → t ≡ freeFrom (64 - i) m i → n ≡ busyFrom (64 - t) m t
     → bracketsOf (stretchesFrom (64 - i) m i) ≡ bracketText (suc i) t (ltb n 64) ++ bracketsOf (stretchesFrom (64 - n) m n)
 bracket-step m i t n h e to after =
     let low : t ≤ i + (64 - i) = rw to (free-high (64 - i) m i) in

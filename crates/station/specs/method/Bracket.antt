@@ -11,12 +11,11 @@ use lib.Dec.{leb}
 use Rattle.station.specs.Limits.{mostSlots, mostJobs}
 use Rattle.station.specs.declared.brackets.Bracket.{Bracket}
 use Rattle.station.specs.declared.brackets.Stretches.{Stretches}
-use Rattle.station.specs.declared.brackets.Taken.{Taken}
+use Rattle.station.specs.declared.brackets.BusyMask.{BusyMask}
 use Rattle.station.specs.declared.brackets.Jobs.{Jobs}
 use Rattle.station.specs.Form.{Pairs, CallJobs, last, next, also, readBrackets, jobsOf}
 use Rattle.station.specs.Writing.{maskTo, maskOf, ordered}
-use Rattle.station.specs.method.Numeral.{seen}
-use Rattle.station.specs.Jobs.{jobsInLimits, padded, noJobs}
+use Rattle.station.specs.Jobs.{jobsInLimits, padded, noJobs, seen}
 
 -- no bracket was found
 abbrev pub noBracket : Bracket
@@ -56,9 +55,9 @@ stretched hi s f t =
     pickStretches (s .ordered && (leb (s .from) f && leb f t && leb t hi)) (record { from = t + 2; mask = s .mask + maskTo f t; ordered = true })
 
 -- the stretches of a busy line in a frame of hi slots: their mask where they are in order, else 0, and whether they are
-abbrev pub takenIn : ℕ → Option Pairs → Taken
-takenIn hi none = record { found = false; mask = 0; ordered = false }
-takenIn hi (some p) = record { found = true; mask = cond (ordered 1 hi p) (maskOf p) 0; ordered = ordered 1 hi p }
+abbrev pub busyMaskIn : ℕ → Option Pairs → BusyMask
+busyMaskIn hi none = record { found = false; mask = 0; ordered = false }
+busyMaskIn hi (some p) = record { found = true; mask = cond (ordered 1 hi p) (maskOf p) 0; ordered = ordered 1 hi p }
 
 -- ---- jobs
 

@@ -102,7 +102,7 @@ busyStep s b mask ordered = stepBy (firstOf (busyCauses s b ordered)) s (afterBu
 -- the causes of a preset line after the frame line
 abbrev pub presetCauses : State → meant.Preset → List (Option meant-refusal.Refusal)
 presetCauses s p =
-    try outOfLimits (not (meant.inLimits p)) ∷ try numberUsed (meant.hasNumber (p .number) (map presetIn (take (s .head .count) (s .presets))))
+    try outOfLimits (not (meant.presetInLimits p)) ∷ try numberUsed (meant.hasNumber (p .number) (map presetIn (take (s .head .count) (s .presets))))
     ∷ try tooMany (leb mostPresets (s .head .count)) ∷ []
 
 -- the state after a preset line

@@ -10,10 +10,7 @@ use Rattle.station.specs.declared.numbers.Numeral.{Numeral}
 use Rattle.station.specs.Text.{bytes}
 use Rattle.station.specs.Decimal.{isDigit, digitCount, plain, value, valueFrom}
 use Rattle.station.specs.Form.{starts}
-
--- a value as it is read: 65,535 stands for itself and for all above it
-abbrev pub seen : ℕ → ℕ
-seen v = min v 65535
+use Rattle.station.specs.Jobs.{seen}
 
 -- a text begins with a digit
 abbrev pub leads : List ℕ → Bool

@@ -9,8 +9,7 @@ use Rattle.station.specs.Limits.{mostJobs}
 use Rattle.station.specs.Form.{Form, frameLine, busyLine, presetLine, clockLine, callLine, jobsOf}
 use Rattle.station.specs.Form.{_orElse_, frameIn, busyIn, presetIn, clockIn, callIn}
 use Rattle.station.specs.Writing.{maskOf, ordered}
-use Rattle.station.specs.method.Numeral.{seen}
-use Rattle.station.specs.Jobs.{padded, noJobs}
+use Rattle.station.specs.Jobs.{padded, noJobs, seen}
 use Rattle.station.specs.declared.types.Job.{Job}
 use Rattle.station.specs.declared.forms.Line.{Line}
 use Rattle.station.specs.declared.forms.Line.the-variants.{NoForm, Frame, Busy, Preset, Clock, Call}
@@ -27,17 +26,17 @@ lineIn hi (some (clockLine t)) = Clock (seen t)
 lineIn hi (some (callLine p)) = Call (seen (length (jobsOf p)))
 
 -- the first eight jobs of a call, and no job of any other line
-abbrev pub jobsIn : Option Form → List Job
-jobsIn none = noJobs
-jobsIn (some (frameLine s b)) = noJobs
-jobsIn (some (busyLine b p)) = noJobs
-jobsIn (some (presetLine p)) = noJobs
-jobsIn (some (clockLine t)) = noJobs
-jobsIn (some (callLine p)) = padded mostJobs (jobsOf p)
+abbrev pub jobsOfForm : Option Form → List Job
+jobsOfForm none = noJobs
+jobsOfForm (some (frameLine s b)) = noJobs
+jobsOfForm (some (busyLine b p)) = noJobs
+jobsOfForm (some (presetLine p)) = noJobs
+jobsOfForm (some (clockLine t)) = noJobs
+jobsOfForm (some (callLine p)) = padded mostJobs (jobsOf p)
 
 -- a line and its jobs
 abbrev pub readIn : ℕ → Option Form → Read
-readIn hi f = record { line = lineIn hi f; jobs = jobsIn f }
+readIn hi f = record { line = lineIn hi f; jobs = jobsOfForm f }
 
 -- ---- the five forms in two parts
 

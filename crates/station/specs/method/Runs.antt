@@ -5,7 +5,7 @@ use Prim.Native.Nat.{ℕ, zero, suc, _/_, _^_}
 use mathlib.Core.Bool.{Bool, cond}
 use mathlib.Core.List.{List, []}
 use mathlib.Core.Option.{Option, none, some}
-use Rattle.station.specs.Head.{taken}
+use Rattle.station.specs.Head.{hasBit}
 use Rattle.station.specs.Text.{bytes, _then_}
 use Rattle.station.specs.Decimal.{digits}
 use Rattle.station.specs.Form.{Pairs, brackets}
@@ -16,14 +16,14 @@ unfoldable pub busyFrom : ℕ → ℕ → ℕ → ℕ
 busyFrom zero m i = i
 busyFrom (suc k) m i =
     let rest = busyFrom k m (suc i) in
-    cond (taken m i) i rest
+    cond (hasBit m i) i rest
 
 -- the first free slot of the k slots from i on, or the slot after them
 unfoldable pub freeFrom : ℕ → ℕ → ℕ → ℕ
 freeFrom zero m i = i
 freeFrom (suc k) m i =
     let rest = freeFrom k m (suc i) in
-    cond (taken m i) rest i
+    cond (hasBit m i) rest i
 
 -- the stretches of the k slots from i on, as a busy line numbers them, from 1
 abbrev pub stretchesFrom : ℕ → ℕ → ℕ → Option Pairs

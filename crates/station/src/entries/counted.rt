@@ -18,25 +18,25 @@ ghost use Rattle.station.specs.Entries.{WroteEntry, entryRead, refusedAt
 pub(crate) fn write_counted(
     records: usize,
     head: Head,
-    bank: [Preset; MOST_PRESETS],
+    copied: [Preset; MOST_PRESETS],
     out: &mut [u8],
 ) -> Writing
-    ensures { λ r. ⌜ WroteEntry records head bank (now (out .entry)) r (now (out .exit)) ⌝ }
+    ensures { λ r. ⌜ WroteEntry records head copied (now (out .entry)) r (now (out .exit)) ⌝ }
 {
     if records < LEAST_RECORDS {
-        return Writing::Refused(Refusal::TooShort);
+        return Writing::Refused(0, Refusal::TooShort);
     }
-    write_head_by_value(head, bank, out)
+    write_head_by_value(head, copied, out)
 }
 
 // A refusal at line 0, which leaves the head and the records as they were handed in.
-fn refuse_at_start(cause: Refusal, head: Head, bank: [Preset; MOST_PRESETS]) -> HeadRead
-    ensures { λ r. ⌜ r ≡ refusedAtStart cause head bank ⌝ }
+fn refuse_at_start(cause: Refusal, head: Head, copied: [Preset; MOST_PRESETS]) -> HeadRead
+    ensures { λ r. ⌜ r ≡ refusedAtStart cause head copied ⌝ }
 {
     HeadRead {
         answer: ReadAnswer::Refused(0, cause),
         head,
-        presets: bank,
+        presets: copied,
     }
 }
 
@@ -45,21 +45,21 @@ pub(crate) fn read_counted(
     records: usize,
     text: &[u8],
     head: Head,
-    bank: [Preset; MOST_PRESETS],
+    copied: [Preset; MOST_PRESETS],
 ) -> HeadRead
-    ensures { λ r. ⌜ r ≡ entryRead records (now (text .entry)) head bank ⌝ }
+    ensures { λ r. ⌜ r ≡ entryRead records (now (text .entry)) head copied ⌝ }
 {
     if MOST_BYTES < text.len() {
-        return refuse_at_start(Refusal::TextTooLong, head, bank);
+        return refuse_at_start(Refusal::TextTooLong, head, copied);
     }
     if records < LEAST_RECORDS {
-        return refuse_at_start(Refusal::TooShort, head, bank);
+        return refuse_at_start(Refusal::TooShort, head, copied);
     }
-    read_head_by_value(text, head, bank)
+    read_head_by_value(text, head, copied)
 }
 
 // The records that a reading leaves.
-pub(crate) fn bank_of(read: HeadRead) -> [Preset; MOST_PRESETS]
+pub(crate) fn presets_of(read: HeadRead) -> [Preset; MOST_PRESETS]
     ensures { λ r. ⌜ r ≡ read .presets ⌝ }
 {
     read.presets

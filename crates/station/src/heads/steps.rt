@@ -16,7 +16,7 @@ ghost use Prim.Native.Nat.{min};
 ghost use mathlib.Core.List.{map};
 ghost use lib.ListN.{take, set};
 ghost use Rattle.station.specs.Limits.{mostSlots};
-ghost use Rattle.station.specs.Head.{presetOf, within, inLimits, hasNumber};
+ghost use Rattle.station.specs.Head.{presetOf, within, presetInLimits, hasNumber};
 ghost use Rattle.station.specs.Form.{form};
 ghost use Rattle.station.specs.method.ReadLine.{lineIn};
 ghost use Rattle.station.specs.Reading.{begun, busyMisplaced};
@@ -117,7 +117,7 @@ fn with_mask(busy: [u64; MOST_BRIDGES], at: usize, mask: u64) -> [u64; MOST_BRID
 
 // The record of a preset line within its limits, which all fit a byte.
 fn record_of(number: u32, priority: u32, mandatory: u32, optional: u32) -> Preset
-    requires { ⌜ inLimits (presetOf number priority mandatory optional) ≡ true ⌝ }
+    requires { ⌜ presetInLimits (presetOf number priority mandatory optional) ≡ true ⌝ }
     ensures { λ r. ⌜ r ≡ recordOf (presetOf number priority mandatory optional) ⌝ }
 {
     Preset {

@@ -33,27 +33,24 @@ use denote.Triple.Entry.{onEntry, Args, Vals}
 use denote.Triple.Spec.{Meets, tripleOf}
 use denote.Triple.Statement.{Contract, Triple}
 use denote.Triple.Table.{entered, cited}
-use denote.Triple.Walked.{Stays, stay-dropped, gave-slice, walkOf, goes-dropped, goes-gave-slice, ends-at}
+use denote.Triple.Walked.{says, Stays, stay-dropped, gave-slice, walkOf, goes-dropped, goes-gave-slice, ends-at}
 use denote.Exit.{yes}
-use Rattle.station.specs.Types.{headIn}
 use Rattle.station.specs.declared.types.Preset.{Preset}
 use Rattle.station.specs.declared.types.Head.{Head}
 use Rattle.station.specs.declared.types.Job.{Job}
 use Rattle.station.proofs.types.Preset as T
 use Rattle.station.proofs.types.Head as hd
 use Rattle.placing.specs.State.{stateOf}
-use Rattle.placing.proofs.ClaimsHold.{call-claim}
 use Rattle.placing.specs.Causes.{callJobs}
 use Rattle.placing.specs.declared.call.CallAnswer.{CallAnswer}
 use Rattle.placing.proofs.call.CallAnswer as result
 use Rattle.placing.proofs.call.CallAnswer.Laws as result′
-use Rattle.placing.specs.Entries.{CallEntered}
-use Rattle.placing.proofs.ListOfRecords.{call-entered}
-use Rattle.station.proofs.Walks.{says-both}
+use Rattle.placing.specs.Entries.{CallEntered, CallEntry}
+use Rattle.placing.proofs.ListOfRecords.{call-entry}
 use Rattle.placing.proofs.call.JobRecords.{Jobs, jobs-val, jobs-tells, jobs-makes, jobs-typed}
 use Rattle.station.proofs.Walks.{Counts, Loads, slice-val, Records, to-count, goes-count, to-load, goes-load}
 use Rattle.station.specs.Records.{loaded}
-use Rattle.station.proofs.Walks.{Bank, bank-val, bank-tells, bank-makes, bank-typed, head-val, head-tells, head-makes, head-typed}
+use Rattle.station.proofs.Walks.{Bank, copied-val, copied-tells, copied-makes, copied-typed, head-val, head-tells, head-makes, head-typed}
 use Rattle.station.proofs.Walks.{asks, hands-one, full, _&_, none, leaves-fn, meets-by}
 use Rattle.station.proofs.records.record_count as record-count
 use Rattle.station.proofs.records.record_count.Symbol as record-count-def
@@ -125,28 +122,28 @@ module _ {M : Type 1} (𝓤 : URA M) (H : Heap 𝓤) (A : Atoms 𝓤) (W : Given
 
   -- what the callee's triple binds outside, and that the caller has what it asks
   abbrev to-counted : ℕ → List Preset → Counted 𝓤 H A mem run .Ghost
-  to-counted m bank =
-      (((κ₁, tt), (q₁, tt), tt, (m, (head, (bank, (t, (clock, (jobs, (n, tt))))))), (vint w64 m ∷ [], (vh ∷ [], (bank-val bank ∷ [], (vt ∷ [], (vint w64 clock ∷ [], (jobs-val jobs ∷ [], (vint w64 n ∷ [], tt)))))))), tt)
+  to-counted m copied =
+      (((κ₁, tt), (q₁, tt), tt, (m, (head, (copied, (t, (clock, (jobs, (n, tt))))))), (vint w64 m ∷ [], (vh ∷ [], (copied-val copied ∷ [], (vt ∷ [], (vint w64 clock ∷ [], (jobs-val jobs ∷ [], (vint w64 n ∷ [], tt)))))))), tt)
 
-  goes-counted : (m : ℕ) (bank : List Preset) → Is usize m (vint w64 m ∷ []) → Is Bank bank (bank-val bank ∷ []) → Typed
-      → ent 𝓤 (sep 𝓤 (A .lft κ₁ q₁) (sem 𝓤 H A Table)) (Counted 𝓤 H A mem run .pre (to-counted m bank))
-  goes-counted m bank is-m is-b is =
+  goes-counted : (m : ℕ) (copied : List Preset) → Is usize m (vint w64 m ∷ []) → Is Bank copied (copied-val copied ∷ []) → Typed
+      → ent 𝓤 (sep 𝓤 (A .lft κ₁ q₁) (sem 𝓤 H A Table)) (Counted 𝓤 H A mem run .pre (to-counted m copied))
+  goes-counted m copied is-m is-b is =
       qed W (‵ (flft κ₁ q₁) ∷ ‵ Table ∷ []) ∵ nothing ! $
       owned ! usize (Is usize) (uint-makes 𝓤 H A W w64) n _ (is .1 .1 .1) $ fjoin ! $
       owned ! Jobs (Is Jobs) (jobs-makes 𝓤 H A W) jobs _ (is .1 .1 .0) $ fjoin ! $
       owned ! usize (Is usize) (uint-makes 𝓤 H A W w64) clock _ (is .1 .0) $ fjoin ! $ move ! (2 ∷ 0 ∷ []) $ fjoin ! $
-      owned ! Bank (Is Bank) (bank-makes 𝓤 H A W) bank _ is-b $ fjoin ! $ owned ! hd.the-row (Is hd.the-row) (head-makes 𝓤 H A) head _ (is .0) $ fjoin ! $
+      owned ! Bank (Is Bank) (copied-makes 𝓤 H A W) copied _ is-b $ fjoin ! $ owned ! hd.the-row (Is hd.the-row) (head-makes 𝓤 H A) head _ (is .0) $ fjoin ! $
       owned ! usize (Is usize) (uint-makes 𝓤 H A W w64) m _ is-m $ fjoin ! $ hands-one !
 
   -- the result's machine value
   abbrev vr : CallAnswer → Val
   vr = EL.val result.the-type result′.the-laws
 
-  exits : (r : CallAnswer) → Is result.the-row r (vr r ∷ []) → (zs : List ℕ) → CallEntered (length (s .now)) head (s .now) (callJobs n jobs) (stateOf ys clock) zs r → length zs ≡ length ys
+  exits : (r : CallAnswer) → Is result.the-row r (vr r ∷ []) → (zs : List ℕ) → CallEntry head (s .now) (callJobs n jobs) (stateOf ys clock) zs r → length zs ≡ length ys
       → ent 𝓤 (sep 𝓤 (A .lft κ₀ q₀) (sep 𝓤 (A .lft κ₁ q₁) (sem 𝓤 H A (finally u16 γ zs)))) (Post (vr r))
   exits r is-r zs e l =
       qed W (‵ (flft κ₀ q₀) ∷ ‵ (flft κ₁ q₁) ∷ ‵ (finally u16 γ zs) ∷ []) ∵
-      suffices ! _ (ends-at 𝓤 H A call.ended stayed (call.clauses 𝓤 H A mem run) W bound (vr r) r (tt, (tt, (zs, (tt, (tt, (tt, tt)))))) (tt, (tt, (l, (tt, (tt, (tt, tt))))))) $ says-both ! e (call-claim (headIn head (s .now)) (callJobs n jobs) (stateOf ys clock)) $
+      suffices ! _ (ends-at 𝓤 H A call.ended stayed (call.clauses 𝓤 H A mem run) W bound (vr r) r (tt, (tt, (zs, (tt, (tt, (tt, tt)))))) (tt, (tt, (l, (tt, (tt, (tt, tt))))))) $ says ! e $
       nothing ! $ move ! (2 ∷ 0 ∷ []) $ join ! $ move ! (1 ∷ 0 ∷ []) $ join ! $ frame ! $
       nothing ! $ nothing ! $ fjoin ! $ nothing ! $ fjoin ! $ nothing ! $ fjoin ! $ move ! (1 ∷ 0 ∷ []) $ fjoin ! $ nothing ! $ fjoin ! $ nothing ! $ fjoin ! $ frame ! $
       owned ! result.the-row (Is result.the-row) (EL.makes result.the-type result′.the-plain 𝓤 H A) r _ is-r $ done !
@@ -170,14 +167,14 @@ module _ {M : Type 1} (𝓤 : URA M) (H : Heap 𝓤) (A : Atoms 𝓤) (W : Given
         split ! $ move ! (1 ∷ 2 ∷ []) $ drop ! $ drop ! $
         -- [κ₀; the records; κ₁; the table; _10; …; _0; …]
         use2 W (raw (Loads 𝓤 H A mem run .pre (to-load 𝓤 H A W mem run κ₀ q₀ s))) (goes-load 𝓤 H A W mem run κ₀ q₀ s) $
-        asks ! fm load.ended (load.clauses 𝓤 H A mem run) known-load (to-load 𝓤 H A W mem run κ₀ q₀ s) (‵ (flft κ₀ q₀) ⊛ ‵ ftrue) refl (λ bank ws. bank ≡ loaded (s .now)) (λ bank ws. refl) bank-val bank-tells
-        (and-then ! (reads ! (from ! (stop !)) (look ! 19 refl)) (no-more !)) (λ bank _ is-b loads. land ! (from ! (stop !)) (init ! 8 refl (bank-typed 𝓤 H A W bank is-b)) $
+        asks ! fm load.ended (load.clauses 𝓤 H A mem run) known-load (to-load 𝓤 H A W mem run κ₀ q₀ s) (‵ (flft κ₀ q₀) ⊛ ‵ ftrue) refl (λ copied ws. copied ≡ loaded (s .now)) (λ copied ws. refl) copied-val copied-tells
+        (and-then ! (reads ! (from ! (stop !)) (look ! 19 refl)) (no-more !)) (λ copied _ is-b loads. land ! (from ! (stop !)) (init ! 8 refl (copied-typed 𝓤 H A W copied is-b)) $
         split ! $ move ! (1 ∷ 2 ∷ []) $ drop ! $ drop ! $
         -- [κ₀; κ₁; the table; _10; …; _0; …]
         assigns ! (addr ! (from ! (fld ! refl (hop ! (look-in ! 17 (sub ! 0 refl (whole !))) (stop !))))) (from ! (stop !)) (init ! 5 refl (tt, tt)) $
         assigns ! (agg ! (and-then ! (reads ! (from ! (stop !)) (look ! 5 refl)) (and-then ! (reads ! (from ! (fld ! refl (stop !))) (look-in ! 17 (sub ! 1 refl (whole !)))) (no-more !)))) (from ! (stop !)) (init ! 3 refl (tt, (tt, (record { fits = fit-t .0 }, tt)))) $
-        move ! (1 ∷ 2 ∷ []) $ use2 W (raw (Counted 𝓤 H A mem run .pre (to-counted m bank))) (goes-counted m bank is-m is-b is) $
-        asks ! fm call-counted.ended (call-counted.clauses 𝓤 H A mem run) known-counted (to-counted m bank) (‵ (flft κ₁ q₁) ⊛ ‵ ftrue) refl (λ r ws. CallEntered m head bank (callJobs n jobs) (stateOf ys clock) (ws .1 .1 .1 .0) r) (λ r ws. refl) vr (EL.tells result.the-type result′.the-laws)
+        move ! (1 ∷ 2 ∷ []) $ use2 W (raw (Counted 𝓤 H A mem run .pre (to-counted m copied))) (goes-counted m copied is-m is-b is) $
+        asks ! fm call-counted.ended (call-counted.clauses 𝓤 H A mem run) known-counted (to-counted m copied) (‵ (flft κ₁ q₁) ⊛ ‵ ftrue) refl (λ r ws. CallEntered m head copied (callJobs n jobs) (stateOf ys clock) (ws .1 .1 .1 .0) r) (λ r ws. refl) vr (EL.tells result.the-type result′.the-laws)
         (and-then ! (reads ! (from ! (stop !)) (look ! 8 refl)) (and-then ! (reads ! (from ! (stop !)) (look ! 20 refl)) (and-then ! (reads ! (from ! (stop !)) (look ! 6 refl)) (and-then ! (reads ! (from ! (stop !)) (look ! 2 refl))
         (and-then ! (reads ! (from ! (stop !)) (look ! 14 refl)) (and-then ! (reads ! (from ! (stop !)) (look ! 12 refl)) (and-then ! (reads ! (from ! (stop !)) (look ! 10 refl)) (no-more !))))))))
         (λ r ws is-r e. land ! (from ! (stop !)) (init ! 23 refl (EL.lawful result.the-type result′.the-laws 𝓤 H A W tt .typed r _ is-r .0)) $
@@ -186,7 +183,7 @@ module _ {M : Type 1} (𝓤 : URA M) (H : Heap 𝓤) (A : Atoms 𝓤) (W : Given
         leaves-fn ! 3 (full refl refl & full refl refl & full refl refl & full refl refl & full refl refl & full refl refl & full refl refl & full refl refl & full refl refl & full refl refl & full refl refl & none) $
         split ! $ move ! (1 ∷ []) $ drop ! $ move ! (1 ∷ []) $ fsplit ! $ drop ! $ fsplit ! $ drop ! $ fsplit ! $ drop ! $ fsplit ! $ fsplit ! $ move ! (1 ∷ []) $ feqL ! (λ l.
         -- [the last list; of the others nothing; κ₁; κ₀]
-        move ! (1 ∷ []) $ drop ! $ move ! (2 ∷ 1 ∷ 0 ∷ []) $ by ! (exits r is-r (ws .1 .1 .1 .0) (call-entered head (s .now) counts loads (callJobs n jobs) (stateOf ys clock) e) l))))))))))))))))
+        move ! (1 ∷ []) $ drop ! $ move ! (2 ∷ 1 ∷ 0 ∷ []) $ by ! (exits r is-r (ws .1 .1 .1 .0) (call-entry head (s .now) counts loads (callJobs n jobs) (stateOf ys clock) e) l))))))))))))))))
 
 meets : {M : Type 1} (𝓤 : URA M) (H : Heap 𝓤) (A : Atoms 𝓤) → Given 𝓤 H A → (mem : Memory → SProp 𝓤) (run : Routine → Fun 𝓤) (𝓣 : Tables 𝓤 H)
     → Triple 𝓤 (𝓣 .C #record-count) (Counts 𝓤 H A mem run) → Triple 𝓤 (𝓣 .C #load) (Loads 𝓤 H A mem run) → Triple 𝓤 (𝓣 .C #call-counted) (Counted 𝓤 H A mem run)

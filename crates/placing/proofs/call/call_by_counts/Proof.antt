@@ -37,8 +37,8 @@ carry-out-requires c κs = search needs
 mark-jobs-requires : tie.Need-mark-jobs-requires
 mark-jobs-requires c κs = search needs
 
-add-held : tie.Need-add-held
-add-held c =
+add-admitted : tie.Need-add-admitted
+add-admitted c =
     let e = c .before .before .before .before .before .before in
     omega (arith, e .before .before .cause-by-counts .ensures .1 (ap causeIn (e .enum-told .given .1)))
 
@@ -77,7 +77,7 @@ call-by-counts-spec =
     enum-told
     carry-out-requires
     mark-jobs-requires
-    add-held
+    add-admitted
     capacities-at-requires
     same-length
     returns-2)

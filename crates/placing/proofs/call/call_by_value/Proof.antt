@@ -6,7 +6,7 @@ use Rattle.placing.specs.State.{stateOf}
 use Rattle.placing.proofs.ClaimsHold.{call-claim}
 use Rattle.placing.specs.Causes.{causeIn, callJobs}
 use Rattle.placing.proofs.check.FrameCauses.{frame-running}
-use Rattle.placing.proofs.call.CallAnswers.{frame-refused}
+use Rattle.placing.proofs.call.CallAnswers.{frame-refused, done-running}
 use Rattle.placing.proofs.call.call_by_value.Statement.{statement}
 use Rattle.placing.proofs.call.call_by_value.Tie as tie
 
@@ -22,10 +22,10 @@ same-length c = search needs
 returns : tie.Need-returns
 returns c =
     let k = c .before .before .before in
-    let a = k .before .before .before .args in (
-      frame-refused (a .head) (a .presets) (callJobs (a .n) (a .jobs)) (stateOf (a .table .now) (a .clock)) (c .before .r .given .0 .0) (k .frame-cause .ensures) (c .before .r .given .1),
-      call-claim (headIn (a .head) (a .presets)) (callJobs (a .n) (a .jobs)) (stateOf (a .table .now) (a .clock)),
-    )
+    let a = k .before .before .before .args in
+    let st = stateOf (a .table .now) (a .clock) in
+    let done = frame-refused (a .head) (a .presets) (callJobs (a .n) (a .jobs)) st (c .before .r .given .0 .0) (k .frame-cause .ensures) (c .before .r .given .1) in
+    (done, (done-running (a .head) (a .presets) (callJobs (a .n) (a .jobs)) st done, call-claim (headIn (a .head) (a .presets)) (callJobs (a .n) (a .jobs)) st))
 
 enum-told : tie.Need-enum-told
 enum-told c = search needs
@@ -46,10 +46,10 @@ returns-2 c =
     let e = n .before .before in
     let k = e .before .before in
     let a = k .before .before .before .args in
-    let run = frame-running (a .head) (a .presets) (stateOf (a .table .now) (a .clock)) (sym (k .frame-cause .ensures) ∙ ap causeIn (e .enum-told .given .1)) in (
-      o .call-by-counts .ensures (run .0) (run .1) (n .counts-of .ensures (run .0) (run .1 .long)) .0,
-      call-claim (headIn (a .head) (a .presets)) (callJobs (a .n) (a .jobs)) (stateOf (a .table .now) (a .clock)),
-    )
+    let st = stateOf (a .table .now) (a .clock) in
+    let run = frame-running (a .head) (a .presets) st (sym (k .frame-cause .ensures) ∙ ap causeIn (e .enum-told .given .1)) in
+    let done = o .call-by-counts .ensures (run .0) (run .1) (n .counts-of .ensures (run .0) (run .1 .long)) .0 in
+    (done, (done-running (a .head) (a .presets) (callJobs (a .n) (a .jobs)) st done, call-claim (headIn (a .head) (a .presets)) (callJobs (a .n) (a .jobs)) st))
 
 pub call-by-value-spec : {M : Type 1} → statement M
 call-by-value-spec =

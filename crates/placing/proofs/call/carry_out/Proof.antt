@@ -11,11 +11,11 @@ use Rattle.placing.specs.State.{stateOf}
 use Rattle.placing.specs.Types.{jobsIn}
 use Rattle.placing.specs.Outcomes.{jobsOutside}
 use Rattle.placing.specs.Table.{cell}
-use Rattle.placing.proofs.limits.Within.{in-limits}
+use Rattle.placing.proofs.rule.SlotsPlaced.{is-placeable}
 use Rattle.placing.specs.method.Search.{Evicts}
 use Rattle.placing.proofs.search.EvictedSet.{valid-searchable}
 use Rattle.placing.proofs.HeadRecord.{record-valid}
-use Rattle.placing.proofs.counts.causes.CallCauses.{jobs-length}
+use Rattle.placing.proofs.counts.causes.CallCauses.{jobs-length, needs-low}
 use Rattle.placing.proofs.call.CallAnswers.{carried-refused, carried-taken}
 use Rattle.placing.proofs.call.EmptyFrom.{clean-from}
 use Rattle.placing.proofs.call.carry_out.Statement.{statement}
@@ -72,7 +72,8 @@ returns-2 c =
     let valid = record-valid (a .head) (a .presets) v in
     carried-taken h (jobsIn (a .n) (a .jobs)) (stateOf (a .table .now) (a .clock)) (e .evict .result) (searched e v long few inside) (true-of-not _ (f .if1 .left))
     (e .before .before .job-needs .result) (a .n) (k .job-cells .result)
-    (in-limits (h .slots) (h .bridges) (a .n) (length (a .table .now)) (valid .slots-high) (valid .bridges-high) (omega (arith, few)) long)
+    (is-placeable (h .slots) (h .bridges) (e .before .before .job-needs .result) (a .n) (length (a .table .now)) (valid .slots-high) (valid .bridges-high) (omega (arith, few)) long
+    (needs-low (a .jobs) (omega (arith, s)) (a .n) few inside (e .before .before .job-needs .result) (e .before .before .job-needs .ensures (a .n) few inside)))
     (e .before .before .job-needs .ensures (a .n) few inside)
     (λ i l. k .job-cells .ensures (a .n) few inside i (omega (arith, l, jobs-length (a .jobs) (omega (arith, s)) (a .n) few))) (w .place .ensures (clean-from h (a .clock) (jobsIn (a .n) (a .jobs)) (a .table .now) (e .evict .result) (searched e v long few inside) (past .past-evicted .result)
     (past .past-evicted .ensures)))

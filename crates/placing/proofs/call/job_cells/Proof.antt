@@ -10,13 +10,13 @@ use Rattle.placing.proofs.call.job_cells.Statement.{statement}
 use Rattle.placing.proofs.call.job_cells.Tie as tie
 
 abbrev Inv-loop : tie.InvT-loop
-Inv-loop jobs all₀ i₀ all i = (i ≤ 8) × (length all ≡ 32) × Stored (replicate 32 0) (λ j. 1024 + jobNumber jobs j % 256) 0 i all
+Inv-loop jobs all₀ i₀ all i = (i ≤ 8) × (length all ≡ 64) × Stored (replicate 64 0) (λ j. 1024 + jobNumber jobs j % 256) 0 i all
 
 abbrev μ-loop : tie.MeasureT-loop
 μ-loop jobs all₀ i₀ all i = 8 - i
 
 loop-holds : tie.Need-loop-holds Inv-loop μ-loop
-loop-holds c = (omega arith, omega arith, stored-none (replicate 32 0) _ 0)
+loop-holds c = (omega arith, omega arith, stored-none (replicate 64 0) _ 0)
 
 mul-job : tie.Need-mul-job Inv-loop μ-loop
 mul-job c = omega arith

@@ -23,7 +23,7 @@ use Rattle.laws.proofs.Comparisons.{lt-of, ge-of, eq-of, ne-of, ltb-yes, ltb-no
 use Rattle.laws.proofs.Every.{every-not}
 use Rattle.laws.proofs.Stores.{zeros}
 use Rattle.laws.proofs.Loops.{every-none}
-use Rattle.station.specs.Head.{taken}
+use Rattle.station.specs.Head.{hasBit}
 use Rattle.placing.specs.Table.{numberIn}
 use Rattle.placing.specs.method.Check.{bump, tally, cellFits, differs, isNew, fitsAt, FirstFault}
 use Rattle.placing.proofs.HeadRecord.{next-row}
@@ -133,12 +133,12 @@ module _ (m : ℕ) (busy ns t : List ℕ) where
     v = getD t at 0
 
     abbrev test : Bool
-    test = cellFits ns counts (taken (getD busy b 0) s) v
+    test = cellFits ns counts (hasBit (getD busy b 0) s) v
 
     here : getD t (s * m + b) 0 ≡ v
     here = ap (λ (i : ℕ). getD t i 0) (sym (w .place))
 
-    tested : (r : Bool) → test ≡ r → cellFits ns (tally t (s * m + b)) (taken (getD busy b 0) s) (getD t (s * m + b) 0) ≡ r
+    tested : (r : Bool) → test ≡ r → cellFits ns (tally t (s * m + b)) (hasBit (getD busy b 0) s) (getD t (s * m + b) 0) ≡ r
     tested r e = rw (sym (w .place), sym (w .counted)) e
 
     -- whether the number is new in the slot, by its mark
@@ -208,7 +208,7 @@ module _ (m : ℕ) (busy ns t : List ℕ) where
     pub number-twice : (slots : ℕ) → s < slots → b < m → 512 ≤ v → getD last (numberIn v) 0 ≡ s + 1 → FirstFault slots m busy ns t at
     number-twice slots ls lb high e =
         fault-here slots ls lb
-        (fails-right (cellFits ns (tally t (s * m + b)) (taken (getD busy b 0) s) (getD t (s * m + b) 0)) _
+        (fails-right (cellFits ns (tally t (s * m + b)) (hasBit (getD busy b 0) s) (getD t (s * m + b) 0)) _
         (marked-new false high (eqb-yes (getD last (numberIn v) 0) (s + 1) e)))
 
   pub no-fault : (slots s at : ℕ) (counts last : List ℕ) → Passed m busy ns t s at counts last → s ≡ slots → FirstFault slots m busy ns t at

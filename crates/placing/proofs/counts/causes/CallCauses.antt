@@ -1,13 +1,13 @@
 -- The causes of a call itself as the code tries them, src/counts/causes.rt: a law for each answer, and what is known where none is met.
 --
 -- In order: a number that is new (`new-..`); the jobs of a call (`call-jobs`, `jobs-length`, `job-at`), outside their limits or not (`outside-..`, `inside-..`); their lengths
--- (`lengths-are`); numbers that are new (`jobs-used`); whether they fit (`fit-counted`, `fit-one`); the causes (`cause-..`).
+-- (`lengths-are`); numbers that are new (`jobs-used`); whether they fit (`fit-counted`, `fit-one`); the causes of the jobs, and 7 (`cause-..`).
 -- Assumes nothing.
 use Prim.Native.Nat.{ℕ, _+_, _-_, _%_, _≤_, _<_}
 use native.Mathlib.Omega.{arith}
-use mathlib.Core.Path.{_≡_, sym, _∙_, ap, ap₂}
-use mathlib.Core.Bool.{Bool, true, false, not, _&&_}
-use mathlib.Core.Option.{none, some}
+use mathlib.Core.Path.{_≡_, sym, _∙_, ap, ap₂, subst}
+use mathlib.Core.Bool.{Bool, true, false, not, _&&_, _||_}
+use mathlib.Core.Option.{Option, none, some}
 use mathlib.Core.List.{List, [], _∷_, _++_, append-nil}
 use lib.ListN.{length, take, getD, replicate, length-map, length-append, length-replicate, List·getD-map}
 use lib.Seq.{ext-getD, getD-take, length-take-le, take-all}
@@ -18,24 +18,28 @@ use Rattle.laws.specs.Placement.{capacity, excess}
 use Rattle.laws.proofs.Tests.{Is, is, is-true, is-false, clash, test-ext, both, left-of, right-of, not-is-true, not-is-false, true-of-not, fails-left, fails-right}
 use Rattle.laws.proofs.Comparisons.{lt-of, ge-of, le-of, eq-of, ltb-iff, ltb-yes, ltb-no, leb-yes, leb-no, eqb-yes}
 use Rattle.laws.proofs.Every.{every-all, every-ext, every-not}
+use Rattle.laws.proofs.Counts.{count-le}
+use Rattle.laws.proofs.Loops.{sum-none, sum-more}
+use Rattle.laws.proofs.Largest.{upTo}
 use Rattle.station.specs.Head.{Head, Job, within}
-use Rattle.station.specs.Refusal.{outOfLimits, numberUsed, tooMany, callNotFeasible, try, firstOf}
-use Rattle.station.proofs.Theorems.{first-of-none, passed, first-none}
+use Rattle.station.specs.Refusal.{outOfLimits, numberUsed, tooMany, callNotFeasible, Refusal, try, firstOf}
+use Rattle.station.proofs.Theorems.{first-of-none, passed, first-none, append-none, append-some}
 use Rattle.station.specs.Jobs.{jobInLimits}
 use Rattle.station.specs.Types.{jobIn}
 use Rattle.station.specs.declared.types.Job as record-job
 use Rattle.placing.specs.Table.{Cells, isUsed, jobCount}
 use Rattle.placing.specs.Valid.{noJob, jobAt}
-use Rattle.placing.specs.Call.{usableCount, lengths, callExcess, callFits}
+use Rattle.placing.specs.Call.{usableCount, lengths, callShort, callFits, evictable, emptyFree}
 use Rattle.placing.specs.Types.{jobsIn}
-use Rattle.placing.specs.Outcomes.{jobsOutside, jobsUsed, jobsTooMany, callCauses}
+use Rattle.placing.specs.Outcomes.{jobsOutside, jobsUsed, jobsTooMany, jobCauses, callCauses}
 use Rattle.placing.proofs.Causes.{met}
 use Rattle.placing.proofs.NewJobs.{length-lengths, at-lengths}
 use Rattle.placing.proofs.CallByNumbers.{fits-by-room}
 use Rattle.placing.specs.Causes.{callJobs}
-use Rattle.placing.specs.method.Search.{ExcessOver}
 use Rattle.placing.specs.method.Jobs.{jobRecord, jobNumber, withinAt, marked, isOther, jobNew}
-use Rattle.placing.specs.method.Counts.{CountsOf, CountedFit}
+use Rattle.placing.specs.method.Counts.{Unfinished, FitBeside, CountedFit}
+use Rattle.placing.proofs.grants.Arrays.{sums-none, sums-more, sums-all, fits-in-excess}
+use Rattle.placing.specs.method.Grants.{Sums, Raised, fitsIn}
 
 -- ---- a number that is new
 
@@ -131,14 +135,17 @@ module _ (js : List record-job.Job) (long : length js ≡ 8) (n : ℕ) (few : n 
         let low = left-of (within 1 255 (jobNumber js i)) (within 1 64 (jobRecord js i .slots)) (inside-at i l) in
         omega (arith, le-of (jobNumber js i) 255 (right-of (leb 1 (jobNumber js i)) (leb (jobNumber js i) 255) low))
 
-    inside-slots : (i : ℕ) → i < n → jobRecord js i .slots < 256
-    inside-slots i l =
+    inside-length : (i : ℕ) → i < n → jobRecord js i .slots ≤ 64
+    inside-length i l =
         let low = right-of (within 1 255 (jobNumber js i)) (within 1 64 (jobRecord js i .slots)) (inside-at i l) in
-        omega (arith, le-of (jobRecord js i .slots) 64 (right-of (leb 1 (jobRecord js i .slots)) (leb (jobRecord js i .slots) 64) low))
+        le-of (jobRecord js i .slots) 64 (right-of (leb 1 (jobRecord js i .slots)) (leb (jobRecord js i .slots) 64) low)
+
+    pub inside-slots : (i : ℕ) → i < n → jobRecord js i .slots < 256
+    inside-slots i l = omega (arith, inside-length i l)
 
     -- ---- their lengths: the low byte is all of a length
 
-    pub lengths-are : (needs : List ℕ) → length needs ≡ 32 → ((i : ℕ) → i < 8 → getD needs i 0 ≡ jobRecord js i .slots % 256) → lengths (jobsIn n js) ≡ take n needs
+    pub lengths-are : (needs : List ℕ) → length needs ≡ 64 → ((i : ℕ) → i < 8 → getD needs i 0 ≡ jobRecord js i .slots % 256) → lengths (jobsIn n js) ≡ take n needs
     lengths-are needs size h =
         ext-getD 0 (lengths (jobsIn n js)) (take n needs) (many ∙ sym (length-take-le n needs (omega (arith, size, few))))
         (λ i l.
@@ -149,6 +156,13 @@ module _ (js : List record-job.Job) (long : length js ≡ 8) (n : ℕ) (few : n 
       where
         many : length (lengths (jobsIn n js)) ≡ n
         many = length-map (jobsIn n js) (λ (j : Job). j .slots) ∙ jobs-length
+
+    -- none is above the longest job
+    pub needs-low : (needs : List ℕ) → lengths (jobsIn n js) ≡ take n needs → (i : ℕ) → i < n → at needs i ≤ 64
+    needs-low needs same i l =
+        let own : at needs i ≡ jobRecord js i .slots =
+        sym (getD-take n needs i 0 l) ∙ ap (λ (c : List ℕ). at c i) (sym same) ∙ at-lengths (jobsIn n js) i ∙ ap (λ (j : Job). j .slots) (job-at i l) in
+        omega (arith, own, inside-length i l)
 
     -- ---- numbers that are new
 
@@ -173,14 +187,69 @@ module _ (js : List record-job.Job) (long : length js ≡ 8) (n : ℕ) (few : n 
 
 -- ---- whether the jobs fit
 
-pub fit-counted : (jobs : List Job) (xs needs : List ℕ) (n : ℕ) {v : ℕ} → lengths jobs ≡ take n needs → ExcessOver needs n xs v → CountedFit xs jobs (eqb v 0)
-fit-counted jobs xs needs n {v} e over h clock t valid formed right =
-    test-ext (eqb v 0) (callFits h clock jobs t) (λ q. fits-by-room h clock jobs t valid formed .1 (sym is-excess ∙ eq-of v 0 q)) (λ q. eqb-yes v 0 (is-excess ∙ fits-by-room h clock jobs t valid formed .0 q))
+-- with the first i jobs, what is unfinished has the sums `all` and the total `together`
+module _ (jobs : List Job) (sums : List ℕ) (total : ℕ) where
+  abbrev pub Beside : ℕ → List ℕ → ℕ → Type 0
+  Beside i all together =
+      (k : ℕ) (c : ℕ → ℕ) → Unfinished k c jobs sums total → Sums (k + length jobs) (upTo c (k + i)) all × (together ≡ sum (k + i) c)
+
+  pub beside-none : (i : ℕ) → i ≡ 0 → Beside i sums total
+  beside-none i z k c u =
+      let e : k ≡ k + i = omega arith in
+      (subst (λ (m : ℕ). Sums (k + length jobs) (upTo c m) sums) e (u .largest), u .all ∙ ap (λ (m : ℕ). sum m c) e)
+
+  pub beside-more : (i need : ℕ) (all now : List ℕ) {together next : ℕ} → i < length jobs → need ≡ jobAt jobs i .slots → Beside i all together
+      → Raised all 0 need now → next ≡ together + need → Beside (i + 1) now next
+  beside-more i need all now l e b r m k c u =
+      let was = b k c u in
+      let same : k + i + 1 ≡ k + (i + 1) = omega arith in
+      let own : need ≡ c (k + i) = e ∙ sym (u .others i l) in (
+        subst (λ (q : ℕ). Sums (k + length jobs) (upTo c q) now) same (sums-more (k + length jobs) c (k + i) need all now (omega arith) (was .0) r own),
+        omega (arith, m, was .1, own, sum-more (k + i) c, ap (λ (q : ℕ). sum q c) same),
+      )
+
+  pub beside-fits : (i : ℕ) (all xs : List ℕ) {together : ℕ} {r : Bool} → i ≡ length jobs → Beside i all together → r ≡ fitsIn all together xs
+      → FitBeside sums total xs jobs r
+  beside-fits i all xs {together} e b q k c u n x few known =
+      let was = b k c u in
+      let same : k + i ≡ k + length jobs = omega arith in
+      q
+      ∙ fits-in-excess (k + length jobs) c n x all together xs few known
+      (sums-all (k + length jobs) c all (subst (λ (m : ℕ). Sums (k + length jobs) (upTo c m) all) same (was .0)))
+      (was .1 ∙ ap (λ (m : ℕ). sum m c) same)
+
+-- beside nothing that is unfinished
+pub fit-counted : (jobs : List Job) (xs : List ℕ) {r : Bool} → FitBeside (replicate 9 0) 0 xs jobs r → CountedFit xs jobs r
+fit-counted jobs xs {r} beside h clock t valid formed right =
+    is-excess
+    ∙ test-ext (eqb over 0) (callFits h clock jobs t) (λ q. fits-by-room h clock jobs t valid formed .1 (eq-of over 0 q))
+    (λ q. eqb-yes over 0 (fits-by-room h clock jobs t valid formed .0 q))
   where
-    is-excess : v ≡ callExcess h jobs (usableCount h clock t)
+    x : ℕ → ℕ
+    x = usableCount h clock t
+
+    c : ℕ → ℕ
+    c = at (lengths jobs)
+
+    over : ℕ
+    over = callShort h jobs (usableCount h clock t)
+
+    few : (s : ℕ) → s < h .slots → x s ≤ 8
+    few s l = omega (arith, count-le (h .bridges) (λ b. emptyFree clock t s b || evictable h clock t s b), valid .bridges-high)
+
+    none-yet : Unfinished 0 c jobs (replicate 9 0) 0
+    none-yet =
+        record {
+          largest = sums-none (0 + length jobs) (at (lengths jobs));
+          all = sym (sum-none (at (lengths jobs)));
+          others = λ i l. ap (at (lengths jobs)) (let same : 0 + i ≡ i = omega arith in same) ∙ at-lengths jobs i;
+        }
+
+    is-excess : r ≡ eqb over 0
     is-excess =
-        over (h .slots) (usableCount h clock t) right
-        ∙ ap (λ (c : List ℕ). excess (length c) (at c) (h .slots) (usableCount h clock t)) (sym e)
+        beside 0 c none-yet (h .slots) x few right
+        ∙ ap (λ (k : ℕ). eqb (excess k (at (lengths jobs)) (h .slots) (usableCount h clock t)) 0)
+        (let same : 0 + length jobs ≡ length (lengths jobs) = omega (arith, length-lengths jobs) in same)
 
 -- one job exceeds the cells by what it is longer than the capacity for one
 excess-one : (c : ℕ → ℕ) (n : ℕ) (x : ℕ → ℕ) → excess 1 c n x ≡ c 0 - capacity n x 1
@@ -199,18 +268,65 @@ fit-one js long n xs one h clock t valid formed right =
     c : ℕ
     c = jobRecord js 0 .slots
 
-    is-excess : callExcess h jobs (usableCount h clock t) ≡ c - getD xs 1 0
+    is-excess : callShort h jobs (usableCount h clock t) ≡ c - getD xs 1 0
     is-excess =
         ap (λ (k : ℕ). excess k (at (lengths jobs)) (h .slots) (usableCount h clock t)) (length-lengths jobs ∙ jobs-length js long n (omega arith) ∙ one)
         ∙ excess-one (at (lengths jobs)) (h .slots) (usableCount h clock t)
         ∙ ap₂ (λ (a b : ℕ). a - b) (at-lengths jobs 0 ∙ ap (λ (j : Job). j .slots) (job-at js long n (omega arith) 0 (omega arith))) (sym (right 1 (omega arith)))
 
--- ---- the causes
+-- ---- the causes of the jobs
 
-module _ (js : List record-job.Job) (long : length js ≡ 8) (n : ℕ) (h : Head) (clock : ℕ) (t : Cells) where
-  pub cause-many : 8 < n → some outOfLimits ≡ firstOf (callCauses h clock (callJobs n js) t)
+module _ (js : List record-job.Job) (long : length js ≡ 8) (n : ℕ) (h : Head) (t : Cells) where
+  pub cause-many : 8 < n → some outOfLimits ≡ firstOf (jobCauses h (callJobs n js) t)
   cause-many l = sym (met outOfLimits (jobsOutside (callJobs n js)) _ (call-jobs-many js long n l))
 
+  module _ (few : n ≤ 8) where
+    same-causes : firstOf (jobCauses h (jobsIn n js) t) ≡ firstOf (jobCauses h (callJobs n js) t)
+    same-causes = ap (λ (jobs : List Job). firstOf (jobCauses h jobs t)) (sym (call-jobs js long n few))
+
+    pub cause-outside : jobsOutside (jobsIn n js) ≡ true → some outOfLimits ≡ firstOf (jobCauses h (callJobs n js) t)
+    cause-outside e = sym (met outOfLimits (jobsOutside (jobsIn n js)) _ e) ∙ same-causes
+
+    module _ (e : jobsOutside (jobsIn n js) ≡ false) (marks : List ℕ) {held : ℕ} (right : (m : ℕ) → m < 256 → marked marks m ≡ isUsed h t m)
+        (many : held ≡ jobCount h t) where
+      used : jobsUsed h t (jobsIn n js) ≡ not (every n (jobNew marks js))
+      used = jobs-used js long n few e h t marks right
+
+      -- n more jobs beside those of the table
+      over : jobsTooMany h t (jobsIn n js) ≡ ltb (64 - n) held
+      over =
+          ltb-iff 64 (jobCount h t + length (jobsIn n js)) (64 - n) held (λ l. omega (arith, l, many, jobs-length js long n few))
+          (λ l. omega (arith, l, many, jobs-length js long n few))
+
+      pub cause-used : not (every n (jobNew marks js)) ≡ true → some numberUsed ≡ firstOf (jobCauses h (callJobs n js) t)
+      cause-used u =
+          sym (passed outOfLimits (jobsOutside (jobsIn n js)) _ e ∙ met numberUsed (jobsUsed h t (jobsIn n js)) _ (used ∙ u)) ∙ same-causes
+
+      module _ (u : not (every n (jobNew marks js)) ≡ false) where
+        pub cause-over : 64 - n < held → some tooMany ≡ firstOf (jobCauses h (callJobs n js) t)
+        cause-over m =
+            sym (passed outOfLimits (jobsOutside (jobsIn n js)) _ e
+            ∙ passed numberUsed (jobsUsed h t (jobsIn n js)) _ (used ∙ u)
+            ∙ met tooMany (jobsTooMany h t (jobsIn n js)) _ (over ∙ ltb-yes (64 - n) held m))
+            ∙ same-causes
+
+        pub cause-none : held ≤ 64 - n → none ≡ firstOf (jobCauses h (callJobs n js) t)
+        cause-none m =
+            sym (passed outOfLimits (jobsOutside (jobsIn n js)) _ e
+            ∙ passed numberUsed (jobsUsed h t (jobsIn n js)) _ (used ∙ u)
+            ∙ passed tooMany (jobsTooMany h t (jobsIn n js)) _ (over ∙ ltb-no (64 - n) held m)
+            ∙ first-of-none)
+            ∙ same-causes
+
+-- ---- and 7
+
+abbrev trySeven : Head → ℕ → List Job → Cells → List (Option Refusal)
+trySeven h clock jobs t = try callNotFeasible (not (callFits h clock jobs t)) ∷ []
+
+pub cause-own : (h : Head) (clock : ℕ) (jobs : List Job) (t : Cells) (r : Refusal) → some r ≡ firstOf (jobCauses h jobs t) → some r ≡ firstOf (callCauses h clock jobs t)
+cause-own h clock jobs t r e = sym (append-some (jobCauses h jobs t) (trySeven h clock jobs t) r (sym e))
+
+module _ (js : List record-job.Job) (long : length js ≡ 8) (n : ℕ) (h : Head) (clock : ℕ) (t : Cells) where
   -- what is known where none is met
   pub cause-known : firstOf (callCauses h clock (callJobs n js) t) ≡ none → (n ≤ 8) × (jobsOutside (jobsIn n js) ≡ false)
   cause-known e =
@@ -218,45 +334,16 @@ module _ (js : List record-job.Job) (long : length js ≡ 8) (n : ℕ) (h : Head
       let few = few-jobs js long n two in
       (few, ap jobsOutside (sym (call-jobs js long n few)) ∙ two)
 
-  module _ (few : n ≤ 8) where
-    same-causes : firstOf (callCauses h clock (jobsIn n js) t) ≡ firstOf (callCauses h clock (callJobs n js) t)
-    same-causes = ap (λ (jobs : List Job). firstOf (callCauses h clock jobs t)) (sym (call-jobs js long n few))
+  module _ (own : none ≡ firstOf (jobCauses h (callJobs n js) t)) (few : n ≤ 8) where
+    same-fit : callFits h clock (callJobs n js) t ≡ callFits h clock (jobsIn n js) t
+    same-fit = ap (λ (jobs : List Job). callFits h clock jobs t) (call-jobs js long n few)
 
-    pub cause-outside : jobsOutside (jobsIn n js) ≡ true → some outOfLimits ≡ firstOf (callCauses h clock (callJobs n js) t)
-    cause-outside e = sym (met outOfLimits (jobsOutside (jobsIn n js)) _ e) ∙ same-causes
+    first-three : firstOf (callCauses h clock (callJobs n js) t) ≡ firstOf (trySeven h clock (callJobs n js) t)
+    first-three = append-none (jobCauses h (callJobs n js) t) (trySeven h clock (callJobs n js) t) (sym own)
 
-    module _ (e : jobsOutside (jobsIn n js) ≡ false) {marks : List ℕ} {held : ℕ} {xs : List ℕ} (right : CountsOf h clock t marks held xs) where
-      used : jobsUsed h t (jobsIn n js) ≡ not (every n (jobNew marks js))
-      used = jobs-used js long n few e h t marks (right .used)
+    pub cause-seven : callFits h clock (jobsIn n js) t ≡ false → some callNotFeasible ≡ firstOf (callCauses h clock (callJobs n js) t)
+    cause-seven f = sym (first-three ∙ met callNotFeasible (not (callFits h clock (callJobs n js) t)) [] (not-is-true _ (same-fit ∙ f)))
 
-      -- n more jobs beside those of the table
-      over : jobsTooMany h t (jobsIn n js) ≡ ltb (64 - n) held
-      over =
-          ltb-iff 64 (jobCount h t + length (jobsIn n js)) (64 - n) held (λ l. omega (arith, l, right .jobs, jobs-length js long n few))
-          (λ l. omega (arith, l, right .jobs, jobs-length js long n few))
-
-      pub cause-used : not (every n (jobNew marks js)) ≡ true → some numberUsed ≡ firstOf (callCauses h clock (callJobs n js) t)
-      cause-used u =
-          sym (passed outOfLimits (jobsOutside (jobsIn n js)) _ e ∙ met numberUsed (jobsUsed h t (jobsIn n js)) _ (used ∙ u)) ∙ same-causes
-
-      module _ (u : not (every n (jobNew marks js)) ≡ false) where
-        pub cause-over : 64 - n < held → some tooMany ≡ firstOf (callCauses h clock (callJobs n js) t)
-        cause-over m =
-            sym (passed outOfLimits (jobsOutside (jobsIn n js)) _ e
-            ∙ passed numberUsed (jobsUsed h t (jobsIn n js)) _ (used ∙ u)
-            ∙ met tooMany (jobsTooMany h t (jobsIn n js)) _ (over ∙ ltb-yes (64 - n) held m))
-            ∙ same-causes
-
-        module _ (m : held ≤ 64 - n) where
-          first-three : firstOf (callCauses h clock (jobsIn n js) t) ≡ firstOf (try callNotFeasible (not (callFits h clock (jobsIn n js) t)) ∷ [])
-          first-three =
-              passed outOfLimits (jobsOutside (jobsIn n js)) _ e
-              ∙ passed numberUsed (jobsUsed h t (jobsIn n js)) _ (used ∙ u)
-              ∙ passed tooMany (jobsTooMany h t (jobsIn n js)) _ (over ∙ ltb-no (64 - n) held m)
-
-          pub cause-seven : callFits h clock (jobsIn n js) t ≡ false → some callNotFeasible ≡ firstOf (callCauses h clock (callJobs n js) t)
-          cause-seven f = sym (first-three ∙ met callNotFeasible (not (callFits h clock (jobsIn n js) t)) [] (not-is-true _ f)) ∙ same-causes
-
-          pub cause-passed : callFits h clock (jobsIn n js) t ≡ true → none ≡ firstOf (callCauses h clock (callJobs n js) t)
-          cause-passed f =
-              sym (first-three ∙ passed callNotFeasible (not (callFits h clock (jobsIn n js) t)) [] (not-is-false _ f) ∙ first-of-none) ∙ same-causes
+    pub cause-passed : callFits h clock (jobsIn n js) t ≡ true → none ≡ firstOf (callCauses h clock (callJobs n js) t)
+    cause-passed f =
+        sym (first-three ∙ passed callNotFeasible (not (callFits h clock (callJobs n js) t)) [] (not-is-false _ (same-fit ∙ f)) ∙ first-of-none)

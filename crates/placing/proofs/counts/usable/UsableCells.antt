@@ -22,20 +22,20 @@ use Rattle.laws.proofs.Stores.{zeros}
 use Rattle.laws.proofs.Loops.{sum-none, sum-more}
 use Rattle.station.specs.Head.{Head}
 use Rattle.placing.proofs.WellFormedFrame.{usable-from, usable-before}
-use Rattle.placing.specs.Table.{cell, isEmpty, isOptional}
+use Rattle.placing.specs.Table.{cell, isEmpty}
 use Rattle.placing.specs.Valid.{usable, firstSlot}
 use Rattle.placing.specs.Call.{usableCount}
-use Rattle.placing.specs.method.Counts.{freeCell, freeIn, slotFree, CapacitiesAt}
+use Rattle.placing.specs.method.Counts.{evictableCell, freeCell, freeIn, slotFree, CapacitiesAt}
 
 -- ---- a cell that a call may use
 
 pub free-empty : (v : ℕ) → v ≡ 0 → 1 ≡ bit (freeCell v)
 free-empty v z = ap (λ (x : ℕ). bit (freeCell x)) (sym z)
 
-pub free-optional : (v : ℕ) → isOptional v ≡ true → 1 ≡ bit (freeCell v)
-free-optional v o = ap bit (sym (or-right (isEmpty v) (isOptional v) o))
+pub free-evictable : (v : ℕ) → evictableCell v ≡ true → 1 ≡ bit (freeCell v)
+free-evictable v o = ap bit (sym (or-right (isEmpty v) (evictableCell v) o))
 
-pub free-none : (v : ℕ) → (v ≡ 0 → ⊥) → isOptional v ≡ false → 0 ≡ bit (freeCell v)
+pub free-none : (v : ℕ) → (v ≡ 0 → ⊥) → evictableCell v ≡ false → 0 ≡ bit (freeCell v)
 free-none v z o = sym (ap₂ (λ (a b : Bool). bit (a || b)) (eqb-no v 0 z) o)
 
 -- the cells from a place on, no cell and one more

@@ -3,10 +3,10 @@ use Prim.Native.Nat.{_≤_, _-_}
 use native.Mathlib.Omega.{arith}
 use mathlib.Core.Path.{_≡_, refl}
 use Rattle.laws.specs.Lists.{at}
-use Rattle.placing.specs.method.Grants.{filled}
 use Rattle.placing.proofs.grants.Arrays.{filled-more}
 use Rattle.placing.proofs.plan.grants_of.Statement.{statement}
 use Rattle.placing.proofs.plan.grants_of.Tie as tie
+use Rattle.placing.specs.Types.{filled}
 
 abbrev Inv-loop : tie.InvT-loop
 Inv-loop k needs mandatory all₀ i₀ all i = (i ≤ k) × (k ≤ 32) × (all ≡ filled 32 i (λ j. at needs j - at mandatory j))

@@ -4,10 +4,10 @@ use native.Mathlib.Omega.{arith}
 use mathlib.Core.Path.{_≡_, refl}
 use mathlib.Core.Path.{ap, _∙_}
 use lib.ListN.{length}
-use Rattle.placing.specs.PlanDone.{busyTo}
 use Rattle.placing.proofs.plan.PlanAnswers.{busy-length, busy-more}
 use Rattle.placing.proofs.plan.mark_busy.Statement.{statement}
 use Rattle.placing.proofs.plan.mark_busy.Tie as tie
+use Rattle.placing.specs.method.PlanParts.{busyTo}
 
 abbrev Inv-loop : tie.InvT-loop
 Inv-loop table₀ cells i₀ table i = (i ≤ cells) × (table ≡ busyTo table₀ i) × (length table ≡ length table₀)

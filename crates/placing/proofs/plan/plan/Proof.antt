@@ -49,7 +49,7 @@ use Rattle.placing.proofs.ListOfRecords.{plan-entered}
 use Rattle.station.proofs.Walks.{says-both}
 use Rattle.station.proofs.Walks.{Counts, Loads, slice-val, Records, to-count, goes-count, to-load, goes-load}
 use Rattle.station.specs.Records.{loaded}
-use Rattle.station.proofs.Walks.{Bank, bank-val, bank-tells, bank-makes, bank-typed, head-val, head-tells, head-makes, head-typed}
+use Rattle.station.proofs.Walks.{Bank, copied-val, copied-tells, copied-makes, copied-typed, head-val, head-tells, head-makes, head-typed}
 use Rattle.station.proofs.Walks.{asks, hands-one, full, _&_, none, leaves-fn, meets-by}
 use Rattle.station.proofs.records.record_count as record-count
 use Rattle.station.proofs.records.record_count.Symbol as record-count-def
@@ -108,13 +108,13 @@ module _ {M : Type 1} (𝓤 : URA M) (H : Heap 𝓤) (A : Atoms 𝓤) (W : Given
 
   -- what the callee's triple binds outside, and that the caller has what it asks
   abbrev to-counted : ℕ → List Preset → Counted 𝓤 H A mem run .Ghost
-  to-counted n bank = (((κ₁, tt), (q₁, tt), tt, (n, (head, (bank, (t, tt)))), (vint w64 n ∷ [], (vh ∷ [], (bank-val bank ∷ [], (vt ∷ [], tt))))), tt)
+  to-counted n copied = (((κ₁, tt), (q₁, tt), tt, (n, (head, (copied, (t, tt)))), (vint w64 n ∷ [], (vh ∷ [], (copied-val copied ∷ [], (vt ∷ [], tt))))), tt)
 
-  goes-counted : (n : ℕ) (bank : List Preset) → Is usize n (vint w64 n ∷ []) → Is Bank bank (bank-val bank ∷ []) → Is hd.the-row head (vh ∷ [])
-      → ent 𝓤 (sep 𝓤 (A .lft κ₁ q₁) (sem 𝓤 H A Table)) (Counted 𝓤 H A mem run .pre (to-counted n bank))
-  goes-counted n bank is-n is-b is-h =
+  goes-counted : (n : ℕ) (copied : List Preset) → Is usize n (vint w64 n ∷ []) → Is Bank copied (copied-val copied ∷ []) → Is hd.the-row head (vh ∷ [])
+      → ent 𝓤 (sep 𝓤 (A .lft κ₁ q₁) (sem 𝓤 H A Table)) (Counted 𝓤 H A mem run .pre (to-counted n copied))
+  goes-counted n copied is-n is-b is-h =
       qed W (‵ (flft κ₁ q₁) ∷ ‵ Table ∷ []) ∵ nothing ! $ move ! (2 ∷ 0 ∷ []) $ fjoin ! $
-      owned ! Bank (Is Bank) (bank-makes 𝓤 H A W) bank _ is-b $ fjoin ! $ owned ! hd.the-row (Is hd.the-row) (head-makes 𝓤 H A) head _ is-h $ fjoin ! $
+      owned ! Bank (Is Bank) (copied-makes 𝓤 H A W) copied _ is-b $ fjoin ! $ owned ! hd.the-row (Is hd.the-row) (head-makes 𝓤 H A) head _ is-h $ fjoin ! $
       owned ! usize (Is usize) (uint-makes 𝓤 H A W w64) n _ is-n $ fjoin ! $ hands-one !
 
   -- the result's machine value
@@ -145,14 +145,14 @@ module _ {M : Type 1} (𝓤 : URA M) (H : Heap 𝓤) (A : Atoms 𝓤) (W : Given
         split ! $ move ! (1 ∷ 2 ∷ []) $ drop ! $ drop ! $
         -- [κ₀; the records; κ₁; the table; _7; …; _0; …]
         use2 W (raw (Loads 𝓤 H A mem run .pre (to-load 𝓤 H A W mem run κ₀ q₀ s))) (goes-load 𝓤 H A W mem run κ₀ q₀ s) $
-        asks ! fm load.ended (load.clauses 𝓤 H A mem run) known-load (to-load 𝓤 H A W mem run κ₀ q₀ s) (‵ (flft κ₀ q₀) ⊛ ‵ ftrue) refl (λ bank ws. bank ≡ loaded (s .now)) (λ bank ws. refl) bank-val bank-tells
-        (and-then ! (reads ! (from ! (stop !)) (look ! 13 refl)) (no-more !)) (λ bank _ is-b loads. land ! (from ! (stop !)) (init ! 8 refl (bank-typed 𝓤 H A W bank is-b)) $
+        asks ! fm load.ended (load.clauses 𝓤 H A mem run) known-load (to-load 𝓤 H A W mem run κ₀ q₀ s) (‵ (flft κ₀ q₀) ⊛ ‵ ftrue) refl (λ copied ws. copied ≡ loaded (s .now)) (λ copied ws. refl) copied-val copied-tells
+        (and-then ! (reads ! (from ! (stop !)) (look ! 13 refl)) (no-more !)) (λ copied _ is-b loads. land ! (from ! (stop !)) (init ! 8 refl (copied-typed 𝓤 H A W copied is-b)) $
         split ! $ move ! (1 ∷ 2 ∷ []) $ drop ! $ drop ! $
         -- [κ₀; κ₁; the table; _7; …; _0; …]
         assigns ! (addr ! (from ! (fld ! refl (hop ! (look-in ! 11 (sub ! 0 refl (whole !))) (stop !))))) (from ! (stop !)) (init ! 5 refl (tt, tt)) $
         assigns ! (agg ! (and-then ! (reads ! (from ! (stop !)) (look ! 5 refl)) (and-then ! (reads ! (from ! (fld ! refl (stop !))) (look-in ! 11 (sub ! 1 refl (whole !)))) (no-more !)))) (from ! (stop !)) (init ! 3 refl (tt, (tt, (record { fits = fit-t .0 }, tt)))) $
-        move ! (1 ∷ 2 ∷ []) $ use2 W (raw (Counted 𝓤 H A mem run .pre (to-counted n bank))) (goes-counted n bank is-n is-b is-h) $
-        asks ! fm plan-counted.ended (plan-counted.clauses 𝓤 H A mem run) known-counted (to-counted n bank) (‵ (flft κ₁ q₁) ⊛ ‵ ftrue) refl (λ r ws. PlanEntered n head bank ys (ws .1 .1 .1 .0) r) (λ r ws. refl) vr (LL.tells result.the-type result′.the-laws)
+        move ! (1 ∷ 2 ∷ []) $ use2 W (raw (Counted 𝓤 H A mem run .pre (to-counted n copied))) (goes-counted n copied is-n is-b is-h) $
+        asks ! fm plan-counted.ended (plan-counted.clauses 𝓤 H A mem run) known-counted (to-counted n copied) (‵ (flft κ₁ q₁) ⊛ ‵ ftrue) refl (λ r ws. PlanEntered n head copied ys (ws .1 .1 .1 .0) r) (λ r ws. refl) vr (LL.tells result.the-type result′.the-laws)
         (and-then ! (reads ! (from ! (stop !)) (look ! 8 refl)) (and-then ! (reads ! (from ! (stop !)) (look ! 14 refl)) (and-then ! (reads ! (from ! (stop !)) (look ! 6 refl)) (and-then ! (reads ! (from ! (stop !)) (look ! 2 refl)) (no-more !)))))
         (λ r ws is-r e. land ! (from ! (stop !)) (init ! 17 refl (LL.lawful result.the-type result′.the-laws 𝓤 H A W .typed r _ is-r .0)) $
         -- [κ₁; what says the last list; κ₀; _7; …; _0; …]

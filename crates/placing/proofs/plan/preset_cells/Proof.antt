@@ -3,13 +3,13 @@ use Prim.Native.Nat.{_≤_, _-_, _+_}
 use native.Mathlib.Omega.{arith}
 use mathlib.Core.Path.{_≡_, refl}
 use Rattle.placing.specs.method.Records.{recordAt}
-use Rattle.placing.specs.method.Grants.{filled}
 use Rattle.placing.proofs.grants.Arrays.{filled-more}
 use Rattle.placing.proofs.plan.preset_cells.Statement.{statement}
 use Rattle.placing.proofs.plan.preset_cells.Tie as tie
+use Rattle.placing.specs.Types.{filled}
 
 abbrev Inv-loop : tie.InvT-loop
-Inv-loop k kind presets all₀ i₀ all i = (i ≤ k) × (k ≤ 32) × (kind ≤ 1024) × (all ≡ filled 32 i (λ j. kind + recordAt presets j .number))
+Inv-loop k kind presets all₀ i₀ all i = (i ≤ k) × (k ≤ 32) × (kind ≤ 1024) × (all ≡ filled 64 i (λ j. kind + recordAt presets j .number))
 
 abbrev μ-loop : tie.MeasureT-loop
 μ-loop k kind presets all₀ i₀ all i = k - i
@@ -45,7 +45,7 @@ loop-less c = omega arith
 loop-again : tie.Need-loop-again Inv-loop μ-loop
 loop-again c =
     let l = c .before .before .before .loop in
-    (omega arith, omega arith, omega arith, filled-more 32 (l .i) _ (l .inv .3) refl)
+    (omega arith, omega arith, omega arith, filled-more 64 (l .i) _ (l .inv .3) refl)
 
 returns : tie.Need-returns Inv-loop μ-loop
 returns c =

@@ -22,10 +22,10 @@ use Rattle.laws.proofs.Sums.{sum-ext, sum-add}
 use Rattle.laws.proofs.Counts.{bit-le, bit-ltb, count-ext, count-imp}
 use Rattle.laws.proofs.Lists.{at-past}
 use Rattle.laws.proofs.Stores.{zeros}
-use Rattle.station.specs.Head.{taken}
+use Rattle.station.specs.Head.{hasBit}
 use Rattle.placing.specs.method.Rule.{without, Levelled}
-use Rattle.placing.proofs.MaskBits.{taken-zero}
-use Rattle.placing.proofs.rule.masks.Sets.{taken-or, taken-xor, taken-without, taken-one}
+use Rattle.placing.proofs.MaskBits.{hasBit-zero}
+use Rattle.placing.proofs.rule.masks.Sets.{hasBit-or, hasBit-xor, hasBit-without, hasBit-one}
 use Rattle.placing.proofs.rule.levels.Choice.{chosen-by-position}
 
 -- ---- a job's position by levels
@@ -88,24 +88,24 @@ module _ (n : ℕ) (c : ℕ → ℕ) (i : ℕ) where
 -- ---- the jobs by levels
 
 -- the first n jobs: none, and one more
-pub standing-none : (c : List ℕ) (l i : ℕ) → taken (at (replicate 256 0) l) i ≡ (ltb i 0 && eqb (at c i) l)
-standing-none c l i = rw (zeros 256 l, ltb-no i 0 (omega arith)) (taken-zero i)
+pub standing-none : (c : List ℕ) (l i : ℕ) → hasBit (at (replicate 65 0) l) i ≡ (ltb i 0 && eqb (at c i) l)
+standing-none c l i = rw (zeros 65 l, ltb-no i 0 (omega arith)) (hasBit-zero i)
 
 pub standing-more : (c t : List ℕ) (n : ℕ) → at c n < length t
-    → ((l i : ℕ) → taken (at t l) i ≡ (ltb i n && eqb (at c i) l))
-    → (l i : ℕ) → taken (at (set t (at c n) (bitOr (at t (at c n)) (2 ^ n))) l) i ≡ (ltb i (n + 1) && eqb (at c i) l)
+    → ((l i : ℕ) → hasBit (at t l) i ≡ (ltb i n && eqb (at c i) l))
+    → (l i : ℕ) → hasBit (at (set t (at c n) (bitOr (at t (at c n)) (2 ^ n))) l) i ≡ (ltb i (n + 1) && eqb (at c i) l)
 standing-more c t n inside so-far l i = go (is (eqb l (at c n))) (is (eqb i n))
   where
-    here : taken (at (set t (at c n) (bitOr (at t (at c n)) (2 ^ n))) (at c n)) i ≡ ((ltb i n && eqb (at c i) (at c n)) || eqb i n)
+    here : hasBit (at (set t (at c n) (bitOr (at t (at c n)) (2 ^ n))) (at c n)) i ≡ ((ltb i n && eqb (at c i) (at c n)) || eqb i n)
     here =
-        ap (λ (m : ℕ). taken m i) (getD-set-same t (at c n) (bitOr (at t (at c n)) (2 ^ n)) 0 inside)
-        ∙ taken-or (at t (at c n)) (2 ^ n) i
-        ∙ ap₂ (λ (x y : Bool). x || y) (so-far (at c n) i) (taken-one n i)
+        ap (λ (m : ℕ). hasBit m i) (getD-set-same t (at c n) (bitOr (at t (at c n)) (2 ^ n)) 0 inside)
+        ∙ hasBit-or (at t (at c n)) (2 ^ n) i
+        ∙ ap₂ (λ (x y : Bool). x || y) (so-far (at c n) i) (hasBit-one n i)
 
-    there : (l ≡ at c n → ⊥) → taken (at (set t (at c n) (bitOr (at t (at c n)) (2 ^ n))) l) i ≡ (ltb i n && eqb (at c i) l)
-    there ne = ap (λ (m : ℕ). taken m i) (getD-set-other t (at c n) l (bitOr (at t (at c n)) (2 ^ n)) 0 ne) ∙ so-far l i
+    there : (l ≡ at c n → ⊥) → hasBit (at (set t (at c n) (bitOr (at t (at c n)) (2 ^ n))) l) i ≡ (ltb i n && eqb (at c i) l)
+    there ne = ap (λ (m : ℕ). hasBit m i) (getD-set-other t (at c n) l (bitOr (at t (at c n)) (2 ^ n)) 0 ne) ∙ so-far l i
 
-    go : Is (eqb l (at c n)) → Is (eqb i n) → taken (at (set t (at c n) (bitOr (at t (at c n)) (2 ^ n))) l) i ≡ (ltb i (n + 1) && eqb (at c i) l)
+    go : Is (eqb l (at c n)) → Is (eqb i n) → hasBit (at (set t (at c n) (bitOr (at t (at c n)) (2 ^ n))) l) i ≡ (ltb i (n + 1) && eqb (at c i) l)
     go (is-true p) (is-true q) =
         let same : i ≡ n = eq-of i n q in
         rw (eq-of l (at c n) p)
@@ -133,7 +133,7 @@ most-more c n top top′ most more here j h = go (is (eqb j n))
     go (is-false e) = let ne : j ≡ n → ⊥ = ne-of j n e in omega (arith, most j (omega (arith, ne, h)))
 
 -- all jobs of a list that is taken from the front of another
-pub standing-all : (c t : List ℕ) (k : ℕ) → ((l i : ℕ) → taken (at t l) i ≡ (ltb i k && eqb (at c i) l)) → Levelled t (at (take k c))
+pub standing-all : (c t : List ℕ) (k : ℕ) → ((l i : ℕ) → hasBit (at t l) i ≡ (ltb i k && eqb (at c i) l)) → Levelled t (at (take k c))
 standing-all c t k all l i some high m = all l i ∙ go (is (ltb i k))
   where
     go : Is (ltb i k) → (ltb i k && eqb (at c i) l) ≡ eqb (at (take k c) i) l
@@ -143,22 +143,22 @@ standing-all c t k all l i some high m = all l i ∙ go (is (ltb i k))
         rw (e, none) (sym (eqb-no 0 l (λ z. omega (arith, z, some))))
 
 -- nobody but the jobs r needs as many slots as a level says that is empty without them
-pub nobody : (t : List ℕ) (c : ℕ → ℕ) → Levelled t c → (l i r : ℕ) → 0 < l → l < 256 → i < 32 → without (at t l) r ≡ 0 → taken r i ≡ false → c i ≡ l → ⊥
+pub nobody : (t : List ℕ) (c : ℕ → ℕ) → Levelled t c → (l i r : ℕ) → 0 < l → l < 65 → i < 64 → without (at t l) r ≡ 0 → hasBit r i ≡ false → c i ≡ l → ⊥
 nobody t c h l i r some high m empty other e =
-    clash (sym (both (taken (at t l) i) (not (taken r i)) (h l i some high m ∙ eqb-yes (c i) l e) (ap not other))
-    ∙ sym (taken-without (at t l) r i)
-    ∙ ap (λ (n : ℕ). taken n i) empty
-    ∙ taken-zero i)
+    clash (sym (both (hasBit (at t l) i) (not (hasBit r i)) (h l i some high m ∙ eqb-yes (c i) l e) (ap not other))
+    ∙ sym (hasBit-without (at t l) r i)
+    ∙ ap (λ (n : ℕ). hasBit n i) empty
+    ∙ hasBit-zero i)
 
 -- where all levels above r are empty, nobody needs more than r
-pub most-of : (t : List ℕ) (c : ℕ → ℕ) (top r : ℕ) → Levelled t c → top < 256 → ((i : ℕ) → i < 32 → c i ≤ top)
-    → ((l : ℕ) → r < l → l ≤ top → without (at t l) 0 ≡ 0) → (i : ℕ) → i < 32 → c i ≤ r
+pub most-of : (t : List ℕ) (c : ℕ → ℕ) (top r : ℕ) → Levelled t c → top < 65 → ((i : ℕ) → i < 64 → c i ≤ top)
+    → ((l : ℕ) → r < l → l ≤ top → without (at t l) 0 ≡ 0) → (i : ℕ) → i < 64 → c i ≤ r
 most-of t c top r h high most empty i m = go (is (ltb r (c i)))
   where
     go : Is (ltb r (c i)) → c i ≤ r
     go (is-true e) =
         let l : r < c i = lt-of r (c i) e in
-        absurd (nobody t c h (c i) i 0 (omega (arith, l)) (omega (arith, high, most i m)) m (empty (c i) l (most i m)) (taken-zero i) refl)
+        absurd (nobody t c h (c i) i 0 (omega (arith, l)) (omega (arith, high, most i m)) m (empty (c i) l (most i m)) (hasBit-zero i) refl)
     go (is-false e) = ge-of r (c i) e
 
 -- nobody but the jobs r stands above l, nor in it
@@ -171,69 +171,69 @@ empty-more t r from l e above q h k = go (is (eqb q l))
     go (is-false p) = let ne : q ≡ l → ⊥ = ne-of q l p in above q (omega (arith, ne, h)) k
 
 -- some of the jobs of level l, those of the mask `got`, move to the level below
-module _ (t : List ℕ) (l got : ℕ) (long : length t ≡ 256) (some : 0 < l) (high : l < 256) where
+module _ (t : List ℕ) (l got : ℕ) (long : length t ≡ 65) (some : 0 < l) (high : l < 65) where
   abbrev off : List ℕ
   off = set t l (bitXor (at t l) got)
 
   abbrev pub moved : List ℕ
   moved = set off (l - 1) (bitOr (at off (l - 1)) got)
 
-  moved-below : (i : ℕ) → taken (at moved (l - 1)) i ≡ (taken (at t (l - 1)) i || taken got i)
+  moved-below : (i : ℕ) → hasBit (at moved (l - 1)) i ≡ (hasBit (at t (l - 1)) i || hasBit got i)
   moved-below i =
-      ap (λ (n : ℕ). taken n i) (getD-set-same off (l - 1) (bitOr (at off (l - 1)) got) 0 (omega (arith, long, high, length-set t l (bitXor (at t l) got))))
-      ∙ taken-or (at off (l - 1)) got i
-      ∙ ap (λ (n : ℕ). taken n i || taken got i) (getD-set-other t l (l - 1) (bitXor (at t l) got) 0 (λ e. omega (arith, e, some)))
+      ap (λ (n : ℕ). hasBit n i) (getD-set-same off (l - 1) (bitOr (at off (l - 1)) got) 0 (omega (arith, long, high, length-set t l (bitXor (at t l) got))))
+      ∙ hasBit-or (at off (l - 1)) got i
+      ∙ ap (λ (n : ℕ). hasBit n i || hasBit got i) (getD-set-other t l (l - 1) (bitXor (at t l) got) 0 (λ e. omega (arith, e, some)))
 
-  moved-from : (i : ℕ) → taken (at moved l) i ≡ cond (taken got i) (not (taken (at t l) i)) (taken (at t l) i)
+  moved-from : (i : ℕ) → hasBit (at moved l) i ≡ cond (hasBit got i) (not (hasBit (at t l) i)) (hasBit (at t l) i)
   moved-from i =
-      ap (λ (n : ℕ). taken n i) (getD-set-other off (l - 1) l (bitOr (at off (l - 1)) got) 0 (λ e. omega (arith, e, some))
+      ap (λ (n : ℕ). hasBit n i) (getD-set-other off (l - 1) l (bitOr (at off (l - 1)) got) 0 (λ e. omega (arith, e, some))
       ∙ getD-set-same t l (bitXor (at t l) got) 0 (omega (arith, long, high)))
-      ∙ taken-xor (at t l) got i
+      ∙ hasBit-xor (at t l) got i
 
-  moved-other : (q i : ℕ) → (q ≡ l - 1 → ⊥) → (q ≡ l → ⊥) → taken (at moved q) i ≡ taken (at t q) i
+  moved-other : (q i : ℕ) → (q ≡ l - 1 → ⊥) → (q ≡ l → ⊥) → hasBit (at moved q) i ≡ hasBit (at t q) i
   moved-other q i ne other =
-      ap (λ (n : ℕ). taken n i) (getD-set-other off (l - 1) q (bitOr (at off (l - 1)) got) 0 ne ∙ getD-set-other t l q (bitXor (at t l) got) 0 other)
+      ap (λ (n : ℕ). hasBit n i) (getD-set-other off (l - 1) q (bitOr (at off (l - 1)) got) 0 ne ∙ getD-set-other t l q (bitXor (at t l) got) 0 other)
 
-  pub levelled-moved : (c c′ : ℕ → ℕ) → Levelled t c → ((i : ℕ) → i < 32 → taken got i ≡ true → c i ≡ l) → ((i : ℕ) → i < 32 → c′ i ≡ c i - bit (taken got i))
+  pub levelled-moved : (c c′ : ℕ → ℕ) → Levelled t c → ((i : ℕ) → i < 64 → hasBit got i ≡ true → c i ≡ l) → ((i : ℕ) → i < 64 → c′ i ≡ c i - bit (hasBit got i))
       → Levelled moved c′
-  levelled-moved c c′ h from less q i a b m = go (is (taken got i)) (is (eqb q (l - 1))) (is (eqb q l))
+  levelled-moved c c′ h from less q i a b m = go (is (hasBit got i)) (is (eqb q (l - 1))) (is (eqb q l))
     where
-      stays : taken got i ≡ false → eqb (c i) q ≡ eqb (c′ i) q
+      stays : hasBit got i ≡ false → eqb (c i) q ≡ eqb (c′ i) q
       stays e = ap (λ (n : ℕ). eqb n q) (omega (arith, less i m, ap bit e))
 
-      fell : taken got i ≡ true → c′ i ≡ l - 1
+      fell : hasBit got i ≡ true → c′ i ≡ l - 1
       fell e = omega (arith, less i m, from i m e, ap bit e)
 
-      go : Is (taken got i) → Is (eqb q (l - 1)) → Is (eqb q l) → taken (at moved q) i ≡ eqb (c′ i) q
+      go : Is (hasBit got i) → Is (eqb q (l - 1)) → Is (eqb q l) → hasBit (at moved q) i ≡ eqb (c′ i) q
       go (is-false e) (is-true x) y =
           let same : q ≡ l - 1 = eq-of q (l - 1) x in
-          ap (λ (n : ℕ). taken (at moved n) i) same
+          ap (λ (n : ℕ). hasBit (at moved n) i) same
           ∙ moved-below i
-          ∙ ap (λ (z : Bool). taken (at t (l - 1)) i || z) e
-          ∙ or-false (taken (at t (l - 1)) i)
-          ∙ ap (λ (n : ℕ). taken (at t n) i) (sym same)
+          ∙ ap (λ (z : Bool). hasBit (at t (l - 1)) i || z) e
+          ∙ or-false (hasBit (at t (l - 1)) i)
+          ∙ ap (λ (n : ℕ). hasBit (at t n) i) (sym same)
           ∙ h q i a b m
           ∙ stays e
       go (is-false e) (is-false x) (is-true y) =
           let same : q ≡ l = eq-of q l y in
-          ap (λ (n : ℕ). taken (at moved n) i) same
+          ap (λ (n : ℕ). hasBit (at moved n) i) same
           ∙ moved-from i
-          ∙ ap (λ (z : Bool). cond z (not (taken (at t l) i)) (taken (at t l) i)) e
-          ∙ ap (λ (n : ℕ). taken (at t n) i) (sym same)
+          ∙ ap (λ (z : Bool). cond z (not (hasBit (at t l) i)) (hasBit (at t l) i)) e
+          ∙ ap (λ (n : ℕ). hasBit (at t n) i) (sym same)
           ∙ h q i a b m
           ∙ stays e
       go (is-false e) (is-false x) (is-false y) = moved-other q i (ne-of q (l - 1) x) (ne-of q l y) ∙ h q i a b m ∙ stays e
       go (is-true e) (is-true x) y =
           let same : q ≡ l - 1 = eq-of q (l - 1) x in
-          ap (λ (n : ℕ). taken (at moved n) i) same
+          ap (λ (n : ℕ). hasBit (at moved n) i) same
           ∙ moved-below i
-          ∙ ap (λ (z : Bool). taken (at t (l - 1)) i || z) e
-          ∙ or-true (taken (at t (l - 1)) i)
+          ∙ ap (λ (z : Bool). hasBit (at t (l - 1)) i || z) e
+          ∙ or-true (hasBit (at t (l - 1)) i)
           ∙ sym (eqb-yes (c′ i) q (fell e ∙ sym same))
       go (is-true e) (is-false x) (is-true y) =
           let same : q ≡ l = eq-of q l y in
-          let here : taken (at t l) i ≡ true = h l i some high m ∙ eqb-yes (c i) l (from i m e) in
-          ap (λ (n : ℕ). taken (at moved n) i) same
+          let here : hasBit (at t l) i ≡ true = h l i some high m ∙ eqb-yes (c i) l (from i m e) in
+          ap (λ (n : ℕ). hasBit (at moved n) i) same
           ∙ moved-from i
           ∙ ap₂ (λ (z w : Bool). cond z (not w) w) e here
           ∙ sym (eqb-no (c′ i) q (λ z. omega (arith, z, same, fell e, some)))

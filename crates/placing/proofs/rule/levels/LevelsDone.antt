@@ -20,10 +20,10 @@ use Rattle.laws.proofs.Tests.{Is, is-true, is-false, is, not-true, left-of}
 use Rattle.laws.proofs.Comparisons.{lt-of, ge-of, eq-of, ne-of, ltb-yes, ltb-no, eqb-no, ltb-iff}
 use Rattle.laws.proofs.Sums.{sum-ext, sum-add}
 use Rattle.laws.proofs.Counts.{bit-ltb, count-ext, count-none}
-use Rattle.station.specs.Head.{taken}
-use Rattle.placing.specs.method.Rule.{without, firstOf, Levelled}
-use Rattle.placing.proofs.MaskBits.{taken-zero}
-use Rattle.placing.proofs.rule.masks.Sets.{taken-or, taken-without, first-count}
+use Rattle.station.specs.Head.{hasBit}
+use Rattle.placing.specs.method.Rule.{without, firstFew, Levelled}
+use Rattle.placing.proofs.MaskBits.{hasBit-zero}
+use Rattle.placing.proofs.rule.masks.Sets.{hasBit-or, hasBit-without, first-count}
 use Rattle.placing.proofs.rule.levels.ByLevel.{chosen-level, chosen-below, nobody, moved, levelled-moved}
 
 -- above l - 1 is above l, or at l
@@ -47,122 +47,122 @@ module _ (l x : ℕ) (some : 0 < l) where
 -- Of the jobs with the needs c, which go for d cells, those above level l have been served: t has the needs that are left by levels, r the jobs that got
 -- a cell, and `rest` cells are left.
 pub record Gone (c : ℕ → ℕ) (d : ℕ) (t : List ℕ) (l rest r : ℕ) : Type 0 where
-  pub levels : Levelled t (λ i. c i - bit (taken r i))
-  pub picked : (i : ℕ) → i < 32 → taken r i ≡ (ltb l (c i) && chosen 32 c d i)
-  pub cells : rest ≡ d - count 32 (λ j. ltb l (c j))
+  pub levels : Levelled t (λ i. c i - bit (hasBit r i))
+  pub picked : (i : ℕ) → i < 64 → hasBit r i ≡ (ltb l (c i) && chosen 64 c d i)
+  pub cells : rest ≡ d - count 64 (λ j. ltb l (c j))
 
 -- no level: nobody stands above `top`
-pub gone-none : (c : ℕ → ℕ) (d : ℕ) (t : List ℕ) (top : ℕ) → Levelled t c → ((i : ℕ) → i < 32 → c i ≤ top) → Gone c d t top d 0
+pub gone-none : (c : ℕ → ℕ) (d : ℕ) (t : List ℕ) (top : ℕ) → Levelled t c → ((i : ℕ) → i < 64 → c i ≤ top) → Gone c d t top d 0
 gone-none c d t top h most =
     record {
-      levels = λ l i p q m. h l i p q m ∙ ap (λ (n : ℕ). eqb n l) (omega (arith, ap bit (taken-zero i)));
-      picked = λ i m. taken-zero i ∙ sym (rw (ltb-no top (c i) (most i m)) refl);
-      cells = omega (arith, count-none 32 (λ j. ltb top (c j)) (λ j m. ltb-no top (c j) (most j m)));
+      levels = λ l i p q m. h l i p q m ∙ ap (λ (n : ℕ). eqb n l) (omega (arith, ap bit (hasBit-zero i)));
+      picked = λ i m. hasBit-zero i ∙ sym (rw (ltb-no top (c i) (most i m)) refl);
+      cells = omega (arith, count-none 64 (λ j. ltb top (c j)) (λ j m. ltb-no top (c j) (most j m)));
     }
 
-module _ (c : ℕ → ℕ) (d : ℕ) (t : List ℕ) (l rest r : ℕ) (high : l < 256) (so-far : Gone c d t l rest r) where
+module _ (c : ℕ → ℕ) (d : ℕ) (t : List ℕ) (l rest r : ℕ) (high : l < 65) (so-far : Gone c d t l rest r) where
   -- whoever got a cell stood above l
-  above : (i : ℕ) → i < 32 → taken r i ≡ true → l < c i
-  above i m e = lt-of l (c i) (left-of (ltb l (c i)) (chosen 32 c d i) (sym (so-far .picked i m) ∙ e))
+  above : (i : ℕ) → i < 64 → hasBit r i ≡ true → l < c i
+  above i m e = lt-of l (c i) (left-of (ltb l (c i)) (chosen 64 c d i) (sym (so-far .picked i m) ∙ e))
 
   -- whoever needs no more than l got none, and stands where it stood
-  still : (i : ℕ) → i < 32 → c i ≤ l → taken r i ≡ false
-  still i m low = not-true (taken r i) (λ e. omega (arith, low, above i m e))
+  still : (i : ℕ) → i < 64 → c i ≤ l → hasBit r i ≡ false
+  still i m low = not-true (hasBit r i) (λ e. omega (arith, low, above i m e))
 
   -- nobody that got no cell stands in the levels from l down to l′
   pub gone-empty : (l′ : ℕ) → l′ ≤ l → ((q : ℕ) → l′ < q → q ≤ l → without (at t q) r ≡ 0) → Gone c d t l′ rest r
   gone-empty l′ less empty =
       record {
         levels = so-far .levels;
-        picked = λ i m. so-far .picked i m ∙ ap (λ (x : Bool). x && chosen 32 c d i) (same i m);
-        cells = omega (arith, so-far .cells, count-ext 32 (λ j. ltb l (c j)) (λ j. ltb l′ (c j)) same);
+        picked = λ i m. so-far .picked i m ∙ ap (λ (x : Bool). x && chosen 64 c d i) (same i m);
+        cells = omega (arith, so-far .cells, count-ext 64 (λ j. ltb l (c j)) (λ j. ltb l′ (c j)) same);
       }
     where
-      same : (i : ℕ) → i < 32 → ltb l (c i) ≡ ltb l′ (c i)
+      same : (i : ℕ) → i < 64 → ltb l (c i) ≡ ltb l′ (c i)
       same i m = ltb-iff l (c i) l′ (c i) (λ q. omega (arith, less, q)) (λ q. further q (is (ltb l (c i))))
         where
           further : l′ < c i → Is (ltb l (c i)) → l < c i
           further q (is-true e) = lt-of l (c i) e
           further q (is-false e) =
               let low : c i ≤ l = ge-of l (c i) e in
-              absurd (nobody t (λ j. c j - bit (taken r j)) (so-far .levels) (c i) i r (omega (arith, q)) (omega (arith, low, high)) m (empty (c i) q low)
+              absurd (nobody t (λ j. c j - bit (hasBit r j)) (so-far .levels) (c i) i r (omega (arith, q)) (omega (arith, low, high)) m (empty (c i) q low)
               (still i m low) (omega (arith, ap bit (still i m low))))
 
   -- every level, or as many as there were cells for
-  pub gone-all : (l ≡ 0) ⊎ (rest ≡ 0) → (i : ℕ) → i < 32 → taken r i ≡ chosen 32 c d i
+  pub gone-all : (l ≡ 0) ⊎ (rest ≡ 0) → (i : ℕ) → i < 64 → hasBit r i ≡ chosen 64 c d i
   gone-all (inl e) i m = so-far .picked i m ∙ (rw e (go (is (ltb 0 (c i)))))
     where
-      go : Is (ltb 0 (c i)) → (ltb 0 (c i) && chosen 32 c d i) ≡ chosen 32 c d i
+      go : Is (ltb 0 (c i)) → (ltb 0 (c i) && chosen 64 c d i) ≡ chosen 64 c d i
       go (is-true p) = rw p refl
       go (is-false p) = rw p refl
   gone-all (inr e) i m = so-far .picked i m ∙ go (is (ltb l (c i)))
     where
-      go : Is (ltb l (c i)) → (ltb l (c i) && chosen 32 c d i) ≡ chosen 32 c d i
+      go : Is (ltb l (c i)) → (ltb l (c i) && chosen 64 c d i) ≡ chosen 64 c d i
       go (is-true p) = rw p refl
-      go (is-false p) = rw p (sym (chosen-below 32 c i d m l (ge-of l (c i) p) (omega (arith, so-far .cells, e))))
+      go (is-false p) = rw p (sym (chosen-below 64 c i d m l (ge-of l (c i) p) (omega (arith, so-far .cells, e))))
 
   -- those that stand in level l and got no cell yet
   abbrev those : ℕ
   those = without (at t l) r
 
   -- One level more: the first `rest` of those get a cell (`got`) and move to the level below.
-  module _ (some : 0 < l) (got : ℕ) (short : got < 2 ^ 32)
-      (first : (i : ℕ) → i < 32 → taken got i ≡ firstOf (taken those) rest i) where
+  module _ (some : 0 < l) (got : ℕ) (short : got < 2 ^ 64)
+      (first : (i : ℕ) → i < 64 → hasBit got i ≡ firstFew (hasBit those) rest i) where
     -- they are those who need l slots
-    stands : (i : ℕ) → i < 32 → taken those i ≡ eqb (c i) l
+    stands : (i : ℕ) → i < 64 → hasBit those i ≡ eqb (c i) l
     stands i m =
-        taken-without (at t l) r i
-        ∙ ap (λ (x : Bool). x && not (taken r i)) (so-far .levels l i some high m)
-        ∙ go (is (taken r i))
+        hasBit-without (at t l) r i
+        ∙ ap (λ (x : Bool). x && not (hasBit r i)) (so-far .levels l i some high m)
+        ∙ go (is (hasBit r i))
       where
-        go : Is (taken r i) → (eqb (c i - bit (taken r i)) l && not (taken r i)) ≡ eqb (c i) l
+        go : Is (hasBit r i) → (eqb (c i - bit (hasBit r i)) l && not (hasBit r i)) ≡ eqb (c i) l
         go (is-true e) =
             rw (eqb-no (c i) l (λ z. omega (arith, z, above i m e)), e) (and-false (eqb (c i - 1) l))
         go (is-false e) = rw e (and-true (eqb (c i - 0) l) ∙ ap (λ (n : ℕ). eqb n l) (omega arith))
 
-    gets : (i : ℕ) → i < 32 → taken got i ≡ (eqb (c i) l && chosen 32 c d i)
-    gets i m = first i m ∙ ap (λ (x : Bool). x && ltb (count i (taken those)) rest) (stands i m) ∙ go (is (eqb (c i) l))
+    gets : (i : ℕ) → i < 64 → hasBit got i ≡ (eqb (c i) l && chosen 64 c d i)
+    gets i m = first i m ∙ ap (λ (x : Bool). x && ltb (count i (hasBit those)) rest) (stands i m) ∙ go (is (eqb (c i) l))
       where
-        go : Is (eqb (c i) l) → (eqb (c i) l && ltb (count i (taken those)) rest) ≡ (eqb (c i) l && chosen 32 c d i)
+        go : Is (eqb (c i) l) → (eqb (c i) l && ltb (count i (hasBit those)) rest) ≡ (eqb (c i) l && chosen 64 c d i)
         go (is-true e) =
             ap (λ (x : Bool). eqb (c i) l && x)
             (ap₂ (λ (n q : ℕ). ltb n q)
-            (count-ext i (taken those) (λ j. eqb (c j) l) (λ j q. stands j (omega arith)))
+            (count-ext i (hasBit those) (λ j. eqb (c j) l) (λ j q. stands j (omega arith)))
             (so-far .cells)
-            ∙ chosen-level 32 c i d m l some (eq-of (c i) l e))
+            ∙ chosen-level 64 c i d m l some (eq-of (c i) l e))
         go (is-false e) = rw e refl
 
-    here : (i : ℕ) → i < 32 → taken got i ≡ true → c i ≡ l
-    here i m e = eq-of (c i) l (left-of (eqb (c i) l) (chosen 32 c d i) (sym (gets i m) ∙ e))
+    here : (i : ℕ) → i < 64 → hasBit got i ≡ true → c i ≡ l
+    here i m e = eq-of (c i) l (left-of (eqb (c i) l) (chosen 64 c d i) (sym (gets i m) ∙ e))
 
     -- how many these are
-    many : ones got ≡ min rest (count 32 (λ j. eqb (c j) l))
+    many : ones got ≡ min rest (count 64 (λ j. eqb (c j) l))
     many =
         first-count those rest got short first
-        ∙ ap (λ (n : ℕ). min rest n) (count-ext 32 (taken those) (λ j. eqb (c j) l) stands)
+        ∙ ap (λ (n : ℕ). min rest n) (count-ext 64 (hasBit those) (λ j. eqb (c j) l) stands)
 
-    picked-more : (i : ℕ) → i < 32 → taken (bitOr r got) i ≡ (ltb (l - 1) (c i) && chosen 32 c d i)
+    picked-more : (i : ℕ) → i < 64 → hasBit (bitOr r got) i ≡ (ltb (l - 1) (c i) && chosen 64 c d i)
     picked-more i m =
-        taken-or r got i
+        hasBit-or r got i
         ∙ ap₂ (λ (x y : Bool). x || y) (so-far .picked i m) (gets i m)
-        ∙ sym (and-or-distrib-right (ltb l (c i)) (eqb (c i) l) (chosen 32 c d i))
-        ∙ ap (λ (x : Bool). x && chosen 32 c d i) (level-or l (c i) some)
+        ∙ sym (and-or-distrib-right (ltb l (c i)) (eqb (c i) l) (chosen 64 c d i))
+        ∙ ap (λ (x : Bool). x && chosen 64 c d i) (level-or l (c i) some)
 
-    served-more : (i : ℕ) → i < 32 → c i - bit (taken (bitOr r got) i) ≡ c i - bit (taken r i) - bit (taken got i)
-    served-more i m = go (is (taken got i))
+    served-more : (i : ℕ) → i < 64 → c i - bit (hasBit (bitOr r got) i) ≡ c i - bit (hasBit r i) - bit (hasBit got i)
+    served-more i m = go (is (hasBit got i))
       where
-        go : Is (taken got i) → c i - bit (taken (bitOr r got) i) ≡ c i - bit (taken r i) - bit (taken got i)
+        go : Is (hasBit got i) → c i - bit (hasBit (bitOr r got) i) ≡ c i - bit (hasBit r i) - bit (hasBit got i)
         go (is-true e) =
-            let none : taken r i ≡ false = still i m (omega (arith, here i m e)) in
-            omega (arith, ap bit (taken-or r got i ∙ ap₂ (λ (x y : Bool). x || y) none e), ap bit none, ap bit e)
+            let none : hasBit r i ≡ false = still i m (omega (arith, here i m e)) in
+            omega (arith, ap bit (hasBit-or r got i ∙ ap₂ (λ (x y : Bool). x || y) none e), ap bit none, ap bit e)
         go (is-false e) =
-            omega (arith, ap bit (taken-or r got i ∙ ap (λ (x : Bool). taken r i || x) e ∙ or-false (taken r i)), ap bit e)
+            omega (arith, ap bit (hasBit-or r got i ∙ ap (λ (x : Bool). hasBit r i || x) e ∙ or-false (hasBit r i)), ap bit e)
 
-    pub gone-more : (long : length t ≡ 256) → Gone c d (moved t l got long some high) (l - 1) (rest - ones got) (bitOr r got)
+    pub gone-more : (long : length t ≡ 65) → Gone c d (moved t l got long some high) (l - 1) (rest - ones got) (bitOr r got)
     gone-more long =
         record {
           levels =
-              levelled-moved t l got long some high (λ i. c i - bit (taken r i)) (λ i. c i - bit (taken (bitOr r got) i)) (so-far .levels)
+              levelled-moved t l got long some high (λ i. c i - bit (hasBit r i)) (λ i. c i - bit (hasBit (bitOr r got) i)) (so-far .levels)
               (λ i m e. omega (arith, here i m e, ap bit (still i m (omega (arith, here i m e)))))
               served-more;
           picked = picked-more;
@@ -171,7 +171,7 @@ module _ (c : ℕ → ℕ) (d : ℕ) (t : List ℕ) (l rest r : ℕ) (high : l <
                 arith,
                 so-far .cells,
                 many,
-                sum-ext 32 (λ j. bit (ltb (l - 1) (c j))) (λ j. bit (ltb l (c j)) + bit (eqb (c j) l)) (λ j m. level-bits l (c j) some),
-                sum-add 32 (λ j. bit (ltb l (c j))) (λ j. bit (eqb (c j) l)),
+                sum-ext 64 (λ j. bit (ltb (l - 1) (c j))) (λ j. bit (ltb l (c j)) + bit (eqb (c j) l)) (λ j m. level-bits l (c j) some),
+                sum-add 64 (λ j. bit (ltb l (c j))) (λ j. bit (eqb (c j) l)),
               );
         }

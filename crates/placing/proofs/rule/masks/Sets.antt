@@ -1,7 +1,7 @@
 -- Laws of masks as sets: bit i of a mask says whether i is in the set.
 --
--- In order: the bits of `|`, `&` and `^` (`taken-or`, `taken-and`, `taken-xor`), of one mask without another (`taken-without`) and of a single one
--- (`taken-one`); a mask after its lowest bits were cleared, one more at a time (`clear-more`), and whether any is left (`clear-some`, `clear-none`); the lowest bits themselves: all that there are, those
+-- In order: the bits of `|`, `&` and `^` (`hasBit-or`, `hasBit-and`, `hasBit-xor`), of one mask without another (`hasBit-without`) and of a single one
+-- (`hasBit-one`); a mask after its lowest bits were cleared, one more at a time (`clear-more`), and whether any is left (`clear-some`, `clear-none`); the lowest bits themselves: all that there are, those
 -- that were cleared, and how many they are (`first-all`, `first-cleared`, `first-count`).
 -- Assumes nothing.
 use Prim.Native.Nat.{ℕ, zero, suc, _+_, _-_, _/_, _%_, _^_, _≤_, _<_, min}
@@ -18,9 +18,9 @@ use Rattle.laws.proofs.Tests.{Is, is-true, is-false, is, left-of}
 use Rattle.laws.proofs.Comparisons.{eq-of, ne-of, gt-of, ltb-yes, ltb-not}
 use Rattle.laws.proofs.Counts.{count-ext}
 use Rattle.laws.proofs.Cells.{count-below, count-first}
-use Rattle.station.specs.Head.{taken}
-use Rattle.placing.specs.method.Rule.{firstOf}
-use Rattle.placing.proofs.MaskBits.{parity, taken-zero, taken-half, taken-even, ones-taken, lowest, cleared}
+use Rattle.station.specs.Head.{hasBit}
+use Rattle.placing.specs.method.Rule.{firstFew}
+use Rattle.placing.proofs.MaskBits.{parity, hasBit-zero, hasBit-half, taken-even, ones-hasBit, lowest, cleared}
 use Rattle.placing.proofs.rule.row.RowWritten.{untaken, untaken-first, untaken-more, untaken-stays}
 
 -- ---- the bits of the operations
@@ -46,102 +46,102 @@ module _ (x y : ℕ) where
 
 -- a bit of a number is its lowest one after a shift
 digit : (a i : ℕ) → (a / 2 ^ i % 2 ≡ 1) ⊎ (a / 2 ^ i % 2 ≡ 0)
-digit a i = parity (a / 2 ^ i) (is (taken a i))
+digit a i = parity (a / 2 ^ i) (is (hasBit a i))
 
 module _ (a b i : ℕ) where
-  pub taken-or : taken (bitOr a b) i ≡ (taken a i || taken b i)
-  taken-or = ap (λ (n : ℕ). eqb (n % 2) 1) (or-shr a b i) ∙ digit-or (a / 2 ^ i) (b / 2 ^ i) (digit a i) (digit b i)
+  pub hasBit-or : hasBit (bitOr a b) i ≡ (hasBit a i || hasBit b i)
+  hasBit-or = ap (λ (n : ℕ). eqb (n % 2) 1) (or-shr a b i) ∙ digit-or (a / 2 ^ i) (b / 2 ^ i) (digit a i) (digit b i)
 
-  taken-and : taken (bitAnd a b) i ≡ (taken a i && taken b i)
-  taken-and = ap (λ (n : ℕ). eqb (n % 2) 1) (and-shr a b i) ∙ digit-and (a / 2 ^ i) (b / 2 ^ i) (digit a i) (digit b i)
+  hasBit-and : hasBit (bitAnd a b) i ≡ (hasBit a i && hasBit b i)
+  hasBit-and = ap (λ (n : ℕ). eqb (n % 2) 1) (and-shr a b i) ∙ digit-and (a / 2 ^ i) (b / 2 ^ i) (digit a i) (digit b i)
 
-  pub taken-xor : taken (bitXor a b) i ≡ cond (taken b i) (not (taken a i)) (taken a i)
-  taken-xor = ap (λ (n : ℕ). eqb (n % 2) 1) (xor-shr a b i) ∙ digit-xor (a / 2 ^ i) (b / 2 ^ i) (digit a i) (digit b i)
+  pub hasBit-xor : hasBit (bitXor a b) i ≡ cond (hasBit b i) (not (hasBit a i)) (hasBit a i)
+  hasBit-xor = ap (λ (n : ℕ). eqb (n % 2) 1) (xor-shr a b i) ∙ digit-xor (a / 2 ^ i) (b / 2 ^ i) (digit a i) (digit b i)
 
   -- what a has and b has not
-  pub taken-without : taken (bitXor a (bitAnd a b)) i ≡ (taken a i && not (taken b i))
-  taken-without = go (is (taken a i)) (is (taken b i))
+  pub hasBit-without : hasBit (bitXor a (bitAnd a b)) i ≡ (hasBit a i && not (hasBit b i))
+  hasBit-without = go (is (hasBit a i)) (is (hasBit b i))
     where
-      one : taken (bitXor a (bitAnd a b)) i ≡ cond (taken a i && taken b i) (not (taken a i)) (taken a i)
+      one : hasBit (bitXor a (bitAnd a b)) i ≡ cond (hasBit a i && hasBit b i) (not (hasBit a i)) (hasBit a i)
       one = ap (λ (n : ℕ). eqb (n % 2) 1) (xor-shr a (bitAnd a b) i) ∙ digit-xor (a / 2 ^ i) (bitAnd a b / 2 ^ i) (digit a i) (digit (bitAnd a b) i)
-          ∙ ap (λ (x : Bool). cond x (not (taken a i)) (taken a i)) taken-and
+          ∙ ap (λ (x : Bool). cond x (not (hasBit a i)) (hasBit a i)) hasBit-and
 
-      go : Is (taken a i) → Is (taken b i) → taken (bitXor a (bitAnd a b)) i ≡ (taken a i && not (taken b i))
+      go : Is (hasBit a i) → Is (hasBit b i) → hasBit (bitXor a (bitAnd a b)) i ≡ (hasBit a i && not (hasBit b i))
       go (is-true p) (is-true q) = one ∙ (rw (p, q) refl)
       go (is-true p) (is-false q) = one ∙ (rw (p, q) refl)
       go (is-false p) q = one ∙ (rw p refl)
 
 -- the mask of one number
-pub taken-one : (i j : ℕ) → taken (2 ^ i) j ≡ eqb j i
-taken-one zero zero = refl
-taken-one zero (suc j) = taken-half 1 j ∙ taken-zero j ∙ sym (eqb·suc-zero j)
-taken-one (suc i) zero = taken-even (2 ^ suc i) (omega (arith, pow-suc 2 i)) ∙ sym (eqb·zero-suc i)
-taken-one (suc i) (suc j) =
+pub hasBit-one : (i j : ℕ) → hasBit (2 ^ i) j ≡ eqb j i
+hasBit-one zero zero = refl
+hasBit-one zero (suc j) = hasBit-half 1 j ∙ hasBit-zero j ∙ sym (eqb·suc-zero j)
+hasBit-one (suc i) zero = taken-even (2 ^ suc i) (omega (arith, pow-suc 2 i)) ∙ sym (eqb·zero-suc i)
+hasBit-one (suc i) (suc j) =
     let half : 2 ^ suc i / 2 ≡ 2 ^ i = omega (arith, pow-suc 2 i) in
-    taken-half (2 ^ suc i) j ∙ ap (λ (n : ℕ). taken n j) half ∙ taken-one i j ∙ sym (eqb·suc-suc j i)
+    hasBit-half (2 ^ suc i) j ∙ ap (λ (n : ℕ). hasBit n j) half ∙ hasBit-one i j ∙ sym (eqb·suc-suc j i)
 
 -- ---- the lowest bits
 
-module _ (f : ℕ → Bool) (n m : ℕ) (short : m < 2 ^ 32) (so-far : (b : ℕ) → taken m b ≡ untaken f n b) where
+module _ (f : ℕ → Bool) (n m : ℕ) (short : m < 2 ^ 64) (so-far : (b : ℕ) → hasBit m b ≡ untaken f n b) where
   -- one bit more is cleared: of 0 none
-  pub clear-more : (b : ℕ) → taken (bitAnd m (m - 1)) b ≡ untaken f (n + 1) b
+  pub clear-more : (b : ℕ) → hasBit (bitAnd m (m - 1)) b ≡ untaken f (n + 1) b
   clear-more b = go (is (eqb m 0))
     where
-      go : Is (eqb m 0) → taken (bitAnd m (m - 1)) b ≡ untaken f (n + 1) b
+      go : Is (eqb m 0) → hasBit (bitAnd m (m - 1)) b ≡ untaken f (n + 1) b
       go (is-true e) =
           let none : m ≡ 0 = eq-of m 0 e in
-          let empty : taken m b ≡ false = rw none (taken-zero b) in
-          taken-and m (m - 1) b ∙ (rw empty (sym (untaken-stays f n b (sym (so-far b) ∙ empty))))
+          let empty : hasBit m b ≡ false = rw none (hasBit-zero b) in
+          hasBit-and m (m - 1) b ∙ (rw empty (sym (untaken-stays f n b (sym (so-far b) ∙ empty))))
       go (is-false e) =
           let ne : m ≡ 0 → ⊥ = ne-of m 0 e in
           let some : 0 < m = omega arith in
-          let low = lowest 32 m some short in
-          let z = trailingZeros 32 m in
+          let low = lowest 64 m some short in
+          let z = trailingZeros 64 m in
           let here : untaken f n z ≡ true = sym (so-far z) ∙ low .set in
           let order : count z f ≡ n = untaken-first f n z here (λ a l. sym (so-far a) ∙ low .none-below a l) in
-          cleared 32 m some short b
+          cleared 64 m some short b
           ∙ ap (λ (x : Bool). x && not (eqb b z)) (so-far b)
           ∙ untaken-more f n z (left-of (f z) (leb n (count z f)) here) order b
 
   -- where a bit is left, more than n were set
-  pub clear-some : 0 < m → n < count 32 f
+  pub clear-some : 0 < m → n < count 64 f
   clear-some some =
-      let low = lowest 32 m some short in
-      let z = trailingZeros 32 m in
+      let low = lowest 64 m some short in
+      let z = trailingZeros 64 m in
       let here : untaken f n z ≡ true = sym (so-far z) ∙ low .set in
       omega (
         arith,
         untaken-first f n z here (λ a l. sym (so-far a) ∙ low .none-below a l),
-        count-below 32 f z (low .within),
+        count-below 64 f z (low .within),
         ap bit (left-of (f z) (leb n (count z f)) here),
       )
 
   -- where none is left, no more than n were
-  pub clear-none : m ≡ 0 → count 32 f ≤ n
-  clear-none none = omega (arith, count-ext 32 f (firstOf f n) (λ b l. go b (is (f b))), count-first 32 f n)
+  pub clear-none : m ≡ 0 → count 64 f ≤ n
+  clear-none none = omega (arith, count-ext 64 f (firstFew f n) (λ b l. go b (is (f b))), count-first 64 f n)
     where
-      go : (b : ℕ) → Is (f b) → f b ≡ firstOf f n b
+      go : (b : ℕ) → Is (f b) → f b ≡ firstFew f n b
       go b (is-true e) =
           let off : leb n (count b f) ≡ false =
-          ap (λ (x : Bool). x && leb n (count b f)) (sym e) ∙ sym (so-far b) ∙ ap (λ (k : ℕ). taken k b) none ∙ taken-zero b in
+          ap (λ (x : Bool). x && leb n (count b f)) (sym e) ∙ sym (so-far b) ∙ ap (λ (k : ℕ). hasBit k b) none ∙ hasBit-zero b in
           rw (e, ltb-yes (count b f) n (gt-of n (count b f) off)) refl
       go b (is-false e) = rw e refl
 
 module _ (m d : ℕ) where
   -- all bits, where they are no more than d
-  pub first-all : count 32 (taken m) ≤ d → (i : ℕ) → i < 32 → taken m i ≡ firstOf (taken m) d i
-  first-all few i l = go (is (taken m i))
+  pub first-all : count 64 (hasBit m) ≤ d → (i : ℕ) → i < 64 → hasBit m i ≡ firstFew (hasBit m) d i
+  first-all few i l = go (is (hasBit m i))
     where
-      go : Is (taken m i) → taken m i ≡ firstOf (taken m) d i
-      go (is-true e) = rw (e, ltb-yes (count i (taken m)) d (omega (arith, few, count-below 32 (taken m) i l, ap bit e))) refl
+      go : Is (hasBit m i) → hasBit m i ≡ firstFew (hasBit m) d i
+      go (is-true e) = rw (e, ltb-yes (count i (hasBit m)) d (omega (arith, few, count-below 64 (hasBit m) i l, ap bit e))) refl
       go (is-false e) = rw e refl
 
   -- the bits that d turns of clearing took away
-  pub first-cleared : (r : ℕ) → ((b : ℕ) → taken r b ≡ untaken (taken m) d b) → (i : ℕ) → taken (bitXor m r) i ≡ firstOf (taken m) d i
-  first-cleared r rest i = taken-xor m r i ∙ ap (λ (x : Bool). cond x (not (taken m i)) (taken m i)) (rest i) ∙ go (is (taken m i))
+  pub first-cleared : (r : ℕ) → ((b : ℕ) → hasBit r b ≡ untaken (hasBit m) d b) → (i : ℕ) → hasBit (bitXor m r) i ≡ firstFew (hasBit m) d i
+  first-cleared r rest i = hasBit-xor m r i ∙ ap (λ (x : Bool). cond x (not (hasBit m i)) (hasBit m i)) (rest i) ∙ go (is (hasBit m i))
     where
-      go : Is (taken m i) → cond (untaken (taken m) d i) (not (taken m i)) (taken m i) ≡ firstOf (taken m) d i
-      go (is-true e) = rw (e, ltb-not (count i (taken m)) d) (turn (leb d (count i (taken m))))
+      go : Is (hasBit m i) → cond (untaken (hasBit m) d i) (not (hasBit m i)) (hasBit m i) ≡ firstFew (hasBit m) d i
+      go (is-true e) = rw (e, ltb-not (count i (hasBit m)) d) (turn (leb d (count i (hasBit m))))
         where
           turn : (x : Bool) → cond x false true ≡ not x
           turn true = refl
@@ -149,5 +149,5 @@ module _ (m d : ℕ) where
       go (is-false e) = rw e refl
 
   -- how many the first d are
-  pub first-count : (r : ℕ) → r < 2 ^ 32 → ((i : ℕ) → i < 32 → taken r i ≡ firstOf (taken m) d i) → ones r ≡ min d (count 32 (taken m))
-  first-count r short first = ones-taken 32 r short ∙ count-ext 32 (taken r) (firstOf (taken m) d) first ∙ count-first 32 (taken m) d
+  pub first-count : (r : ℕ) → r < 2 ^ 64 → ((i : ℕ) → i < 64 → hasBit r i ≡ firstFew (hasBit m) d i) → ones r ≡ min d (count 64 (hasBit m))
+  first-count r short first = ones-hasBit 64 r short ∙ count-ext 64 (hasBit r) (firstFew (hasBit m) d) first ∙ count-first 64 (hasBit m) d

@@ -12,13 +12,11 @@ use Rattle.laws.proofs.Tests.{false-of-not, true-of-not}
 use Rattle.laws.proofs.Comparisons.{ge-of}
 use Rattle.laws.specs.Lists.{at}
 use Rattle.laws.specs.Placement.{left, chosen}
-use Rattle.station.specs.Head.{taken}
-use Rattle.placing.specs.method.Limits.{inLimits}
+use Rattle.station.specs.Head.{hasBit}
 use Rattle.placing.specs.Plan.{freeCount}
-use Rattle.placing.specs.method.Rule.{Levelled, CleanFrom, freeIn, placedIn, placedWithin}
-use Rattle.placing.proofs.limits.Within.{limits-of}
+use Rattle.placing.specs.method.Rule.{Levelled, CleanFrom, freeIn, placeable, placedIn, placedWithin}
 use Rattle.placing.proofs.rule.levels.ByLevel.{standing-all, most-of}
-use Rattle.placing.proofs.rule.SlotsPlaced.{SlotsPlaced, Progress, cellOf, progress-none, progress-more, progress-over, progress-idle, slots-all, frame-within, row-within, placed-within, placed-beyond}
+use Rattle.placing.proofs.rule.SlotsPlaced.{SlotsPlaced, Progress, cellOf, progress-none, progress-more, progress-over, progress-idle, slots-all, frame-within, row-within, placed-within, placed-beyond, placeable-of}
 use Rattle.placing.proofs.rule.place.Statement.{statement}
 use Rattle.placing.proofs.rule.place.Tie as tie
 
@@ -27,12 +25,12 @@ Inv-loop table₀ slots bridges k clean free early late due₀ levels₀ top₀ 
     (s ≤ slots)
     × (slots ≤ 64)
     × (bridges ≤ 8)
-    × (k ≤ 32)
+    × (k ≤ 64)
     × (512 ≤ length table₀)
     × (length table ≡ length table₀)
-    × (length due ≡ 32)
-    × (length levels ≡ 256)
-    × (top < 256)
+    × (length due ≡ 64)
+    × (length levels ≡ 65)
+    × (top < 65)
     × ((n : List ℕ) → k ≤ length n → Levelled levels₀ (at (take k n)) → ((i : ℕ) → i < k → at n i ≤ top₀) → CleanFrom clean slots bridges free table₀
     → Progress bridges free (take k n) due₀ early late table₀ k s table due levels top)
 
@@ -40,27 +38,28 @@ abbrev μ-loop : tie.MeasureT-loop
 μ-loop table₀ slots bridges k clean free early late due₀ levels₀ top₀ s₀ table due levels top s = slots - s
 
 within : (c : tie.Else1 Inv-loop μ-loop)
-    → let a = c .before .before .before .args in inLimits (a .slots) (a .bridges) (a .k) (length (a .table .now)) ≡ true
-within c = sym (c .before .in-limits .ensures) ∙ true-of-not _ (c .if1 .left)
+    → let a = c .before .before .before .before .args in placeable (a .slots) (a .bridges) (a .t5) (a .k) (length (a .table .now)) ≡ true
+within c = sym (c .before .placeable .ensures) ∙ true-of-not _ (c .if1 .left)
 
-in-limits-requires : tie.Need-in-limits-requires Inv-loop μ-loop
-in-limits-requires c κs = search author.needs
+placeable-requires : tie.Need-placeable-requires Inv-loop μ-loop
+placeable-requires c κs = search author.needs
 
 returns : tie.Need-returns Inv-loop μ-loop
 returns c = λ clean.
-    let a = c .before .before .before .args in
+    let a = c .before .before .before .before .args in
     sym (placed-beyond (a .slots) (a .bridges) (a .t4) (a .t5) (a .k) (a .first) (a .t8) (a .t9) (a .table .now)
-    (sym (c .before .in-limits .ensures) ∙ false-of-not _ (c .if1 .taken)))
+    (sym (c .before .placeable .ensures) ∙ false-of-not _ (c .if1 .taken)))
 
 enter-requires : tie.Need-enter-requires Inv-loop μ-loop
 enter-requires c κs =
-    let a = c .before .before .before .before .before .args in
-    (limits-of (a .slots) (a .bridges) (a .k) (length (a .table .now)) (within (c .before .before)) .2, refl)
+    let a = c .before .before .before .before .before .before .args in
+    let l = placeable-of (a .slots) (a .bridges) (a .t5) (a .k) (length (a .table .now)) (within (c .before .before)) in
+    (l .2, l .4, refl)
 
 loop-holds : tie.Need-loop-holds Inv-loop μ-loop
 loop-holds c =
-    let a = c .before .before .before .before .before .before .args in
-    let l = limits-of (a .slots) (a .bridges) (a .k) (length (a .table .now)) (within (c .before .before .before)) in (
+    let a = c .before .before .before .before .before .before .before .args in
+    let l = placeable-of (a .slots) (a .bridges) (a .t5) (a .k) (length (a .table .now)) (within (c .before .before .before)) in (
       omega arith,
       l .0,
       l .1,
@@ -76,12 +75,12 @@ loop-holds c =
 -- what the invariant says of the needs, where the frame is clean
 so-far : (c : tie.At-loop Inv-loop μ-loop)
     → let l = c .loop in
-    let a = c .before .before .before .before .before .before .before .args in
+    let a = c .before .before .before .before .before .before .before .before .args in
     CleanFrom (a .clean) (a .slots) (a .bridges) (a .t4) (a .table .now)
     → Progress (a .bridges) (a .t4) (take (a .k) (a .t5)) (a .first) (a .t8) (a .t9) (a .table .now) (a .k) (l .s) (l .table) (l .due) (l .levels) (l .top)
 so-far c clean =
     let entered = c .before in
-    let start = entered .before .before .before .before .before .before in
+    let start = entered .before .before .before .before .before .before .before in
     let a = start .args in
     c .loop .inv .9 (a .t5) (omega (arith, c .loop .inv .3, start .good .1 .1 .1 .1 .0)) (standing-all (a .t5) (entered .enter .last .0) (a .k) (entered .enter .ensures .1))
     (entered .enter .ensures .3) clean
@@ -94,12 +93,12 @@ same-length c = c .before .before .before .before .before .loop .inv .5
 
 -- the table after all slots
 placed : (c : tie.At-loop Inv-loop μ-loop)
-    → let a = c .before .before .before .before .before .before .before .args in
+    → let a = c .before .before .before .before .before .before .before .before .args in
     SlotsPlaced (a .bridges) (cellOf (a .bridges) (a .t4) (take (a .k) (a .t5)) (a .first) (a .t8) (a .t9) (a .table .now)) (a .table .now) (c .loop .table) (a .slots)
     → c .loop .table ≡ placedWithin (a .slots) (a .bridges) (a .t4) (a .t5) (a .k) (a .first) (a .t8) (a .t9) (a .table .now)
 unfolding placedIn
 placed c all =
-    let a = c .before .before .before .before .before .before .before .args in
+    let a = c .before .before .before .before .before .before .before .before .args in
     slots-all (a .bridges) (cellOf (a .bridges) (a .t4) (take (a .k) (a .t5)) (a .first) (a .t8) (a .t9) (a .table .now)) (a .table .now)
     (c .loop .table) (a .slots) (omega (arith, c .loop .inv .4, frame-within (a .slots) (a .bridges) (c .loop .inv .1) (c .loop .inv .2))) all
     ∙ sym (placed-within (a .slots) (a .bridges) (a .t4) (a .t5) (a .k) (a .first) (a .t8) (a .t9) (a .table .now) (within (c .before .before .before .before)))
@@ -109,7 +108,7 @@ returns-2 c = λ clean.
     let found = c .before .before in
     let p = found .before .before .before in
     let l = p .loop in
-    let a = p .before .before .before .before .before .before .before .args in
+    let a = p .before .before .before .before .before .before .before .before .args in
     let now = so-far p clean in
     let none : found .highest .result ≡ 0 = c .before .if2 .taken in
     placed p
@@ -133,13 +132,13 @@ choose-requires c κs =
 mul-write-row : tie.Need-mul-write-row Inv-loop μ-loop
 mul-write-row c =
     let p = c .before .before .before .before .before .before .before .before .before in
-    let a = p .before .before .before .before .before .before .before .args in
+    let a = p .before .before .before .before .before .before .before .before .args in
     omega (arith, row-within (a .slots) (a .bridges) (p .loop .inv .1) (p .loop .inv .2) (p .loop .s) (omega arith))
 
 write-row-requires : tie.Need-write-row-requires Inv-loop μ-loop
 write-row-requires c κs =
     let p = c .before .before .before .before .before .before .before .before .before .before .before .before in
-    let a = p .before .before .before .before .before .before .before .args in (
+    let a = p .before .before .before .before .before .before .before .before .args in (
       p .loop .inv .2,
       omega (arith, row-within (a .slots) (a .bridges) (p .loop .inv .1) (p .loop .inv .2) (p .loop .s) (omega arith), p .loop .inv .4, p .loop .inv .5),
       p .loop .inv .6,
@@ -157,8 +156,8 @@ loop-again c =
     let top = found .highest .result in
     let p = found .before .before .before in
     let l = p .loop in
-    let a = p .before .before .before .before .before .before .before .args in
-    let low : top < 256 = omega (arith, found .highest .ensures .0, l .inv .8) in
+    let a = p .before .before .before .before .before .before .before .before .args in
+    let low : top < 65 = omega (arith, found .highest .ensures .0, l .inv .8) in
     let d : ℕ → ℕ = freeCount (a .bridges) (freeIn (a .t4)) in
     ⊎-elim
     (λ w. rw (w .11, w .12, w .13) (
@@ -174,11 +173,11 @@ loop-again c =
       λ n enough h m clean.
           let now = l .inv .9 n enough h m clean in
           let rest : ℕ → ℕ = at (left (take (a .k) n) d (l .s)) in
-          let most : (i : ℕ) → i < 32 → rest i ≤ top = most-of (l .levels) rest (l .top) top (now .levelled) (l .inv .8) (now .most) (found .highest .ensures .1) in
+          let most : (i : ℕ) → i < 64 → rest i ≤ top = most-of (l .levels) rest (l .top) top (now .levelled) (l .inv .8) (now .most) (found .highest .ensures .1) in
           let did = w .3 .ensures .1 rest (now .levelled) most in
           progress-more (a .bridges) (a .t4) n (a .first) (a .t8) (a .t9) (a .table .now) (a .k) enough (l .inv .3)
-          (l .s) (l .table) (l .due) (l .levels) (l .top) now (taken (w .3 .result))
-          (λ i q. did .picks i q ∙ ap (λ (e : ℕ). chosen 32 rest e i) (w .2 .ensures))
+          (l .s) (l .table) (l .due) (l .levels) (l .top) now (hasBit (w .3 .result))
+          (λ i q. did .picks i q ∙ ap (λ (e : ℕ). chosen 64 rest e i) (w .2 .ensures))
           (w .8 .last .0) (w .8 .last .1 .1 .1 .1 .1 .0) (w .3 .last .0) top most
           (w .8 .ensures .3 (λ e b q free. now .table .after (l .s * a .bridges + b) (omega arith) ∙ clean (l .s) (ge-of (l .s) (a .clean) e) (omega arith) b q free))
           (w .8 .ensures .2) (did .levels),
@@ -206,7 +205,7 @@ same-length-2 c = c .before .loop .inv .5
 
 returns-3 : tie.Need-returns-3 Inv-loop μ-loop
 returns-3 c = λ clean.
-    let end : c .before .loop .s ≡ c .before .before .before .before .before .before .before .before .args .slots = omega arith in
+    let end : c .before .loop .s ≡ c .before .before .before .before .before .before .before .before .before .args .slots = omega arith in
     placed (c .before) (rw end at (so-far (c .before) clean .table))
 
 pub place-spec : {M : Type 1} → statement M
@@ -215,7 +214,7 @@ place-spec =
     (tie.spec
     Inv-loop
     μ-loop
-    in-limits-requires
+    placeable-requires
     returns
     enter-requires
     loop-holds

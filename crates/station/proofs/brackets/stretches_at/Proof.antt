@@ -8,14 +8,14 @@ use borrow.Author.Needs.{needs}
 use lib.ListN.{length, drop}
 use Rattle.laws.proofs.Tests.{false-of-not, true-of-not}
 use Rattle.station.specs.Form.{readBrackets}
-use Rattle.station.specs.method.Bracket.{MaskedSoFar, takenIn}
+use Rattle.station.specs.method.Bracket.{MaskedSoFar, busyMaskIn}
 use Rattle.station.proofs.brackets.OneBracket.{next-inside}
 use Rattle.station.proofs.brackets.StretchMask.{folded, folded-start, start-masked, stretched-masked, read-none, read-last, read-next}
 use Rattle.station.proofs.brackets.stretches_at.Statement.{statement}
 use Rattle.station.proofs.brackets.stretches_at.Tie as tie
 
 abbrev Inv-loop : tie.InvT-loop
-Inv-loop text at slots last s₀ i₀ s i = MaskedSoFar s × (folded last s (readBrackets (drop i text)) ≡ takenIn (min slots 64) (readBrackets (drop at text)))
+Inv-loop text at slots last s₀ i₀ s i = MaskedSoFar s × (folded last s (readBrackets (drop i text)) ≡ busyMaskIn (min slots 64) (readBrackets (drop at text)))
 
 abbrev μ-loop : tie.MeasureT-loop
 μ-loop text at slots last s₀ i₀ s i = length text - i

@@ -46,7 +46,7 @@ use Rattle.station.proofs.heads.HeadRead as Rd
 use Rattle.station.proofs.heads.HeadRead.Laws as Rd′
 use Rattle.station.specs.Records.{loaded, saved}
 use Rattle.station.proofs.records.Reborrow.{Reshared, reshares, is-back}
-use Rattle.station.proofs.records.RecordRow.{Bank, bank-val, bank-tells, bank-makes, bank-typed, head-val, head-tells, head-makes, head-typed}
+use Rattle.station.proofs.records.RecordRow.{Bank, copied-val, copied-tells, copied-makes, copied-typed, head-val, head-tells, head-makes, head-typed}
 use Rattle.station.proofs.records.Loading.{Counts, Loads, to-count, goes-count, to-load, goes-load}
 use Rattle.station.proofs.WalkSteps.{asks, hands, hands-one, full, _&_, none, leaves-fn, meets-by}
 use Rattle.station.proofs.records.record_count as record-count
@@ -70,10 +70,10 @@ use Rattle.station.proofs.entries.counted.read_counted as read-counted
 use Rattle.station.proofs.entries.counted.read_counted.Symbol as read-counted-def
 use Rattle.station.proofs.entries.counted.read_counted.Symbol.{name as #read-counted}
 use Rattle.station.proofs.entries.counted.read_counted.Met as read-counted-thm
-use Rattle.station.proofs.entries.counted.bank_of as bank-of
-use Rattle.station.proofs.entries.counted.bank_of.Symbol as bank-of-def
-use Rattle.station.proofs.entries.counted.bank_of.Symbol.{name as #bank-of}
-use Rattle.station.proofs.entries.counted.bank_of.Met as bank-of-thm
+use Rattle.station.proofs.entries.counted.presets_of as presets-of
+use Rattle.station.proofs.entries.counted.presets_of.Symbol as presets-of-def
+use Rattle.station.proofs.entries.counted.presets_of.Symbol.{name as #presets-of}
+use Rattle.station.proofs.entries.counted.presets_of.Met as presets-of-thm
 use Rattle.station.proofs.entries.counted.answer_of as answer-of
 use Rattle.station.proofs.entries.counted.answer_of.Symbol as answer-of-def
 use Rattle.station.proofs.entries.counted.answer_of.Symbol.{name as #answer-of}
@@ -92,7 +92,7 @@ module _ {M : Type 1} (𝓤 : URA M) (H : Heap 𝓤) (A : Atoms 𝓤) (mem : Mem
   ReadCounted = tripleOf 𝓤 H A read-counted.signature (read-counted.spec 𝓤 H A mem run)
 
   abbrev BankOf : Contract 𝓤
-  BankOf = tripleOf 𝓤 H A bank-of.signature (bank-of.spec 𝓤 H A mem run)
+  BankOf = tripleOf 𝓤 H A presets-of.signature (presets-of.spec 𝓤 H A mem run)
 
   abbrev Save : Contract 𝓤
   Save = tripleOf 𝓤 H A save.signature (save.spec 𝓤 H A mem run)
@@ -145,28 +145,28 @@ module _ {M : Type 1} (𝓤 : URA M) (H : Heap 𝓤) (A : Atoms 𝓤) (W : Given
 
   -- what each callee's triple binds outside, and that the caller has what it asks
   abbrev to-read : List Preset → ReadCounted 𝓤 H A mem run .Ghost
-  to-read bank = (((κ, tt), (q, tt), tt, (length ys, (t, (h, (bank, tt)))), (vint w64 (length ys) ∷ [], (w ∷ [], (head-val h ∷ [], (bank-val bank ∷ [], tt))))), tt)
+  to-read copied = (((κ, tt), (q, tt), tt, (length ys, (t, (h, (copied, tt)))), (vint w64 (length ys) ∷ [], (w ∷ [], (head-val h ∷ [], (copied-val copied ∷ [], tt))))), tt)
 
-  goes-read : (bank : List Preset) → length ys < 2 ^ 64 → Is Bank bank (bank-val bank ∷ []) → ent 𝓤 (sep 𝓤 (A .lft κ q) (sem 𝓤 H A OwnText)) (ReadCounted 𝓤 H A mem run .pre (to-read bank))
-  goes-read bank fits is =
-      qed W (‵ (flft κ q) ∷ ‵ OwnText ∷ []) ∵ nothing ! $ owned ! Bank (Is Bank) (bank-makes 𝓤 H A W) bank _ is $ fjoin ! $ owned ! Hd.the-row (Is Hd.the-row) (head-makes 𝓤 H A) h _ is-head $ fjoin ! $ move ! (2 ∷ 0 ∷ []) $ fjoin ! $
+  goes-read : (copied : List Preset) → length ys < 2 ^ 64 → Is Bank copied (copied-val copied ∷ []) → ent 𝓤 (sep 𝓤 (A .lft κ q) (sem 𝓤 H A OwnText)) (ReadCounted 𝓤 H A mem run .pre (to-read copied))
+  goes-read copied fits is =
+      qed W (‵ (flft κ q) ∷ ‵ OwnText ∷ []) ∵ nothing ! $ owned ! Bank (Is Bank) (copied-makes 𝓤 H A W) copied _ is $ fjoin ! $ owned ! Hd.the-row (Is Hd.the-row) (head-makes 𝓤 H A) h _ is-head $ fjoin ! $ move ! (2 ∷ 0 ∷ []) $ fjoin ! $
       owned ! usize (Is usize) (uint-makes 𝓤 H A W w64) (length ys) _ (refl, fits) $ fjoin ! $ hands-one !
 
-  abbrev to-bank : HeadRead → BankOf 𝓤 H A mem run .Ghost
-  to-bank r = ((tt, tt, tt, (r, tt), (Rd′.lowered r ∷ [], tt)), tt)
+  abbrev to-copied : HeadRead → BankOf 𝓤 H A mem run .Ghost
+  to-copied r = ((tt, tt, tt, (r, tt), (Rd′.lowered r ∷ [], tt)), tt)
 
   abbrev to-answer : HeadRead → AnswerOf 𝓤 H A mem run .Ghost
   to-answer r = ((tt, tt, tt, (r, tt), (Rd′.lowered r ∷ [], tt)), tt)
 
   abbrev to-save : List Preset → Save 𝓤 H A mem run .Ghost
-  to-save bank = (((κ′, tt), (q′, tt), tt, (x γ, (bank, (32, tt))), (v ∷ [], (bank-val bank ∷ [], (vint w64 32 ∷ [], tt)))), tt)
+  to-save copied = (((κ′, tt), (q′, tt), tt, (x γ, (copied, (32, tt))), (v ∷ [], (copied-val copied ∷ [], (vint w64 32 ∷ [], tt)))), tt)
 
-  goes-save : (bank : List Preset) → Is Bank bank (bank-val bank ∷ []) → ent 𝓤 (sep 𝓤 (A .lft κ′ q′) (sem 𝓤 H A Own)) (Save 𝓤 H A mem run .pre (to-save bank))
-  goes-save bank is =
-      qed W (‵ (flft κ′ q′) ∷ ‵ Own ∷ []) ∵ nothing ! $ owned ! usize (Is usize) (uint-makes 𝓤 H A W w64) 32 _ (refl, lit< tt) $ fjoin ! $ owned ! Bank (Is Bank) (bank-makes 𝓤 H A W) bank _ is $ fjoin ! $ move ! (2 ∷ 0 ∷ []) $ fjoin ! $ hands-one !
+  goes-save : (copied : List Preset) → Is Bank copied (copied-val copied ∷ []) → ent 𝓤 (sep 𝓤 (A .lft κ′ q′) (sem 𝓤 H A Own)) (Save 𝓤 H A mem run .pre (to-save copied))
+  goes-save copied is =
+      qed W (‵ (flft κ′ q′) ∷ ‵ Own ∷ []) ∵ nothing ! $ owned ! usize (Is usize) (uint-makes 𝓤 H A W w64) 32 _ (refl, lit< tt) $ fjoin ! $ owned ! Bank (Is Bank) (copied-makes 𝓤 H A W) copied _ is $ fjoin ! $ move ! (2 ∷ 0 ∷ []) $ fjoin ! $ hands-one !
 
   module _ (𝓣 : Tables 𝓤 H) (known-count : Triple 𝓤 (𝓣 .C #record-count) (Counts 𝓤 H A mem run)) (known-load : Triple 𝓤 (𝓣 .C #load) (Loads 𝓤 H A mem run)) (known-read : Triple 𝓤 (𝓣 .C #read-counted) (ReadCounted 𝓤 H A mem run))
-      (known-bank : Triple 𝓤 (𝓣 .C #bank-of) (BankOf 𝓤 H A mem run)) (known-save : Triple 𝓤 (𝓣 .C #save) (Save 𝓤 H A mem run)) (known-answer : Triple 𝓤 (𝓣 .C #answer-of) (AnswerOf 𝓤 H A mem run)) where
+      (known-copied : Triple 𝓤 (𝓣 .C #presets-of) (BankOf 𝓤 H A mem run)) (known-save : Triple 𝓤 (𝓣 .C #save) (Save 𝓤 H A mem run)) (known-answer : Triple 𝓤 (𝓣 .C #answer-of) (AnswerOf 𝓤 H A mem run)) where
     fm : FmC 𝓤 H (W .laws) (𝓣 .C)
     fm = fmOf 𝓤 H (W .laws) 𝓣
 
@@ -195,22 +195,22 @@ module _ {M : Type 1} (𝓤 : URA M) (H : Heap 𝓤) (A : Atoms 𝓤) (W : Given
         -- `load`
         split ! $ move ! (0 ∷ 3 ∷ []) $ use2 W (raw (Loads 𝓤 H A mem run .pre (to-load 𝓤 H A W mem run (ν ∷ []) fullShare (x δ)))) (goes-load 𝓤 H A W mem run (ν ∷ []) fullShare (x δ)) $
         -- [what it asks; true; nothing said; what the holder keeps; true; the text's token; true; what the text owns; the locals]
-        asks ! fm load.ended (load.clauses 𝓤 H A mem run) known-load (to-load 𝓤 H A W mem run (ν ∷ []) fullShare (x δ)) (‵ (flft (ν ∷ []) fullShare) ⊛ ‵ ftrue) refl (λ r ws. r ≡ loaded ys) (λ r ws. refl) bank-val bank-tells
-        (and-then ! (reads ! (from ! (stop !)) (look ! 16 refl)) (no-more !)) (λ bank _ is-bank e-bank. land ! (from ! (stop !)) (init ! 27 refl (bank-typed 𝓤 H A W bank is-bank)) $
+        asks ! fm load.ended (load.clauses 𝓤 H A mem run) known-load (to-load 𝓤 H A W mem run (ν ∷ []) fullShare (x δ)) (‵ (flft (ν ∷ []) fullShare) ⊛ ‵ ftrue) refl (λ r ws. r ≡ loaded ys) (λ r ws. refl) copied-val copied-tells
+        (and-then ! (reads ! (from ! (stop !)) (look ! 16 refl)) (no-more !)) (λ copied _ is-copied e-copied. land ! (from ! (stop !)) (init ! 27 refl (copied-typed 𝓤 H A W copied is-copied)) $
         -- the lifetime is ended, and the list comes back
         split ! $ lft-end ! tt $ move ! (0 ∷ 5 ∷ []) $ use2 W (later (‵ Own ⊛ ‵ (flft κ′ q′))) (is-back T.the-row κ′ (ν ∷ []) q′ γ b o 𝓤 H A W (named 0) (named 0) ys v refl sized) $ await ! tt $ split ! $
         -- `read_counted`
-        move ! (7 ∷ 9 ∷ []) $ use2 W (raw (ReadCounted 𝓤 H A mem run .pre (to-read bank))) (goes-read bank (sized .0) is-bank) $
+        move ! (7 ∷ 9 ∷ []) $ use2 W (raw (ReadCounted 𝓤 H A mem run .pre (to-read copied))) (goes-read copied (sized .0) is-copied) $
         -- [what it asks; what the list owns; its token; six entries that say nothing; the locals]
-        asks ! fm read-counted.ended (read-counted.clauses 𝓤 H A mem run) known-read (to-read bank) (‵ (flft κ q) ⊛ ‵ ftrue) refl (λ r ws. r ≡ entryRead (length ys) (t .now) h bank) (λ r ws. refl) Rd′.lowered (Rd′.lowers .val-is)
+        asks ! fm read-counted.ended (read-counted.clauses 𝓤 H A mem run) known-read (to-read copied) (‵ (flft κ q) ⊛ ‵ ftrue) refl (λ r ws. r ≡ entryRead (length ys) (t .now) h copied) (λ r ws. refl) Rd′.lowered (Rd′.lowers .val-is)
         (and-then ! (reads ! (from ! (stop !)) (look ! 29 refl)) (and-then ! (reads ! (from ! (stop !)) (look ! 35 refl)) (and-then ! (reads ! (from ! (stop !)) (look ! 33 refl)) (and-then ! (reads ! (from ! (stop !)) (look ! 27 refl)) (no-more !))))) (λ r _ is-r e-r.
         land ! (from ! (stop !)) (init ! 26 refl (LL.lawful Rd.the-type Rd′.the-laws 𝓤 H A W .typed r _ is-r .0)) $
         assigns ! (addr ! (from ! (fld ! refl (hop ! (look-in ! 32 (sub ! 0 refl (whole !))) (stop !))))) (from ! (stop !)) (init ! 14 refl (tt, tt)) $
         assigns ! (agg ! (and-then ! (reads ! (from ! (stop !)) (look ! 14 refl)) (and-then ! (reads ! (from ! (fld ! refl (stop !))) (look-in ! 32 (sub ! 1 refl (whole !)))) (no-more !)))) (from ! (stop !)) (init ! 12 refl (tt, (tt, (record { fits = sized .0 }, tt)))) $
-        -- `bank_of`
-        use0 W (raw (BankOf 𝓤 H A mem run .pre (to-bank r))) (hands 𝓤 H A bank-of.ended (bank-of.clauses 𝓤 H A mem run) (to-bank r) refl (LL.makes Rd.the-type Rd′.the-plain 𝓤 H A, tt) (is-r, tt)) $
-        asks ! fm bank-of.ended (bank-of.clauses 𝓤 H A mem run) known-bank (to-bank r) (‵ ftrue) refl (λ r′ ws. r′ ≡ r .presets) (λ r′ ws. refl) bank-val bank-tells
-        (and-then ! (reads ! (from ! (stop !)) (look ! 27 refl)) (no-more !)) (λ after _ is-after e-after. land ! (from ! (stop !)) (init ! 12 refl (bank-typed 𝓤 H A W after is-after)) $
+        -- `presets_of`
+        use0 W (raw (BankOf 𝓤 H A mem run .pre (to-copied r))) (hands 𝓤 H A presets-of.ended (presets-of.clauses 𝓤 H A mem run) (to-copied r) refl (LL.makes Rd.the-type Rd′.the-plain 𝓤 H A, tt) (is-r, tt)) $
+        asks ! fm presets-of.ended (presets-of.clauses 𝓤 H A mem run) known-copied (to-copied r) (‵ ftrue) refl (λ r′ ws. r′ ≡ r .presets) (λ r′ ws. refl) copied-val copied-tells
+        (and-then ! (reads ! (from ! (stop !)) (look ! 27 refl)) (no-more !)) (λ after _ is-after e-after. land ! (from ! (stop !)) (init ! 12 refl (copied-typed 𝓤 H A W after is-after)) $
         -- `save`: [true; nothing said; the text's token; nothing said; what the list owns; its token; six entries that say nothing; the locals]
         move ! (5 ∷ 4 ∷ []) $ use2 W (raw (Save 𝓤 H A mem run .pre (to-save after))) (goes-save after is-after) $
         asks ! fm save.ended (save.clauses 𝓤 H A mem run) known-save (to-save after) (‵ (flft κ′ q′) ⊛ ‵ ftrue) refl (λ _ zs. zs .0 ≡ saved ys after 32) (λ _ zs. refl) (λ _. vunit) nothing-tells
@@ -223,19 +223,19 @@ module _ {M : Type 1} (𝓤 : URA M) (H : Heap 𝓤) (A : Atoms 𝓤) (W : Given
         leaves-fn ! 14 (full refl refl & full refl refl & full refl refl & full refl refl & full refl refl & full refl refl & full refl refl & full refl refl & full refl refl & full refl refl & full refl refl & full refl refl & full refl refl & full refl refl & full refl refl & none) $
         -- [true; nothing said; the list's token; what is said of its last list; true; nothing said; the text's token; …]
         move ! (3 ∷ []) $ fsplit ! $ fsplit ! $ move ! (1 ∷ []) $ feqL ! (λ l. move ! (4 ∷ []) $ split ! $ move ! (8 ∷ []) $ split ! $ keep ! (0 ∷ 2 ∷ 4 ∷ []) $
-        by ! (exits u (zs .0) is-u (ap (λ (z : HeadAnswer). leftBy z (zs .0)) e-u ∙ read-list (t .now) h ys (zs .0) r (e-r ∙ ap (entryRead (length ys) (t .now) h) e-bank) (e-zs ∙ ap (λ (ps : List Preset). saved ys ps 32) e-after)) l)))))))))))))))))))))))))
+        by ! (exits u (zs .0) is-u (ap (λ (z : HeadAnswer). leftBy z (zs .0)) e-u ∙ read-list (t .now) h ys (zs .0) r (e-r ∙ ap (entryRead (length ys) (t .now) h) e-copied) (e-zs ∙ ap (λ (ps : List Preset). saved ys ps 32) e-after)) l)))))))))))))))))))))))))
 
 meets : {M : Type 1} (𝓤 : URA M) (H : Heap 𝓤) (A : Atoms 𝓤) → Given 𝓤 H A → (mem : Memory → SProp 𝓤) (run : Routine → Fun 𝓤) (𝓣 : Tables 𝓤 H)
     → Triple 𝓤 (𝓣 .C #record-count) (Counts 𝓤 H A mem run) → Triple 𝓤 (𝓣 .C #load) (Loads 𝓤 H A mem run) → Triple 𝓤 (𝓣 .C #read-counted) (ReadCounted 𝓤 H A mem run)
-    → Triple 𝓤 (𝓣 .C #bank-of) (BankOf 𝓤 H A mem run) → Triple 𝓤 (𝓣 .C #save) (Save 𝓤 H A mem run) → Triple 𝓤 (𝓣 .C #answer-of) (AnswerOf 𝓤 H A mem run)
+    → Triple 𝓤 (𝓣 .C #presets-of) (BankOf 𝓤 H A mem run) → Triple 𝓤 (𝓣 .C #save) (Save 𝓤 H A mem run) → Triple 𝓤 (𝓣 .C #answer-of) (AnswerOf 𝓤 H A mem run)
     → Meets 𝓤 H A read-head.signature (WpFn 𝓤 H (𝓣 .C) (𝓣 .Λ) code.function) (read-head.spec 𝓤 H A mem run)
-meets 𝓤 H A W mem run 𝓣 known-count known-load known-read known-bank known-save known-answer =
+meets 𝓤 H A W mem run 𝓣 known-count known-load known-read known-copied known-save known-answer =
     meets-by 𝓤 H A W read-head.ended stayed
     (goes-dropped 𝓤 H A W 2 (shrSliceOf (0 ∷ []) tt (plain (λ _. u8))) yes (λ κs x f. refl), (goes-dropped 𝓤 H A W 2 (plain (λ _. Hd.the-row)) yes (λ κs x f. refl), (goes-gave-slice 𝓤 H A W 2 1 tt (plain (λ _. T.the-row)), tt)))
     (read-head.clauses 𝓤 H A mem run) code.function 𝓣
     (λ κs. (slice-vals, ((λ h. head-val h ∷ []), (slice-vals, tt)))) (λ κs. (shr-slice-tells (named 0) (κs .0) u8, (head-tells, (mut-slice-tells (named 1) (κs .1 .0) T.the-row, tt))))
     (λ κs qs bounds a g are. walk 𝓤 H A W mem run (κs .0) (κs .1 .0) (qs .0) (qs .1 .0) (a .0) (a .1 .0) (a .1 .1 .0 .ptr .0) (a .1 .1 .0 .ptr .1) (a .1 .1 .0 .name) (a .1 .1 .0 .now) (are .1 .0)
-    𝓣 known-count known-load known-read known-bank known-save known-answer (are .0 .0 .1 .0) (are .1 .1 .0 .0 .1))
+    𝓣 known-count known-load known-read known-copied known-save known-answer (are .0 .0 .1 .0) (are .1 .1 .0 .0 .1))
 
 pub read-head-spec : {M : Type 1} → stated.statement M
 unfolding code.routine tablesOf
@@ -246,6 +246,6 @@ read-head-spec 𝓤 H 𝓜 𝓖 𝓡 =
     (cited 𝓤 H (Counts 𝓤 H (𝓖 .A) (𝓜 .mem) (𝓡 .run)) 𝓜 𝓡 code.env #record-count record-count-def.routine code.calls-station·records·record-count (record-count-thm.met 𝓤 H 𝓜 𝓖 𝓡))
     (cited 𝓤 H (Loads 𝓤 H (𝓖 .A) (𝓜 .mem) (𝓡 .run)) 𝓜 𝓡 code.env #load load-def.routine code.calls-station·records·load (load-thm.met 𝓤 H 𝓜 𝓖 𝓡))
     (cited 𝓤 H (ReadCounted 𝓤 H (𝓖 .A) (𝓜 .mem) (𝓡 .run)) 𝓜 𝓡 code.env #read-counted read-counted-def.routine code.calls-station·entries·counted·read-counted (read-counted-thm.met 𝓤 H 𝓜 𝓖 𝓡))
-    (cited 𝓤 H (BankOf 𝓤 H (𝓖 .A) (𝓜 .mem) (𝓡 .run)) 𝓜 𝓡 code.env #bank-of bank-of-def.routine code.calls-station·entries·counted·bank-of (bank-of-thm.met 𝓤 H 𝓜 𝓖 𝓡))
+    (cited 𝓤 H (BankOf 𝓤 H (𝓖 .A) (𝓜 .mem) (𝓡 .run)) 𝓜 𝓡 code.env #presets-of presets-of-def.routine code.calls-station·entries·counted·presets-of (presets-of-thm.met 𝓤 H 𝓜 𝓖 𝓡))
     (cited 𝓤 H (Save 𝓤 H (𝓖 .A) (𝓜 .mem) (𝓡 .run)) 𝓜 𝓡 code.env #save save-def.routine code.calls-station·records·save (save-thm.met 𝓤 H 𝓜 𝓖 𝓡))
     (cited 𝓤 H (AnswerOf 𝓤 H (𝓖 .A) (𝓜 .mem) (𝓡 .run)) 𝓜 𝓡 code.env #answer-of answer-of-def.routine code.calls-station·entries·counted·answer-of (answer-of-thm.met 𝓤 H 𝓜 𝓖 𝓡)))

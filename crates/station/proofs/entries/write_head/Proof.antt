@@ -44,7 +44,7 @@ use Rattle.station.specs.declared.write.Writing.{Writing}
 use Rattle.station.proofs.write.Writing as Wr
 use Rattle.station.proofs.write.Writing.Laws as Wr′
 use Rattle.station.specs.Records.{loaded}
-use Rattle.station.proofs.records.RecordRow.{Bank, bank-val, bank-tells, bank-makes, bank-typed, head-val, head-tells, head-makes, head-typed}
+use Rattle.station.proofs.records.RecordRow.{Bank, copied-val, copied-tells, copied-makes, copied-typed, head-val, head-tells, head-makes, head-typed}
 use Rattle.station.proofs.records.Loading.{Counts, Loads, to-count, goes-count, to-load, goes-load}
 use Rattle.station.proofs.WalkSteps.{asks, hands-one, full, _&_, none, leaves-fn, meets-by}
 use Rattle.station.proofs.records.record_count as record-count
@@ -117,11 +117,11 @@ module _ {M : Type 1} (𝓤 : URA M) (H : Heap 𝓤) (A : Atoms 𝓤) (W : Given
 
   -- what each callee's triple binds outside
   abbrev to-write : List Preset → WriteCounted 𝓤 H A mem run .Ghost
-  to-write bank = (((κ′, tt), (q′, tt), tt, (length ys, (h, (bank, (x, tt)))), (vint w64 (length ys) ∷ [], (head-val h ∷ [], (bank-val bank ∷ [], (w ∷ [], tt))))), tt)
+  to-write copied = (((κ′, tt), (q′, tt), tt, (length ys, (h, (copied, (x, tt)))), (vint w64 (length ys) ∷ [], (head-val h ∷ [], (copied-val copied ∷ [], (w ∷ [], tt))))), tt)
 
-  goes-write : (bank : List Preset) → length ys < 2 ^ 64 → Is Bank bank (bank-val bank ∷ []) → ent 𝓤 (sep 𝓤 (A .lft κ′ q′) (sem 𝓤 H A OwnOut)) (WriteCounted 𝓤 H A mem run .pre (to-write bank))
-  goes-write bank fits is =
-      qed W (‵ (flft κ′ q′) ∷ ‵ OwnOut ∷ []) ∵ nothing ! $ move ! (2 ∷ 0 ∷ []) $ fjoin ! $ owned ! Bank (Is Bank) (bank-makes 𝓤 H A W) bank _ is $ fjoin ! $ owned ! Hd.the-row (Is Hd.the-row) (head-makes 𝓤 H A) h _ is-head $ fjoin ! $
+  goes-write : (copied : List Preset) → length ys < 2 ^ 64 → Is Bank copied (copied-val copied ∷ []) → ent 𝓤 (sep 𝓤 (A .lft κ′ q′) (sem 𝓤 H A OwnOut)) (WriteCounted 𝓤 H A mem run .pre (to-write copied))
+  goes-write copied fits is =
+      qed W (‵ (flft κ′ q′) ∷ ‵ OwnOut ∷ []) ∵ nothing ! $ move ! (2 ∷ 0 ∷ []) $ fjoin ! $ owned ! Bank (Is Bank) (copied-makes 𝓤 H A W) copied _ is $ fjoin ! $ owned ! Hd.the-row (Is Hd.the-row) (head-makes 𝓤 H A) h _ is-head $ fjoin ! $
       owned ! usize (Is usize) (uint-makes 𝓤 H A W w64) (length ys) _ (refl, fits) $ fjoin ! $ hands-one !
 
   module _ (𝓣 : Tables 𝓤 H) (known-count : Triple 𝓤 (𝓣 .C #record-count) (Counts 𝓤 H A mem run)) (known-load : Triple 𝓤 (𝓣 .C #load) (Loads 𝓤 H A mem run)) (known-write : Triple 𝓤 (𝓣 .C #write-counted) (WriteCounted 𝓤 H A mem run)) where
@@ -144,20 +144,20 @@ module _ {M : Type 1} (𝓤 : URA M) (H : Heap 𝓤) (A : Atoms 𝓤) (W : Given
         -- `load`
         split ! $ move ! (0 ∷ 7 ∷ []) $ use2 W (raw (Loads 𝓤 H A mem run .pre (to-load 𝓤 H A W mem run κ q s))) (goes-load 𝓤 H A W mem run κ q s) $
         -- [what it asks; true; nothing said; the output's token; true; what the output owns; true; _7; …; _6; …; _5; …; _4; …; _3; …; _2; …; _1; …; _0; …]
-        asks ! fm load.ended (load.clauses 𝓤 H A mem run) known-load (to-load 𝓤 H A W mem run κ q s) (‵ (flft κ q) ⊛ ‵ ftrue) refl (λ r ws. r ≡ loaded ys) (λ r ws. refl) bank-val bank-tells
-        (and-then ! (reads ! (from ! (stop !)) (look ! 17 refl)) (no-more !)) (λ bank _ is-bank e-bank. land ! (from ! (stop !)) (init ! 12 refl (bank-typed 𝓤 H A W bank is-bank)) $
+        asks ! fm load.ended (load.clauses 𝓤 H A mem run) known-load (to-load 𝓤 H A W mem run κ q s) (‵ (flft κ q) ⊛ ‵ ftrue) refl (λ r ws. r ≡ loaded ys) (λ r ws. refl) copied-val copied-tells
+        (and-then ! (reads ! (from ! (stop !)) (look ! 17 refl)) (no-more !)) (λ copied _ is-copied e-copied. land ! (from ! (stop !)) (init ! 12 refl (copied-typed 𝓤 H A W copied is-copied)) $
         assigns ! (addr ! (from ! (fld ! refl (hop ! (look-in ! 16 (sub ! 0 refl (whole !))) (stop !))))) (from ! (stop !)) (init ! 10 refl (tt, tt)) $
         assigns ! (agg ! (and-then ! (reads ! (from ! (stop !)) (look ! 10 refl)) (and-then ! (reads ! (from ! (fld ! refl (stop !))) (look-in ! 16 (sub ! 1 refl (whole !)))) (no-more !)))) (from ! (stop !)) (init ! 8 refl (tt, (tt, (record { fits = sized .0 }, tt)))) $
         -- `write_counted`
-        move ! (4 ∷ 6 ∷ []) $ use2 W (raw (WriteCounted 𝓤 H A mem run .pre (to-write bank))) (goes-write bank g is-bank) $
+        move ! (4 ∷ 6 ∷ []) $ use2 W (raw (WriteCounted 𝓤 H A mem run .pre (to-write copied))) (goes-write copied g is-copied) $
         -- [what it asks; the list's token; nothing said; true; nothing said; true; true; _7; …; _6; …; _5; …; _4; …; _3; …; _2; …; _1; …; _0; …]
-        asks ! fm write-counted.ended (write-counted.clauses 𝓤 H A mem run) known-write (to-write bank) (‵ (flft κ′ q′) ⊛ ‵ ftrue) refl (λ r zs. WroteEntry (length ys) h bank out r (zs .1 .1 .1 .0)) (λ r zs. refl) Wr′.lowered (Wr′.lowers .val-is)
+        asks ! fm write-counted.ended (write-counted.clauses 𝓤 H A mem run) known-write (to-write copied) (‵ (flft κ′ q′) ⊛ ‵ ftrue) refl (λ r zs. WroteEntry (length ys) h copied out r (zs .1 .1 .1 .0)) (λ r zs. refl) Wr′.lowered (Wr′.lowers .val-is)
         (and-then ! (reads ! (from ! (stop !)) (look ! 13 refl)) (and-then ! (reads ! (from ! (stop !)) (look ! 19 refl)) (and-then ! (reads ! (from ! (stop !)) (look ! 11 refl)) (and-then ! (reads ! (from ! (stop !)) (look ! 7 refl)) (no-more !))))) (λ r zs is e.
         land ! (from ! (stop !)) (init ! 22 refl (EL.lawful Wr.the-type Wr′.the-laws 𝓤 H A W tt .typed r _ is .0)) $
         returns ! (look ! 22 refl) $ leaves-fn ! 8 (full refl refl & full refl refl & full refl refl & full refl refl & full refl refl & full refl refl & full refl refl & full refl refl & none) $
         -- [the output's token; what is said of its last list; the list's token; …]
         split ! $ move ! (2 ∷ []) $ fsplit ! $ drop ! $ fsplit ! $ drop ! $ fsplit ! $ drop ! $ fsplit ! $ fsplit ! $ move ! (1 ∷ []) $ feqL ! (λ l. move ! (4 ∷ []) $ split ! $ keep ! (0 ∷ 4 ∷ 2 ∷ []) $
-        by ! (exits r (zs .1 .1 .1 .0) is (write-list h ys out (subst (λ (ps : List Preset). WroteEntry (length ys) h ps out r (zs .1 .1 .1 .0)) e-bank e)) l)))))))))))))
+        by ! (exits r (zs .1 .1 .1 .0) is (write-list h ys out (subst (λ (ps : List Preset). WroteEntry (length ys) h ps out r (zs .1 .1 .1 .0)) e-copied e)) l)))))))))))))
 
 meets : {M : Type 1} (𝓤 : URA M) (H : Heap 𝓤) (A : Atoms 𝓤) → Given 𝓤 H A → (mem : Memory → SProp 𝓤) (run : Routine → Fun 𝓤) (𝓣 : Tables 𝓤 H)
     → Triple 𝓤 (𝓣 .C #record-count) (Counts 𝓤 H A mem run) → Triple 𝓤 (𝓣 .C #load) (Loads 𝓤 H A mem run) → Triple 𝓤 (𝓣 .C #write-counted) (WriteCounted 𝓤 H A mem run)

@@ -9,10 +9,11 @@ use mathlib.Core.Path.{_≡_, refl, sym, _∙_}
 use lib.ListN.{length, drop}
 use Rattle.laws.proofs.Tests.{false-of-not, true-of-not}
 use Rattle.station.specs.Decimal.{digitCount}
-use Rattle.station.specs.method.Numeral.{seen, front, frontFrom}
+use Rattle.station.specs.method.Numeral.{front, frontFrom}
 use Rattle.station.proofs.numbers.Decimals.{lead, count-more, count-none, front-none, plain-none, plain-digits, seen-more}
 use Rattle.station.proofs.numbers.number_at.Statement.{statement}
 use Rattle.station.proofs.numbers.number_at.Tie as tie
+use Rattle.station.specs.Jobs.{seen}
 
 abbrev Inv-loop : tie.InvT-loop
 Inv-loop text at value₀ i₀ value i = (value ≤ 65535) × (i + digitCount (drop i text) ≡ at + digitCount (drop at text)) × (seen (frontFrom value (drop i text)) ≡ seen (front (drop at text)))

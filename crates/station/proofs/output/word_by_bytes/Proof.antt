@@ -14,10 +14,10 @@ use Rattle.station.proofs.output.word_by_bytes.Statement.{statement}
 use Rattle.station.proofs.output.word_by_bytes.Tie as tie
 
 abbrev Inv-loop : tie.InvT-loop
-Inv-loop out₀ at text place₀ i₀ out place i = (i ≤ length text) × Left out₀ at text out place (drop i text)
+Inv-loop out₀ at text place₀ i₀ out position i = (i ≤ length text) × Left out₀ at text out position (drop i text)
 
 abbrev μ-loop : tie.MeasureT-loop
-μ-loop out₀ at text place₀ i₀ out place i = length text - i
+μ-loop out₀ at text place₀ i₀ out position i = length text - i
 
 loop-holds : tie.Need-loop-holds Inv-loop μ-loop
 loop-holds c = let a = c .before .before .args in (omega arith, left-all (now (a .out)) (a .at) (now (a .text)))

@@ -1,5 +1,5 @@
--- `load` meets its contract: a walk of its MIR, by hand, with a loop. Each turn reads one record of the list and puts it into the bank, each by a call. What is read through is a `&`, which can be copied: each call of `record_at` gets a copy of what the slice owns.
--- The loop's variant is the place with its facts: it is at most 32, and the bank is one of 32 records.
+-- `load` meets its contract: a walk of its MIR, by hand, with a loop. Each turn reads one record of the list and puts it into the copied, each by a call. What is read through is a `&`, which can be copied: each call of `record_at` gets a copy of what the slice owns.
+-- The loop's variant is the place with its facts: it is at most 32, and the copied is one of 32 records.
 -- Assumes nothing.
 use mathlib.Core.Path.{_≡_, refl, _∙_, ap, subst}
 use Prim.Native.Nat.{ℕ, _+_, _-_, _≤_, _<_, _^_}
@@ -45,8 +45,8 @@ use Rattle.station.specs.declared.types.Preset.{Preset}
 use Rattle.station.proofs.types.Preset as T
 use Rattle.station.proofs.types.Preset.Laws as T′
 use Rattle.station.specs.Records.{loaded}
-use Rattle.station.proofs.records.RecordRow.{val, vals, tells, makes, typed, Bank, bank-mir, bank-val, bank-tells, bank-makes, bank-typed}
-use Rattle.station.proofs.records.BankLoops.{loading, loading-more, loading-all}
+use Rattle.station.proofs.records.RecordRow.{val, vals, tells, makes, typed, Bank, copied-mir, copied-val, copied-tells, copied-makes, copied-typed}
+use Rattle.station.proofs.records.CopiedLoops.{loading, loading-more, loading-all}
 use Rattle.station.proofs.WalkSteps.{asks, hands, hands-one, tests, full, empty, _&_, none, leaves-fn, meets-by}
 use Rattle.station.proofs.records.no_records as no-records
 use Rattle.station.proofs.records.no_records.Symbol as no-records-def
@@ -98,11 +98,11 @@ module _ {M : Type 1} (𝓤 : URA M) (H : Heap 𝓤) (A : Atoms 𝓤) (W : Given
   abbrev Post : Val → SProp 𝓤
   Post = walkOf 𝓤 H A load.ended stayed (load.clauses 𝓤 H A mem run) .post bound
 
-  exits : (r : List Preset) → Is Bank r (bank-val r ∷ []) → r ≡ loaded ys → ent 𝓤 (A .lft κ q) (Post (bank-val r))
+  exits : (r : List Preset) → Is Bank r (copied-val r ∷ []) → r ≡ loaded ys → ent 𝓤 (A .lft κ q) (Post (copied-val r))
   exits r is e =
       qed W (‵ (flft κ q) ∷ []) ∵
-      suffices ! _ (ends-at 𝓤 H A load.ended stayed (load.clauses 𝓤 H A mem run) W bound (bank-val r) r (tt, tt) (tt, tt)) $ says ! e $
-      nothing ! $ move ! (1 ∷ 0 ∷ []) $ join ! $ frame ! $ nothing ! $ nothing ! $ fjoin ! $ frame ! $ owned ! Bank (Is Bank) (bank-makes 𝓤 H A W) r _ is $ done !
+      suffices ! _ (ends-at 𝓤 H A load.ended stayed (load.clauses 𝓤 H A mem run) W bound (copied-val r) r (tt, tt) (tt, tt)) $ says ! e $
+      nothing ! $ move ! (1 ∷ 0 ∷ []) $ join ! $ frame ! $ nothing ! $ nothing ! $ fjoin ! $ frame ! $ owned ! Bank (Is Bank) (copied-makes 𝓤 H A W) r _ is $ done !
 
   -- what each callee's triple binds outside
   abbrev to-none : NoRecords 𝓤 H A mem run .Ghost
@@ -116,11 +116,11 @@ module _ {M : Type 1} (𝓤 : URA M) (H : Heap 𝓤) (A : Atoms 𝓤) (W : Given
       qed W (‵ (flft κ q) ∷ ‵ Own ∷ []) ∵ nothing ! $ owned ! usize (Is usize) (uint-makes 𝓤 H A W w64) i _ (refl, fits) $ fjoin ! $ move ! (2 ∷ 0 ∷ []) $ fjoin ! $ hands-one !
 
   abbrev to-with : List Preset → ℕ → Preset → WithRecord 𝓤 H A mem run .Ghost
-  to-with bank i r = ((tt, tt, tt, (bank, (i, (r, tt))), (bank-val bank ∷ [], (vint w64 i ∷ [], (vals r, tt)))), tt)
+  to-with copied i r = ((tt, tt, tt, (copied, (i, (r, tt))), (copied-val copied ∷ [], (vint w64 i ∷ [], (vals r, tt)))), tt)
 
-  -- the place, that it is at most 32, and that the bank as it is filled so far has 32 records
+  -- the place, that it is at most 32, and that the copied as it is filled so far has 32 records
   abbrev Upto : Type 0
-  Upto = (i : ℕ) × ((i ≤ 32) × Is Bank (loading ys i) (bank-val (loading ys i) ∷ []))
+  Upto = (i : ℕ) × ((i ≤ 32) × Is Bank (loading ys i) (copied-val (loading ys i) ∷ []))
 
   abbrev Nearer : Upto → Upto → Type 0
   Nearer j i = 32 - j .0 < 32 - i .0
@@ -159,12 +159,12 @@ module _ {M : Type 1} (𝓤 : URA M) (H : Heap 𝓤) (A : Atoms 𝓤) (W : Given
       slice = sliceTy (tyRef (named 0) imm (pointee (T.the-row .written)))
 
       abbrev En : Env 𝓤 H
-      En = (bank-mir, l₀) ∷ (slice, l₁) ∷ (bank-mir, l₂) ∷ (tyInt w64, l₃) ∷ (tyBool, l₄) ∷ (T′.mir, l₅) ∷ []
+      En = (copied-mir, l₀) ∷ (slice, l₁) ∷ (copied-mir, l₂) ∷ (tyInt w64, l₃) ∷ (tyBool, l₄) ∷ (T′.mir, l₅) ∷ []
 
       -- the loop's invariant
       abbrev At : Upto → List (Item 𝓤)
       At i = ‵ (flft κ q) ∷ ‵ Own ∷ ‵ (froom T′.mir l₅ 0) ∷ ‵ (fdies T′.mir l₅) ∷ ‵ (froom tyBool l₄ 0) ∷ ‵ (fdies tyBool l₄) ∷ ‵ (fat fullShare (tyInt w64) l₃ 0 (vint w64 (i .0))) ∷ ‵ (fdies (tyInt w64) l₃)
-          ∷ ‵ (fat fullShare bank-mir l₂ 0 (bank-val (loading ys (i .0)))) ∷ ‵ (fdies bank-mir l₂) ∷ ‵ (fat fullShare slice l₁ 0 v) ∷ ‵ (fdies slice l₁) ∷ ‵ (froom bank-mir l₀ 0) ∷ ‵ (fdies bank-mir l₀) ∷ []
+          ∷ ‵ (fat fullShare copied-mir l₂ 0 (copied-val (loading ys (i .0)))) ∷ ‵ (fdies copied-mir l₂) ∷ ‵ (fat fullShare slice l₁ 0 v) ∷ ‵ (fdies slice l₁) ∷ ‵ (froom copied-mir l₀ 0) ∷ ‵ (fdies copied-mir l₀) ∷ []
 
       -- a turn ends nearer to 32, or the loop is left and the rest of the body runs
       abbrev Turned : Upto → Out → SProp 𝓤
@@ -181,18 +181,18 @@ module _ {M : Type 1} (𝓤 : URA M) (H : Heap 𝓤) (A : Atoms 𝓤) (W : Given
           asks ! fm record-at.ended (record-at.clauses 𝓤 H A mem run) known-at (to-at (i .0)) (‵ (flft κ q) ⊛ ‵ ftrue) refl (λ r ws. r ≡ getD ys (i .0) noRecord) (λ r ws. refl) val tells
           (and-then ! (reads ! (from ! (stop !)) (look ! 10 refl)) (and-then ! (reads ! (from ! (stop !)) (look ! 6 refl)) (no-more !))) (λ r ws is e. land ! (from ! (stop !)) (init ! 3 refl (typed r is)) $
           use0 W (raw (WithRecord 𝓤 H A mem run .pre (to-with (loading ys (i .0)) (i .0) r)))
-          (hands 𝓤 H A with-record.ended (with-record.clauses 𝓤 H A mem run) (to-with (loading ys (i .0)) (i .0) r) refl (bank-makes 𝓤 H A W, (uint-makes 𝓤 H A W w64, (makes 𝓤 H A, tt))) (i .1 .1, ((refl, place-fits i), (is, tt)))) $
+          (hands 𝓤 H A with-record.ended (with-record.clauses 𝓤 H A mem run) (to-with (loading ys (i .0)) (i .0) r) refl (copied-makes 𝓤 H A W, (uint-makes 𝓤 H A W w64, (makes 𝓤 H A, tt))) (i .1 .1, ((refl, place-fits i), (is, tt)))) $
           -- [what `with_record` asks; the token; nothing said; what the slice owns; _5; …; _4; …; _3; …; _2; …; _1; …; _0; …]
-          asks ! fm with-record.ended (with-record.clauses 𝓤 H A mem run) known-with (to-with (loading ys (i .0)) (i .0) r) (‵ ftrue) refl (λ r′ ws′. r′ ≡ set (loading ys (i .0)) (i .0) r) (λ r′ ws′. refl) bank-val bank-tells
-          (and-then ! (reads ! (from ! (stop !)) (look ! 10 refl)) (and-then ! (reads ! (from ! (stop !)) (look ! 8 refl)) (and-then ! (reads ! (from ! (stop !)) (look ! 4 refl)) (no-more !)))) (λ r′ ws′ is′ e′. land ! (from ! (stop !)) (store ! 11 refl (bank-typed 𝓤 H A W r′ is′)) $
+          asks ! fm with-record.ended (with-record.clauses 𝓤 H A mem run) known-with (to-with (loading ys (i .0)) (i .0) r) (‵ ftrue) refl (λ r′ ws′. r′ ≡ set (loading ys (i .0)) (i .0) r) (λ r′ ws′. refl) copied-val copied-tells
+          (and-then ! (reads ! (from ! (stop !)) (look ! 10 refl)) (and-then ! (reads ! (from ! (stop !)) (look ! 8 refl)) (and-then ! (reads ! (from ! (stop !)) (look ! 4 refl)) (no-more !)))) (λ r′ ws′ is′ e′. land ! (from ! (stop !)) (store ! 11 refl (copied-typed 𝓤 H A W r′ is′)) $
           -- [true; nothing said; the token; nothing said; what the slice owns; _5; …; _4; …; _3; …; _2; …; _1; …; _0; …]
           let grown : r′ ≡ loading ys (i .0 + 1) = e′ ∙ ap (set (loading ys (i .0)) (i .0)) e ∙ loading-more ys (i .0) (ltb→lt (i .0) 32 less) in
           assigns-last ! (bin ! (reads ! (from ! (stop !)) (look ! 9 refl)) (lit ! tt) (record { fits = next-fits i })) (from ! (stop !)) (store ! 9 refl (tt, record { fits = next-fits i })) $
-          forget ! 5 refl $ forget ! 7 refl $ rewrite ! 11 (λ (l : List Preset). ‵ (fat fullShare bank-mir l₂ 0 (bank-val l))) grown refl $
+          forget ! 5 refl $ forget ! 7 refl $ rewrite ! 11 (λ (l : List Preset). ‵ (fat fullShare copied-mir l₂ 0 (copied-val l))) grown refl $
           move ! (2 ∷ []) $ split ! $ keep ! (0 ∷ 5 ∷ 6 ∷ 7 ∷ 8 ∷ 9 ∷ 10 ∷ 11 ∷ 12 ∷ 13 ∷ 14 ∷ 15 ∷ 16 ∷ 17 ∷ []) $
-          again ! Nearer At i (i .0 + 1, (next-le i less, subst (λ (l : List Preset). Is Bank l (bank-val l ∷ [])) grown is′)) (nearer i less))))
+          again ! Nearer At i (i .0 + 1, (next-le i less, subst (λ (l : List Preset). Is Bank l (copied-val l ∷ [])) grown is′)) (nearer i less))))
           (λ over. exec ! C Λ En mir.t-4 (atRet En Post) $
-          assigns ! (of-opd ! (reads ! (from ! (stop !)) (look ! 8 refl))) (from ! (stop !)) (init ! 12 refl (bank-typed 𝓤 H A W (loading ys (i .0)) (i .1 .1))) $
+          assigns ! (of-opd ! (reads ! (from ! (stop !)) (look ! 8 refl))) (from ! (stop !)) (init ! 12 refl (copied-typed 𝓤 H A W (loading ys (i .0)) (i .1 .1))) $
           returns ! (look ! 12 refl) $ leaves-fn ! 2 (full refl refl & full refl refl & full refl refl & full refl refl & full refl refl & empty refl refl & none) $
           keep ! (0 ∷ []) $ by ! (exits (loading ys (i .0)) (i .1 .1) (ap (loading ys) (at-end i over) ∙ loading-all ys)))
 
@@ -202,11 +202,11 @@ module _ {M : Type 1} (𝓤 : URA M) (H : Heap 𝓤) (A : Atoms 𝓤) (W : Given
         alloc1 ! (λ l₀. alloc1 ! (λ l₁. alloc1 ! (λ l₂. alloc1 ! (λ l₃. alloc1 ! (λ l₄. alloc1 ! (λ l₅. alloc0 ! $ params1 ! $ pass1 ! (init ! 8 refl (tt, (tt, (record { fits = g }, tt)))) $ pass0 ! $
         -- [_5; …; _4; …; _3; …; _2; …; _1; …; _0; …; the token; what presets owns]
         use0 W (raw (NoRecords 𝓤 H A mem run .pre to-none)) (hands 𝓤 H A no-records.ended (no-records.clauses 𝓤 H A mem run) to-none refl tt tt) $
-        asks ! fm no-records.ended (no-records.clauses 𝓤 H A mem run) known-none to-none (‵ ftrue) refl (λ r ws. r ≡ replicate 32 noRecord) (λ r ws. refl) bank-val bank-tells (no-more !) (λ r ws is e.
-        land ! (from ! (stop !)) (init ! 8 refl (bank-typed 𝓤 H A W r is)) $ rewrite ! 8 (λ (l : List Preset). ‵ (fat fullShare bank-mir l₂ 0 (bank-val l))) e refl $
+        asks ! fm no-records.ended (no-records.clauses 𝓤 H A mem run) known-none to-none (‵ ftrue) refl (λ r ws. r ≡ replicate 32 noRecord) (λ r ws. refl) copied-val copied-tells (no-more !) (λ r ws is e.
+        land ! (from ! (stop !)) (init ! 8 refl (copied-typed 𝓤 H A W r is)) $ rewrite ! 8 (λ (l : List Preset). ‵ (fat fullShare copied-mir l₂ 0 (copied-val l))) e refl $
         assigns ! (of-opd ! (lit ! tt)) (from ! (stop !)) (init ! 6 refl (tt, record { fits = lit< tt })) $
         move ! (15 ∷ []) $ fsplit ! $ move ! (16 ∷ []) $ split ! $ keep ! (0 ∷ 2 ∷ 6 ∷ 7 ∷ 8 ∷ 9 ∷ 10 ∷ 11 ∷ 12 ∷ 13 ∷ 14 ∷ 15 ∷ 16 ∷ 17 ∷ []) $
-        first ! $ blocks ! $ loops ! 𝓣 Nearer Nearer-wf (At l₀ l₁ l₂ l₃ l₄ l₅) (turns l₀ l₁ l₂ l₃ l₄ l₅) (0, (lit≤ tt, subst (λ (l : List Preset). Is Bank l (bank-val l ∷ [])) e is)))))))))
+        first ! $ blocks ! $ loops ! 𝓣 Nearer Nearer-wf (At l₀ l₁ l₂ l₃ l₄ l₅) (turns l₀ l₁ l₂ l₃ l₄ l₅) (0, (lit≤ tt, subst (λ (l : List Preset). Is Bank l (copied-val l ∷ [])) e is)))))))))
 
 meets : {M : Type 1} (𝓤 : URA M) (H : Heap 𝓤) (A : Atoms 𝓤) → Given 𝓤 H A → (mem : Memory → SProp 𝓤) (run : Routine → Fun 𝓤) (𝓣 : Tables 𝓤 H)
     → Triple 𝓤 (𝓣 .C #no-records) (NoRecords 𝓤 H A mem run) → Triple 𝓤 (𝓣 .C #record-at) (RecordAt 𝓤 H A mem run) → Triple 𝓤 (𝓣 .C #with-record) (WithRecord 𝓤 H A mem run)

@@ -1,4 +1,4 @@
--- `save` meets its contract: a walk of its MIR, by hand, with a loop. Each turn reads one record of the bank and stores it in the list, each by a call; for the second the slice is reborrowed, for a lifetime that is made for the call, and comes back.
+-- `save` meets its contract: a walk of its MIR, by hand, with a loop. Each turn reads one record of the copied and stores it in the list, each by a call; for the second the slice is reborrowed, for a lifetime that is made for the call, and comes back.
 -- The loop's variant is the place, which is at most the number of records to write.
 -- Assumes nothing.
 use mathlib.Core.Path.{_≡_, refl, sym, _∙_, ap, subst}
@@ -49,17 +49,17 @@ use Rattle.station.proofs.types.Preset as T
 use Rattle.station.proofs.types.Preset.Laws as T′
 use Rattle.station.specs.Records.{saved}
 use Rattle.station.proofs.records.Reborrow.{Reborrowed, reborrows, comes-back}
-use Rattle.station.proofs.records.RecordRow.{val, vals, tells, makes, typed, Bank, bank-mir, bank-val, bank-tells, bank-makes, bank-typed, bank-length}
-use Rattle.station.proofs.records.BankLoops.{saved-none, saved-more, saved-all, length-saved}
+use Rattle.station.proofs.records.RecordRow.{val, vals, tells, makes, typed, Bank, copied-mir, copied-val, copied-tells, copied-makes, copied-typed, copied-length}
+use Rattle.station.proofs.records.CopiedLoops.{saved-none, saved-more, saved-all, length-saved}
 use Rattle.station.proofs.WalkSteps.{asks, hands, hands-one, tests, full, empty, _&_, none, leaves-fn, meets-by}
 use Rattle.station.proofs.records.at_most_32 as at-most-32
 use Rattle.station.proofs.records.at_most_32.Symbol as at-most-32-def
 use Rattle.station.proofs.records.at_most_32.Symbol.{name as #at-most-32}
 use Rattle.station.proofs.records.at_most_32.Met as at-most-32-thm
-use Rattle.station.proofs.records.bank_at as bank-at
-use Rattle.station.proofs.records.bank_at.Symbol as bank-at-def
-use Rattle.station.proofs.records.bank_at.Symbol.{name as #bank-at}
-use Rattle.station.proofs.records.bank_at.Met as bank-at-thm
+use Rattle.station.proofs.records.copied_at as copied-at
+use Rattle.station.proofs.records.copied_at.Symbol as copied-at-def
+use Rattle.station.proofs.records.copied_at.Symbol.{name as #copied-at}
+use Rattle.station.proofs.records.copied_at.Met as copied-at-thm
 use Rattle.station.proofs.records.set_record as set-record
 use Rattle.station.proofs.records.set_record.Symbol as set-record-def
 use Rattle.station.proofs.records.set_record.Symbol.{name as #set-record}
@@ -79,12 +79,12 @@ module _ {M : Type 1} (𝓤 : URA M) (H : Heap 𝓤) (A : Atoms 𝓤) (mem : Mem
   AtMost32 = tripleOf 𝓤 H A at-most-32.signature (at-most-32.spec 𝓤 H A mem run)
 
   abbrev BankAt : Contract 𝓤
-  BankAt = tripleOf 𝓤 H A bank-at.signature (bank-at.spec 𝓤 H A mem run)
+  BankAt = tripleOf 𝓤 H A copied-at.signature (copied-at.spec 𝓤 H A mem run)
 
   abbrev SetRecord : Contract 𝓤
   SetRecord = tripleOf 𝓤 H A set-record.signature (set-record.spec 𝓤 H A mem run)
 
-module _ {M : Type 1} (𝓤 : URA M) (H : Heap 𝓤) (A : Atoms 𝓤) (W : Given 𝓤 H A) (mem : Memory → SProp 𝓤) (run : Routine → Fun 𝓤) (κ : Lft) (q : Share) (b o : ℕ) (γ : GName) (ys bank : List Preset) (n : ℕ) (is-bank : Is Bank bank (bank-val bank ∷ [])) where
+module _ {M : Type 1} (𝓤 : URA M) (H : Heap 𝓤) (A : Atoms 𝓤) (W : Given 𝓤 H A) (mem : Memory → SProp 𝓤) (run : Routine → Fun 𝓤) (κ : Lft) (q : Share) (b o : ℕ) (γ : GName) (ys copied : List Preset) (n : ℕ) (is-copied : Is Bank copied (copied-val copied ∷ [])) where
   -- the borrow, under the name δ at the list l
   abbrev x : GName → List Preset → RefT (List Preset)
   x δ l = record { ptr = (b, o); name = δ; now = l }
@@ -94,11 +94,11 @@ module _ {M : Type 1} (𝓤 : URA M) (H : Heap 𝓤) (A : Atoms 𝓤) (W : Given
   v = sliceVal (b, o) (length ys)
 
   abbrev at : Vals save.signature (κ, tt)
-  at = (v ∷ [], (bank-val bank ∷ [], (vint w64 n ∷ [], tt)))
+  at = (v ∷ [], (copied-val copied ∷ [], (vint w64 n ∷ [], tt)))
 
   -- what the triple binds outside
   abbrev bound : walkOf 𝓤 H A save.ended stayed (save.clauses 𝓤 H A mem run) .Ghost
-  bound = (((κ, tt), (q, tt), tt, (x γ ys, (bank, (n, tt))), at), tt)
+  bound = (((κ, tt), (q, tt), tt, (x γ ys, (copied, (n, tt))), at), tt)
 
   abbrev Post : Val → SProp 𝓤
   Post = walkOf 𝓤 H A save.ended stayed (save.clauses 𝓤 H A mem run) .post bound
@@ -109,12 +109,12 @@ module _ {M : Type 1} (𝓤 : URA M) (H : Heap 𝓤) (A : Atoms 𝓤) (W : Given
 
   -- the list after i turns, and its length
   abbrev after : ℕ → List Preset
-  after i = saved ys bank i
+  after i = saved ys copied i
 
   as-long : (i : ℕ) → length (after i) ≡ length ys
-  as-long = length-saved ys bank (bank-length bank is-bank)
+  as-long = length-saved ys copied (copied-length copied is-copied)
 
-  exits : (i : ℕ) → after i ≡ saved ys bank n → ent 𝓤 (sep 𝓤 (A .lft κ q) (sem 𝓤 H A (Own κ γ (after i)))) (Post vunit)
+  exits : (i : ℕ) → after i ≡ saved ys copied n → ent 𝓤 (sep 𝓤 (A .lft κ q) (sem 𝓤 H A (Own κ γ (after i)))) (Post vunit)
   exits i e =
       qed W (‵ (flft κ q) ∷ ‵ (Own κ γ (after i)) ∷ []) ∵
       suffices ! _ (ends-at 𝓤 H A save.ended stayed (save.clauses 𝓤 H A mem run) W bound vunit tt (after i, (tt, (tt, tt))) (as-long i, (tt, (tt, tt)))) $ says ! e $
@@ -125,7 +125,7 @@ module _ {M : Type 1} (𝓤 : URA M) (H : Heap 𝓤) (A : Atoms 𝓤) (W : Given
   to-most = ((tt, tt, tt, (n, tt), (vint w64 n ∷ [], tt)), tt)
 
   abbrev to-at : ℕ → BankAt 𝓤 H A mem run .Ghost
-  to-at i = ((tt, tt, tt, (bank, (i, tt)), (bank-val bank ∷ [], (vint w64 i ∷ [], tt))), tt)
+  to-at i = ((tt, tt, tt, (copied, (i, tt)), (copied-val copied ∷ [], (vint w64 i ∷ [], tt))), tt)
 
   abbrev to-set : ℕ → GName → ℕ → Preset → SetRecord 𝓤 H A mem run .Ghost
   to-set ν δ i r = (((ν ∷ [], tt), (fullShare, tt), tt, (x δ (after i), (i, (r, tt))), (v ∷ [], (vint w64 i ∷ [], (vals r, tt)))), tt)
@@ -153,8 +153,8 @@ module _ {M : Type 1} (𝓤 : URA M) (H : Heap 𝓤) (A : Atoms 𝓤) (W : Given
     nearer : Holds (ltb (i .0) (min n 32)) → min n 32 - (i .0 + 1) < min n 32 - i .0
     nearer less = omega (arith, ltb→lt (i .0) (min n 32) less)
 
-    in-bank : Holds (ltb (i .0) (min n 32)) → i .0 < 32
-    in-bank less = omega (arith, ltb→lt (i .0) (min n 32) less)
+    in-copied : Holds (ltb (i .0) (min n 32)) → i .0 < 32
+    in-copied less = omega (arith, ltb→lt (i .0) (min n 32) less)
 
     at-end : Holds (not (ltb (i .0) (min n 32))) → i .0 ≡ min n 32
     at-end over = omega (arith, nltb→le (i .0) (min n 32) over, i .1)
@@ -165,7 +165,7 @@ module _ {M : Type 1} (𝓤 : URA M) (H : Heap 𝓤) (A : Atoms 𝓤) (W : Given
     next-fits : i .0 + 1 < 2 ^ 64
     next-fits = omega (arith, i .1)
 
-  module _ (𝓣 : Tables 𝓤 H) (known-most : Triple 𝓤 (𝓣 .C #at-most-32) (AtMost32 𝓤 H A mem run)) (known-at : Triple 𝓤 (𝓣 .C #bank-at) (BankAt 𝓤 H A mem run)) (known-set : Triple 𝓤 (𝓣 .C #set-record) (SetRecord 𝓤 H A mem run)) (sized : Room T.the-row (length ys)) where
+  module _ (𝓣 : Tables 𝓤 H) (known-most : Triple 𝓤 (𝓣 .C #at-most-32) (AtMost32 𝓤 H A mem run)) (known-at : Triple 𝓤 (𝓣 .C #copied-at) (BankAt 𝓤 H A mem run)) (known-set : Triple 𝓤 (𝓣 .C #set-record) (SetRecord 𝓤 H A mem run)) (sized : Room T.the-row (length ys)) where
     abbrev C : Calls 𝓤 H
     C = 𝓣 .C
 
@@ -183,13 +183,13 @@ module _ {M : Type 1} (𝓤 : URA M) (H : Heap 𝓤) (A : Atoms 𝓤) (W : Given
       reborrow = tyRef erased mut (pointee (T.the-row .written))
 
       abbrev En : Env 𝓤 H
-      En = (tyUnit, l₀) ∷ (slice, l₁) ∷ (bank-mir, l₂) ∷ (tyInt w64, l₃) ∷ (tyInt w64, l₄) ∷ (tyInt w64, l₅) ∷ (tyBool, l₆) ∷ (tyUnit, l₇) ∷ (reborrow, l₈) ∷ (sliceTy reborrow, l₉) ∷ (T′.mir, l₁₀) ∷ []
+      En = (tyUnit, l₀) ∷ (slice, l₁) ∷ (copied-mir, l₂) ∷ (tyInt w64, l₃) ∷ (tyInt w64, l₄) ∷ (tyInt w64, l₅) ∷ (tyBool, l₆) ∷ (tyUnit, l₇) ∷ (reborrow, l₈) ∷ (sliceTy reborrow, l₉) ∷ (T′.mir, l₁₀) ∷ []
 
       -- the loop's invariant
       abbrev At : Upto → List (Item 𝓤)
       At i = ‵ (flft κ q) ∷ ‵ (Own κ γ (after (i .0))) ∷ ‵ (froom T′.mir l₁₀ 0) ∷ ‵ (fdies T′.mir l₁₀) ∷ ‵ (froom (sliceTy reborrow) l₉ 0) ∷ ‵ (fdies (sliceTy reborrow) l₉) ∷ ‵ (froom reborrow l₈ 0) ∷ ‵ (fdies reborrow l₈) ∷ ‵ (froom tyUnit l₇ 0) ∷ ‵ (fdies tyUnit l₇)
           ∷ ‵ (froom tyBool l₆ 0) ∷ ‵ (fdies tyBool l₆) ∷ ‵ (fat fullShare (tyInt w64) l₅ 0 (vint w64 (i .0))) ∷ ‵ (fdies (tyInt w64) l₅) ∷ ‵ (fat fullShare (tyInt w64) l₄ 0 (vint w64 (min n 32))) ∷ ‵ (fdies (tyInt w64) l₄)
-          ∷ ‵ (fat fullShare (tyInt w64) l₃ 0 (vint w64 n)) ∷ ‵ (fdies (tyInt w64) l₃) ∷ ‵ (fat fullShare bank-mir l₂ 0 (bank-val bank)) ∷ ‵ (fdies bank-mir l₂) ∷ ‵ (fat fullShare slice l₁ 0 v) ∷ ‵ (fdies slice l₁) ∷ ‵ (froom tyUnit l₀ 0) ∷ ‵ (fdies tyUnit l₀) ∷ []
+          ∷ ‵ (fat fullShare (tyInt w64) l₃ 0 (vint w64 n)) ∷ ‵ (fdies (tyInt w64) l₃) ∷ ‵ (fat fullShare copied-mir l₂ 0 (copied-val copied)) ∷ ‵ (fdies copied-mir l₂) ∷ ‵ (fat fullShare slice l₁ 0 v) ∷ ‵ (fdies slice l₁) ∷ ‵ (froom tyUnit l₀ 0) ∷ ‵ (fdies tyUnit l₀) ∷ []
 
       -- a turn ends nearer to the last place, or the loop is left and the rest of the body runs
       abbrev Turned : Upto → Out → SProp 𝓤
@@ -203,10 +203,10 @@ module _ {M : Type 1} (𝓤 : URA M) (H : Heap 𝓤) (A : Atoms 𝓤) (W : Given
           (λ less.
           assigns ! (addr ! (from ! (fld ! refl (hop ! (look-in ! 20 (sub ! 0 refl (whole !))) (stop !))))) (from ! (stop !)) (init ! 6 refl (tt, tt)) $
           assigns ! (agg ! (and-then ! (load ! (from ! (stop !)) (look ! 6 refl)) (and-then ! (load ! (from ! (fld ! refl (stop !))) (look-in ! 20 (sub ! 1 refl (whole !)))) (no-more !)))) (from ! (stop !)) (init ! 4 refl (tt, (tt, (record { fits = sized .0 }, tt)))) $
-          -- `bank_at`
-          use0 W (raw (BankAt 𝓤 H A mem run .pre (to-at (i .0)))) (hands 𝓤 H A bank-at.ended (bank-at.clauses 𝓤 H A mem run) (to-at (i .0)) refl (bank-makes 𝓤 H A W, (uint-makes 𝓤 H A W w64, tt)) (is-bank, ((refl, place-fits i), tt))) $
-          -- [what `bank_at` asks; the token; what the slice owns; _10; …; _9; …; _8; …; _7; …; _6; …; _5; …; _4; …; _3; …; _2; …; _1; …; _0; …]
-          asks ! fm bank-at.ended (bank-at.clauses 𝓤 H A mem run) known-at (to-at (i .0)) (‵ ftrue) refl (λ r ws. r ≡ getD bank (i .0) noRecord) (λ r ws. refl) val tells
+          -- `copied_at`
+          use0 W (raw (BankAt 𝓤 H A mem run .pre (to-at (i .0)))) (hands 𝓤 H A copied-at.ended (copied-at.clauses 𝓤 H A mem run) (to-at (i .0)) refl (copied-makes 𝓤 H A W, (uint-makes 𝓤 H A W w64, tt)) (is-copied, ((refl, place-fits i), tt))) $
+          -- [what `copied_at` asks; the token; what the slice owns; _10; …; _9; …; _8; …; _7; …; _6; …; _5; …; _4; …; _3; …; _2; …; _1; …; _0; …]
+          asks ! fm copied-at.ended (copied-at.clauses 𝓤 H A mem run) known-at (to-at (i .0)) (‵ ftrue) refl (λ r ws. r ≡ getD copied (i .0) noRecord) (λ r ws. refl) val tells
           (and-then ! (load ! (from ! (stop !)) (look ! 19 refl)) (and-then ! (load ! (from ! (stop !)) (look ! 13 refl)) (no-more !))) (λ r ws is e. land ! (from ! (stop !)) (init ! 4 refl (typed r is)) $
           -- `set_record`: the slice is reborrowed, for a lifetime ν of the call
           lft-new ! tt (λ ν. move ! (4 ∷ 3 ∷ []) $
@@ -219,7 +219,7 @@ module _ {M : Type 1} (𝓤 : URA M) (H : Heap 𝓤) (A : Atoms 𝓤) (W : Given
           move ! (1 ∷ []) $ fsplit ! $ fsplit ! $ move ! (3 ∷ []) $ split ! $ lft-end ! tt $ move ! (0 ∷ 5 ∷ 2 ∷ []) $
           use3 W (later (‵ (Own κ γ (zs .0)) ⊛ ‵ (flft κ q))) (comes-back T.the-row κ (ν ∷ []) q γ b o 𝓤 H A W (named 0) (named 0) (after (i .0)) v δ (zs .0) (ap (sliceVal (b, o)) (sym (as-long (i .0)))) (subst (Room T.the-row) (sym (as-long (i .0))) sized)
           (ap length e′ ∙ length-set (after (i .0)) (i .0) r)) $ await ! tt $ split ! $
-          rewrite ! 0 (λ (l : List Preset). ‵ (Own κ γ l)) (e′ ∙ ap (set (after (i .0)) (i .0)) e ∙ saved-more ys bank (bank-length bank is-bank) (i .0) (in-bank i less)) refl $
+          rewrite ! 0 (λ (l : List Preset). ‵ (Own κ γ l)) (e′ ∙ ap (set (after (i .0)) (i .0)) e ∙ saved-more ys copied (copied-length copied is-copied) (i .0) (in-copied i less)) refl $
           -- [what the slice owns; the token; true; the lengths; …; true; nothing said; _10; …; _9; …; _8; …; _7; …; _6; …; _5; …; _4; …; _3; …; _2; …; _1; …; _0; …]
           assigns-last ! (bin ! (load ! (from ! (stop !)) (look ! 17 refl)) (lit ! tt) (record { fits = next-fits i })) (from ! (stop !)) (store ! 17 refl (tt, record { fits = next-fits i })) $
           forget ! 7 refl $ forget ! 9 refl $ forget ! 11 refl $ forget ! 13 refl $ forget ! 15 refl $
@@ -228,30 +228,30 @@ module _ {M : Type 1} (𝓤 : URA M) (H : Heap 𝓤) (A : Atoms 𝓤) (W : Given
           (λ over. exec ! C Λ En mir.t-4 (atRet En Post) $
           assigns ! (of-opd ! (unit-lit !)) (from ! (stop !)) (init ! 22 refl (tt, tt)) $
           returns ! (look ! 22 refl) $ leaves-fn ! 2 (full refl refl & full refl refl & full refl refl & full refl refl & full refl refl & full refl refl & full refl refl & empty refl refl & empty refl refl & empty refl refl & empty refl refl & none) $
-          keep ! (0 ∷ 1 ∷ []) $ by ! (exits (i .0) (ap after (at-end i over) ∙ saved-all ys bank n)))
+          keep ! (0 ∷ 1 ∷ []) $ by ! (exits (i .0) (ap after (at-end i over) ∙ saved-all ys copied n)))
 
-    walk : n < 2 ^ 64 → ent 𝓤 (onEntry 𝓤 H A save.signature (κ, tt) (q, tt) (x γ ys, (bank, (n, tt))) at) (WpFn 𝓤 H C Λ code.function (v ∷ bank-val bank ∷ vint w64 n ∷ []) Post)
+    walk : n < 2 ^ 64 → ent 𝓤 (onEntry 𝓤 H A save.signature (κ, tt) (q, tt) (x γ ys, (copied, (n, tt))) at) (WpFn 𝓤 H C Λ code.function (v ∷ copied-val copied ∷ vint w64 n ∷ []) Post)
     walk gn =
-        qed W ((‵ (flft κ q) ⊛ ‵ ftrue) ∷ ‵ (owns (MutSlice (named 0) κ T.the-row ∷ Bank ∷ usize ∷ []) (x γ ys, (bank, (n, tt))) at) ∷ []) ∵ enter ! C Λ code.function (v ∷ bank-val bank ∷ vint w64 n ∷ []) _ $
+        qed W ((‵ (flft κ q) ⊛ ‵ ftrue) ∷ ‵ (owns (MutSlice (named 0) κ T.the-row ∷ Bank ∷ usize ∷ []) (x γ ys, (copied, (n, tt))) at) ∷ []) ∵ enter ! C Λ code.function (v ∷ copied-val copied ∷ vint w64 n ∷ []) _ $
         alloc1 ! (λ l₀. alloc1 ! (λ l₁. alloc1 ! (λ l₂. alloc1 ! (λ l₃. alloc1 ! (λ l₄. alloc1 ! (λ l₅. alloc1 ! (λ l₆. alloc1 ! (λ l₇. alloc1 ! (λ l₈. alloc1 ! (λ l₉. alloc1 ! (λ l₁₀. alloc0 ! $ params1 ! $
-        pass1 ! (init ! 18 refl (tt, (tt, (record { fits = sized .0 }, tt)))) $ pass1 ! (init ! 16 refl (bank-typed 𝓤 H A W bank is-bank)) $ pass1 ! (init ! 14 refl (tt, record { fits = gn })) $ pass0 ! $
+        pass1 ! (init ! 18 refl (tt, (tt, (record { fits = sized .0 }, tt)))) $ pass1 ! (init ! 16 refl (copied-typed 𝓤 H A W copied is-copied)) $ pass1 ! (init ! 14 refl (tt, record { fits = gn })) $ pass0 ! $
         -- [_10; …; _9; …; _8; …; _7; …; _6; …; _5; …; _4; …; _3; …; _2; …; _1; …; _0; …; the token; what the parameters own]
         use0 W (raw (AtMost32 𝓤 H A mem run .pre to-most)) (hands 𝓤 H A at-most-32.ended (at-most-32.clauses 𝓤 H A mem run) to-most refl (uint-makes 𝓤 H A W w64, tt) ((refl, gn), tt)) $
         asks ! fm at-most-32.ended (at-most-32.clauses 𝓤 H A mem run) known-most to-most (‵ ftrue) refl (λ r ws. r ≡ min n 32) (λ r ws. refl) (vint w64) (uint-tells w64)
         (and-then ! (load ! (from ! (stop !)) (look ! 15 refl)) (no-more !)) (λ r ws is e. land ! (from ! (stop !)) (init ! 14 refl (tt, record { fits = is .1 })) $
         rewrite ! 14 (λ (m : ℕ). ‵ (fat fullShare (tyInt w64) l₄ 0 (vint w64 m))) e refl $
         assigns ! (of-opd ! (lit ! tt)) (from ! (stop !)) (init ! 12 refl (tt, record { fits = lit< tt })) $
-        move ! (25 ∷ []) $ fsplit ! $ rewrite ! 0 (λ (l : List Preset). ‵ (Own κ γ l)) (saved-none ys bank) refl $ move ! (26 ∷ []) $ split ! $
+        move ! (25 ∷ []) $ fsplit ! $ rewrite ! 0 (λ (l : List Preset). ‵ (Own κ γ l)) (saved-none ys copied) refl $ move ! (26 ∷ []) $ split ! $
         keep ! (0 ∷ 2 ∷ 6 ∷ 7 ∷ 8 ∷ 9 ∷ 10 ∷ 11 ∷ 12 ∷ 13 ∷ 14 ∷ 15 ∷ 16 ∷ 17 ∷ 18 ∷ 19 ∷ 20 ∷ 21 ∷ 22 ∷ 23 ∷ 24 ∷ 25 ∷ 26 ∷ 27 ∷ []) $
         first ! $ blocks ! $ loops ! 𝓣 Nearer Nearer-wf (At l₀ l₁ l₂ l₃ l₄ l₅ l₆ l₇ l₈ l₉ l₁₀) (turns l₀ l₁ l₂ l₃ l₄ l₅ l₆ l₇ l₈ l₉ l₁₀) (0, zero-le)))))))))))))
 
 meets : {M : Type 1} (𝓤 : URA M) (H : Heap 𝓤) (A : Atoms 𝓤) → Given 𝓤 H A → (mem : Memory → SProp 𝓤) (run : Routine → Fun 𝓤) (𝓣 : Tables 𝓤 H)
-    → Triple 𝓤 (𝓣 .C #at-most-32) (AtMost32 𝓤 H A mem run) → Triple 𝓤 (𝓣 .C #bank-at) (BankAt 𝓤 H A mem run) → Triple 𝓤 (𝓣 .C #set-record) (SetRecord 𝓤 H A mem run)
+    → Triple 𝓤 (𝓣 .C #at-most-32) (AtMost32 𝓤 H A mem run) → Triple 𝓤 (𝓣 .C #copied-at) (BankAt 𝓤 H A mem run) → Triple 𝓤 (𝓣 .C #set-record) (SetRecord 𝓤 H A mem run)
     → Meets 𝓤 H A save.signature (WpFn 𝓤 H (𝓣 .C) (𝓣 .Λ) code.function) (save.spec 𝓤 H A mem run)
 meets 𝓤 H A W mem run 𝓣 known-most known-at known-set =
     meets-by 𝓤 H A W save.ended stayed
     (goes-slice 𝓤 H A W 1 0 tt (plain (λ _. T.the-row)), (goes-dropped 𝓤 H A W 1 (arrayOf (plain (λ _. T.the-row)) 32) yes (λ κs x f. refl), (goes-dropped 𝓤 H A W 1 (plain (λ _. usize)) yes (λ κs x f. refl), tt))) (save.clauses 𝓤 H A mem run) code.function 𝓣
-    (λ κs. (slice-vals, ((λ ps. bank-val ps ∷ []), (uint-vals w64, tt)))) (λ κs. (mut-slice-tells (named 0) (κs .0) T.the-row, (bank-tells, (uint-tells w64, tt))))
+    (λ κs. (slice-vals, ((λ ps. copied-val ps ∷ []), (uint-vals w64, tt)))) (λ κs. (mut-slice-tells (named 0) (κs .0) T.the-row, (copied-tells, (uint-tells w64, tt))))
     (λ κs qs bounds a g are. walk 𝓤 H A W mem run (κs .0) (qs .0) (a .0 .ptr .0) (a .0 .ptr .1) (a .0 .name) (a .0 .now) (a .1 .0) (a .1 .1 .0) (are .1 .0) 𝓣 known-most known-at known-set (are .0 .0 .1) (are .1 .1 .0 .1))
 
 pub save-spec : {M : Type 1} → stated.statement M
@@ -261,5 +261,5 @@ save-spec 𝓤 H 𝓜 𝓖 𝓡 =
     (tables 𝓤 H 𝓜 𝓡 code.env .C) (tables 𝓤 H 𝓜 𝓡 code.env .Λ) #save code.function (code.unfolded 𝓤 H 𝓜 𝓡)
     (meets 𝓤 H (𝓖 .A) (givenOf 𝓤 H 𝓜 𝓖) (𝓜 .mem) (𝓡 .run) (tablesOf 𝓤 H 𝓜 (tables 𝓤 H 𝓜 𝓡 code.env))
     (cited 𝓤 H (AtMost32 𝓤 H (𝓖 .A) (𝓜 .mem) (𝓡 .run)) 𝓜 𝓡 code.env #at-most-32 at-most-32-def.routine code.calls-station·records·at-most-32 (at-most-32-thm.met 𝓤 H 𝓜 𝓖 𝓡))
-    (cited 𝓤 H (BankAt 𝓤 H (𝓖 .A) (𝓜 .mem) (𝓡 .run)) 𝓜 𝓡 code.env #bank-at bank-at-def.routine code.calls-station·records·bank-at (bank-at-thm.met 𝓤 H 𝓜 𝓖 𝓡))
+    (cited 𝓤 H (BankAt 𝓤 H (𝓖 .A) (𝓜 .mem) (𝓡 .run)) 𝓜 𝓡 code.env #copied-at copied-at-def.routine code.calls-station·records·copied-at (copied-at-thm.met 𝓤 H 𝓜 𝓖 𝓡))
     (cited 𝓤 H (SetRecord 𝓤 H (𝓖 .A) (𝓜 .mem) (𝓡 .run)) 𝓜 𝓡 code.env #set-record set-record-def.routine code.calls-station·records·set-record (set-record-thm.met 𝓤 H 𝓜 𝓖 𝓡)))

@@ -19,7 +19,7 @@ returns c = search needs
 returns-2 : tie.Need-returns-2
 returns-2 c =
     let a = c .before .args in
-    sym (set-out (a .bank) (a .at) (a .given) (omega (arith, c .before .good .0)))
+    sym (set-out (a .copied) (a .at) (a .given) (omega (arith, c .before .good .0)))
 
 pub with-record-spec : {M : Type 1} → statement M
 with-record-spec = tie.close (tie.spec mul-after array-set-from-after returns returns-2)

@@ -18,10 +18,10 @@ use Rattle.station.proofs.write.busy_lines.Statement.{statement}
 use Rattle.station.proofs.write.busy_lines.Tie as tie
 
 abbrev Inv-loop : tie.InvT-loop
-Inv-loop out₀ at busy place₀ b₀ out place b = (b ≤ 8) × Left out₀ at (join (map print (busyLines 1 busy))) out place (join (map print (busyLines (suc b) (drop b busy))))
+Inv-loop out₀ at busy place₀ b₀ out position b = (b ≤ 8) × Left out₀ at (join (map print (busyLines 1 busy))) out position (join (map print (busyLines (suc b) (drop b busy))))
 
 abbrev μ-loop : tie.MeasureT-loop
-μ-loop out₀ at busy place₀ b₀ out place b = 8 - b
+μ-loop out₀ at busy place₀ b₀ out position b = 8 - b
 
 loop-holds : tie.Need-loop-holds Inv-loop μ-loop
 loop-holds c = let a = c .before .args in (omega arith, left-all (now (a .out)) (a .at) (join (map print (busyLines 1 (a .t3)))))

@@ -18,11 +18,11 @@ use Rattle.station.proofs.write.preset_lines.Statement.{statement}
 use Rattle.station.proofs.write.preset_lines.Tie as tie
 
 abbrev Inv-loop : tie.InvT-loop
-Inv-loop out₀ at count presets place₀ i₀ out place i = (i ≤ count)
-    × Left out₀ at (join (map print (map presetLine (presetsIn count presets)))) out place (join (map print (map presetLine (map presetIn (drop i (take count presets))))))
+Inv-loop out₀ at count presets place₀ i₀ out position i = (i ≤ count)
+    × Left out₀ at (join (map print (map presetLine (presetsIn count presets)))) out position (join (map print (map presetLine (map presetIn (drop i (take count presets))))))
 
 abbrev μ-loop : tie.MeasureT-loop
-μ-loop out₀ at count presets place₀ i₀ out place i = count - i
+μ-loop out₀ at count presets place₀ i₀ out position i = count - i
 
 loop-holds : tie.Need-loop-holds Inv-loop μ-loop
 loop-holds c = let a = c .before .args in (omega arith, left-all (now (a .out)) (a .at) (join (map print (map presetLine (presetsIn (a .count) (a .t3))))))

@@ -7,7 +7,7 @@ use mathlib.Core.Path.{_≡_, refl, sym, ap}
 use mathlib.Core.Bool.{true}
 use lib.Dec.{ltb}
 use denote.Ref.{now}
-use Rattle.station.specs.Head.{taken}
+use Rattle.station.specs.Head.{hasBit}
 use Rattle.station.specs.Writing.{stretches}
 use Rattle.station.specs.method.Runs.{stretchesFrom, bracketsOf, bracketText}
 use Rattle.station.specs.Wrote.{Left}
@@ -18,11 +18,11 @@ use Rattle.station.proofs.write.stretch_list.Statement.{statement}
 use Rattle.station.proofs.write.stretch_list.Tie as tie
 
 abbrev Inv-loop : tie.InvT-loop
-Inv-loop out₀ at mask place₀ from₀ out place from = (from ≤ 64) × (from < 64 → taken mask from ≡ true)
-    × Left out₀ at (bracketsOf (stretches 64 1 mask)) out place (bracketsOf (stretchesFrom (64 - from) mask from))
+Inv-loop out₀ at mask place₀ from₀ out position from = (from ≤ 64) × (from < 64 → hasBit mask from ≡ true)
+    × Left out₀ at (bracketsOf (stretches 64 1 mask)) out position (bracketsOf (stretchesFrom (64 - from) mask from))
 
 abbrev μ-loop : tie.MeasureT-loop
-μ-loop out₀ at mask place₀ from₀ out place from = 64 - from
+μ-loop out₀ at mask place₀ from₀ out position from = 64 - from
 
 next-busy-requires : tie.Need-next-busy-requires Inv-loop μ-loop
 next-busy-requires c κs = search needs

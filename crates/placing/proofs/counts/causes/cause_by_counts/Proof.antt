@@ -1,91 +1,80 @@
--- `cause::cause_by_counts` meets its contract: a law for each answer. Assumes nothing.
+-- `counts::causes::cause_by_counts` meets its contract: a law for each answer. Assumes nothing.
 use native.Mathlib.Omega.{arith}
-use mathlib.Core.Path.{_≡_, sym, _∙_}
+use Prim.Native.Nat.{ℕ, _+_, _≤_}
+use mathlib.Core.Path.{_≡_, sym, _∙_, ap}
 use mathlib.Core.Bool.{false}
+use mathlib.Core.Option.{none}
 use Rattle.laws.proofs.Tests.{none-some, false-of-not, true-of-not}
+use Rattle.station.specs.Head.{Head}
+use Rattle.station.specs.Refusal.{firstOf}
+use Rattle.placing.specs.Table.{Cells}
 use Rattle.placing.specs.Types.{jobsIn}
-use Rattle.placing.specs.Outcomes.{jobsOutside}
-use Rattle.placing.proofs.counts.causes.CallCauses.{cause-many, cause-outside, cause-used, cause-over, cause-seven, cause-passed}
+use Rattle.placing.specs.Outcomes.{jobsOutside, jobCauses}
+use Rattle.placing.specs.Causes.{causeIn, callJobs}
+use Rattle.placing.specs.method.Counts.{CountsOf}
+use Rattle.placing.proofs.counts.causes.CallCauses.{cause-own, cause-seven, cause-passed}
 use borrow.Author.Needs.{needs}
 use Rattle.placing.proofs.counts.causes.cause_by_counts.Statement.{statement}
 use Rattle.placing.proofs.counts.causes.cause_by_counts.Tie as tie
 
--- the jobs are within their limits
-inside : (c : tie.Else2) → jobsOutside (jobsIn (c .before .before .before .args .n) (c .before .before .before .args .jobs)) ≡ false
-inside c = sym (c .before .jobs-outside .ensures) ∙ c .if2 .left
+own-cause-requires : tie.Need-own-cause-requires
+own-cause-requires c κs = search needs
+
+enum-known-r : tie.Need-enum-known-r
+enum-known-r c = search needs
 
 returns : tie.Need-returns
 returns c =
-    let s = c .before in
-    (λ h clock t valid formed right. cause-many (s .args .jobs) (omega (arith, s)) (s .args .n) h clock t (c .if1 .taken), λ q. absurd (none-some (sym q)))
+    let k = c .before .before .before in
+    let a = k .before .args in (
+      λ h clock t valid formed right. cause-own h clock (callJobs (a .n) (a .jobs)) t _
+          (sym (ap causeIn (c .before .r .given .1)) ∙ k .own-cause .ensures .0 h t (right .used) (right .jobs)),
+      λ q. absurd (none-some (sym q)),
+    )
 
-jobs-outside-requires : tie.Need-jobs-outside-requires
-jobs-outside-requires c κs = search needs
+enum-told : tie.Need-enum-told
+enum-told c = search needs
+
+-- the jobs are few enough, and within their limits
+known : (e : tie.After-enum-told) → let a = e .before .before .before .args in (a .admitted + a .n ≤ 64) × (a .n ≤ 8) × (jobsOutside (jobsIn (a .n) (a .jobs)) ≡ false)
+known e = e .before .before .own-cause .ensures .1 (ap causeIn (e .enum-told .given .1))
+
+-- none of the causes of the jobs is met
+own-none : (e : tie.After-enum-told) → let a = e .before .before .before .args in
+    (h : Head) (clock : ℕ) (t : Cells) → CountsOf h clock t (a .used .now) (a .admitted) (a .capacities .now) → none ≡ firstOf (jobCauses h (callJobs (a .n) (a .jobs)) t)
+own-none e h clock t right = sym (ap causeIn (e .enum-told .given .1)) ∙ e .before .before .own-cause .ensures .0 h t (right .used) (right .jobs)
+
+jobs-fit-requires : tie.Need-jobs-fit-requires
+jobs-fit-requires c κs = let k = known c in (k .1, k .2)
 
 returns-2 : tie.Need-returns-2
 returns-2 c =
     let e = c .before .before in
-    let s = e .before in
-    (λ h clock t valid formed right. cause-outside (s .args .jobs) (omega (arith, s)) (s .args .n) h clock t (e .if1 .left) (sym (c .before .jobs-outside .ensures) ∙ c .if2 .taken), λ q. absurd (none-some (sym q)))
-
-jobs-used-requires : tie.Need-jobs-used-requires
-jobs-used-requires c κs = (c .before .before .if1 .left, inside c)
+    let s = e .before .before .before in
+    let a = s .args in (
+      λ h clock t valid formed right. cause-seven (a .jobs) (omega (arith, s)) (a .n) h clock t (own-none e h clock t right) (known e .1)
+          (sym (c .before .jobs-fit .ensures h clock t valid formed (right .capacities)) ∙ false-of-not _ (c .if1 .taken)),
+      λ q. absurd (none-some (sym q)),
+    )
 
 returns-3 : tie.Need-returns-3
 returns-3 c =
     let e = c .before .before in
     let s = e .before .before .before in
-    (λ h clock t valid formed right. cause-used (s .args .jobs) (omega (arith, s)) (s .args .n) h clock t (e .before .before .if1 .left) (inside e) right (sym (c .before .jobs-used .ensures) ∙ c .if3 .taken), λ q. absurd (none-some (sym q)))
-
-sub-if4 : tie.Need-sub-if4
-sub-if4 c = search needs
-
-returns-4 : tie.Need-returns-4
-returns-4 c =
-    let u = c .before in
-    let e = u .before .before in
-    let s = e .before .before .before in (
-      λ h clock t valid formed right. cause-over (s .args .jobs) (omega (arith, s)) (s .args .n) h clock t (e .before .before .if1 .left) (inside e) right (sym (u .before .jobs-used .ensures) ∙ u .if3 .left)
-          (c .if4 .taken),
-      λ q. absurd (none-some (sym q)),
-    )
-
-jobs-fit-requires : tie.Need-jobs-fit-requires
-jobs-fit-requires c κs = let e = c .before .before .before in (e .before .before .if1 .left, inside e)
-
-returns-5 : tie.Need-returns-5
-returns-5 c =
-    let m = c .before .before in
-    let u = m .before in
-    let e = u .before .before in
-    let s = e .before .before .before in (
-      λ h clock t valid formed right. cause-seven (s .args .jobs) (omega (arith, s)) (s .args .n) h clock t (e .before .before .if1 .left) (inside e) right (sym (u .before .jobs-used .ensures) ∙ u .if3 .left)
-          (m .if4 .left) (sym (c .before .jobs-fit .ensures h clock t valid formed (right .capacities)) ∙ false-of-not _ (c .if5 .taken)),
-      λ q. absurd (none-some (sym q)),
-    )
-
-returns-6 : tie.Need-returns-6
-returns-6 c =
-    let m = c .before .before in
-    let u = m .before in
-    let e = u .before .before in
-    let s = e .before .before .before in (
-      λ h clock t valid formed right. cause-passed (s .args .jobs) (omega (arith, s)) (s .args .n) h clock t (e .before .before .if1 .left) (inside e) right (sym (u .before .jobs-used .ensures) ∙ u .if3 .left)
-          (m .if4 .left) (sym (c .before .jobs-fit .ensures h clock t valid formed (right .capacities)) ∙ true-of-not _ (c .if5 .left)),
-      λ q. omega (arith, m .if4 .left, e .before .before .if1 .left),
+    let a = s .args in (
+      λ h clock t valid formed right. cause-passed (a .jobs) (omega (arith, s)) (a .n) h clock t (own-none e h clock t right) (known e .1)
+          (sym (c .before .jobs-fit .ensures h clock t valid formed (right .capacities)) ∙ true-of-not _ (c .if1 .left)),
+      λ q. known e .0,
     )
 
 pub cause-by-counts-spec : {M : Type 1} → statement M
 cause-by-counts-spec =
     tie.close
     (tie.spec
+    own-cause-requires
+    enum-known-r
     returns
-    jobs-outside-requires
-    returns-2
-    jobs-used-requires
-    returns-3
-    sub-if4
-    returns-4
+    enum-told
     jobs-fit-requires
-    returns-5
-    returns-6)
+    returns-2
+    returns-3)

@@ -1,5 +1,6 @@
--- `cause::jobs_fit` meets its contract: one job is held against the capacity for one; several exceed the capacities by nothing exactly if they fit. Assumes nothing.
+-- `counts::causes::jobs_fit` meets its contract: one job is held against the capacity for one; several fit beside nothing unfinished exactly if they fit. Assumes nothing.
 use native.Mathlib.Omega.{arith}
+use Rattle.laws.proofs.Stores.{zeros}
 use Rattle.placing.specs.Types.{jobsIn}
 use Rattle.placing.proofs.counts.causes.CallCauses.{fit-counted, fit-one}
 use borrow.Author.Needs.{needs}
@@ -21,18 +22,13 @@ returns c =
     let s = o .before in
     fit-one (s .args .t2) (omega (arith, s)) (s .args .n) (s .args .capacities .now) (o .if1 .taken)
 
-job-needs-requires : tie.Need-job-needs-requires
-job-needs-requires c κs = search needs
-
-excess-over-requires : tie.Need-excess-over-requires
-excess-over-requires c κs = search needs
+fits-by-counts-requires : tie.Need-fits-by-counts-requires
+fits-by-counts-requires c κs = (c .before .pre .0, c .before .pre .1, (λ r low. omega (arith, zeros 9 r)), omega arith)
 
 returns-2 : tie.Need-returns-2
 returns-2 c =
-    let k = c .before in
-    let s = k .before .before in
-    let a = s .args in
-    fit-counted (jobsIn (a .n) (a .t2)) (a .capacities .now) (k .job-needs .result) (a .n) (k .job-needs .ensures (a .n) (s .pre .0) (s .pre .1)) (c .excess-over .ensures (s .pre .0))
+    let a = c .before .before .args in
+    fit-counted (jobsIn (a .n) (a .t2)) (a .capacities .now) (c .fits-by-counts .ensures)
 
 pub jobs-fit-spec : {M : Type 1} → statement M
 jobs-fit-spec =
@@ -42,6 +38,5 @@ jobs-fit-spec =
     cast-result
     element-copy-out-result
     returns
-    job-needs-requires
-    excess-over-requires
+    fits-by-counts-requires
     returns-2)

@@ -2,10 +2,11 @@
 use Prim.Native.Nat.{_≤_, _-_}
 use native.Mathlib.Omega.{arith}
 use mathlib.Core.Path.{_≡_, refl}
-use Rattle.placing.specs.method.Grants.{filled, freeMask}
+use Rattle.placing.specs.method.Grants.{freeMask}
 use Rattle.placing.proofs.grants.Arrays.{filled-more}
 use Rattle.placing.proofs.grants.free.plan_free.Statement.{statement}
 use Rattle.placing.proofs.grants.free.plan_free.Tie as tie
+use Rattle.placing.specs.Types.{filled}
 
 abbrev Inv-loop : tie.InvT-loop
 Inv-loop slots bridges busy masks₀ s₀ masks s = (s ≤ slots) × (slots ≤ 64) × (bridges ≤ 8) × (masks ≡ filled 64 s (freeMask busy bridges))

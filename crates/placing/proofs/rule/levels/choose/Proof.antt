@@ -15,7 +15,7 @@ use Rattle.placing.proofs.rule.levels.choose.Tie as tie
 
 abbrev Inv-loop : tie.InvT-loop
 Inv-loop levels₀ top d served₀ rest₀ l₀ levels served rest l =
-    (l ≤ top) × (length levels ≡ 256) × ((c : ℕ → ℕ) → Levelled levels₀ c → ((i : ℕ) → i < 32 → c i ≤ top) → Gone c d levels l rest served)
+    (l ≤ top) × (length levels ≡ 65) × ((c : ℕ → ℕ) → Levelled levels₀ c → ((i : ℕ) → i < 64 → c i ≤ top) → Gone c d levels l rest served)
 
 abbrev μ-loop : tie.MeasureT-loop
 μ-loop levels₀ top d served₀ rest₀ l₀ levels served rest l = l
@@ -29,7 +29,7 @@ gone : (f : tie.After-first-of Inv-loop μ-loop)
     let a = f .before .before .before .before .args in
     let next = f .first-of .result .jobs in
     let off = set (l .levels) (l .l) (bitXor (at (l .levels) (l .l)) next) in
-    (n : ℕ → ℕ) → Levelled (a .levels .now) n → ((i : ℕ) → i < 32 → n i ≤ a .top)
+    (n : ℕ → ℕ) → Levelled (a .levels .now) n → ((i : ℕ) → i < 64 → n i ≤ a .top)
     → Gone n (a .d) (set off (l .l - 1) (bitOr (at off (l .l - 1)) next)) (l .l - 1) (f .first-of .result .more) (bitOr (l .served) next)
 gone f n h most =
     let l = f .before .before .before .loop in

@@ -10,7 +10,7 @@ use lib.Dec.{ltb, eqb}
 use lib.Pow.{pow-mono}
 use borrow.Author.Needs.{needs}
 use Rattle.laws.specs.Lists.{at}
-use Rattle.station.specs.Head.{taken}
+use Rattle.station.specs.Head.{hasBit}
 use Rattle.placing.proofs.rule.levels.ByLevel.{standing-none, standing-more, most-more}
 use Rattle.placing.proofs.rule.levels.enter.Statement.{statement}
 use Rattle.placing.proofs.rule.levels.enter.Tie as tie
@@ -18,9 +18,9 @@ use Rattle.placing.proofs.rule.levels.enter.Tie as tie
 abbrev Inv-loop : tie.InvT-loop
 Inv-loop levels₀ needs k top₀ i₀ levels top i =
     (i ≤ k)
-    × (length levels ≡ 256)
-    × ((l j : ℕ) → taken (at levels l) j ≡ (ltb j i && eqb (at needs j) l))
-    × (top < 256)
+    × (length levels ≡ 65)
+    × ((l j : ℕ) → hasBit (at levels l) j ≡ (ltb j i && eqb (at needs j) l))
+    × (top < 65)
     × ((j : ℕ) → j < i → at needs j ≤ top)
 
 abbrev μ-loop : tie.MeasureT-loop
@@ -30,26 +30,20 @@ loop-holds : tie.Need-loop-holds Inv-loop μ-loop
 loop-holds c =
     let a = c .args in (
       omega arith,
-      ap length (c .pre .1),
-      λ l j. ap (λ (t : List ℕ). taken (at t l) j) (c .pre .1) ∙ standing-none (a .needs .now) l j,
+      ap length (c .pre .2),
+      λ l j. ap (λ (t : List ℕ). hasBit (at t l) j) (c .pre .2) ∙ standing-none (a .needs .now) l j,
       omega arith,
       λ j h. absurd (omega arith),
     )
 
-element-copy-out-wide : tie.Need-element-copy-out-wide Inv-loop μ-loop
-element-copy-out-wide c = omega arith
-
-wide-requires : tie.Need-wide-requires Inv-loop μ-loop
-wide-requires c κs = search needs
+level-of-requires : tie.Need-level-of-requires Inv-loop μ-loop
+level-of-requires c κs = let d = c .before in (omega arith, d .before .pre .1 (d .loop .i) (omega arith))
 
 mul-levels : tie.Need-mul-levels Inv-loop μ-loop
 mul-levels c = omega arith
 
 element-copy-out-levels : tie.Need-element-copy-out-levels Inv-loop μ-loop
 element-copy-out-levels c = omega arith
-
-cast-levels : tie.Need-cast-levels Inv-loop μ-loop
-cast-levels c = omega arith
 
 shl-levels : tie.Need-shl-levels Inv-loop μ-loop
 shl-levels c = omega arith
@@ -68,12 +62,12 @@ loop-less c = omega arith
 
 loop-again : tie.Need-loop-again Inv-loop μ-loop
 loop-again c =
-    let level = c .before .before .wide in
-    let l = c .before .before .before .before .before .loop in
-    let n = c .before .before .before .before .before .before .args .needs .now in
-    let few : l .i ≤ 31 = omega arith in
-    let low : 2 ^ l .i ≤ 2 ^ 31 = pow-mono few in
-    let power : 1 * 2 ^ l .i % 4294967296 ≡ 2 ^ l .i = omega arith in
+    let level = c .before .before .level-of in
+    let l = c .before .before .before .before .loop in
+    let n = c .before .before .before .before .before .args .needs .now in
+    let few : l .i ≤ 63 = omega arith in
+    let low : 2 ^ l .i ≤ 2 ^ 63 = pow-mono few in
+    let power : 1 * 2 ^ l .i % 18446744073709551616 ≡ 2 ^ l .i = omega arith in
     let most : (top′ : ℕ) → l .top ≤ top′ → at n (l .i) ≤ top′ → (j : ℕ) → j < l .i + 1 → at n j ≤ top′ =
     λ top′. most-more (at n) (l .i) (l .top) top′ (l .inv .4) in (
       omega arith,
@@ -99,11 +93,9 @@ enter-spec =
     Inv-loop
     μ-loop
     loop-holds
-    element-copy-out-wide
-    wide-requires
+    level-of-requires
     mul-levels
     element-copy-out-levels
-    cast-levels
     shl-levels
     mul-levels-2
     element-write-levels

@@ -5,8 +5,8 @@ use mathlib.Core.Path.{_≡_, _∙_, ap}
 use lib.Bits.{and-le-l, xor-lt, bitXor}
 use borrow.Author.Needs.{needs}
 use Rattle.laws.specs.Sums.{count}
-use Rattle.station.specs.Head.{taken}
-use Rattle.placing.proofs.MaskBits.{ones-taken}
+use Rattle.station.specs.Head.{hasBit}
+use Rattle.placing.proofs.MaskBits.{ones-hasBit}
 use Rattle.placing.proofs.rule.row.RowWritten.{untaken, untaken-none}
 use Rattle.placing.proofs.rule.masks.Sets.{clear-more, clear-some, clear-none, first-all, first-cleared, first-count}
 use Rattle.placing.proofs.rule.levels.first_of.Statement.{statement}
@@ -14,7 +14,7 @@ use Rattle.placing.proofs.rule.levels.first_of.Tie as tie
 
 abbrev Inv-loop : tie.InvT-loop
 Inv-loop mask d rest₀ more₀ rest more =
-    (more ≤ d) × (rest < 2 ^ 32) × ((b : ℕ) → taken rest b ≡ untaken (taken mask) (d - more) b) × (d - more ≤ count 32 (taken mask))
+    (more ≤ d) × (rest < 2 ^ 64) × ((b : ℕ) → hasBit rest b ≡ untaken (hasBit mask) (d - more) b) × (d - more ≤ count 64 (hasBit mask))
 
 abbrev μ-loop : tie.MeasureT-loop
 μ-loop mask d rest₀ more₀ rest more = more
@@ -23,15 +23,15 @@ loop-holds : tie.Need-loop-holds Inv-loop μ-loop
 loop-holds c =
     let a = c .args in
     let none : 0 ≡ a .d - a .d = omega arith in
-    (omega arith, search needs, λ b. untaken-none (taken (a .mask)) b ∙ ap (λ (n : ℕ). untaken (taken (a .mask)) n b) none, omega arith)
+    (omega arith, search needs, λ b. untaken-none (hasBit (a .mask)) b ∙ ap (λ (n : ℕ). untaken (hasBit (a .mask)) n b) none, omega arith)
 
 returns : tie.Need-returns Inv-loop μ-loop
 returns c =
     let l = c .before .before .loop in
     let a = c .before .before .before .args in
-    let short : a .mask < 2 ^ 32 = search needs in
-    let none = clear-none (taken (a .mask)) (a .d - l .more) (l .rest) (l .inv .1) (l .inv .2) (c .if1 .taken) in
-    (short, first-all (a .mask) (a .d) (omega (arith, none)), omega (arith, none, l .inv .0, l .inv .3, ones-taken 32 (a .mask) short))
+    let short : a .mask < 2 ^ 64 = search needs in
+    let none = clear-none (hasBit (a .mask)) (a .d - l .more) (l .rest) (l .inv .1) (l .inv .2) (c .if1 .taken) in
+    (short, first-all (a .mask) (a .d) (omega (arith, none)), omega (arith, none, l .inv .0, l .inv .3, ones-hasBit 64 (a .mask) short))
 
 without-lowest-requires : tie.Need-without-lowest-requires Inv-loop μ-loop
 without-lowest-requires c κs = search needs
@@ -51,8 +51,8 @@ loop-again c =
       omega arith,
       omega (arith, l .inv .1, c .without-lowest .ensures, and-le-l (l .rest) (l .rest - 1)),
       rw (c .without-lowest .ensures) (λ b.
-          clear-more (taken (a .mask)) (a .d - l .more) (l .rest) (l .inv .1) (l .inv .2) b ∙ ap (λ (n : ℕ). untaken (taken (a .mask)) n b) next),
-      omega (arith, next, clear-some (taken (a .mask)) (a .d - l .more) (l .rest) (l .inv .1) (l .inv .2) some),
+          clear-more (hasBit (a .mask)) (a .d - l .more) (l .rest) (l .inv .1) (l .inv .2) b ∙ ap (λ (n : ℕ). untaken (hasBit (a .mask)) n b) next),
+      omega (arith, next, clear-some (hasBit (a .mask)) (a .d - l .more) (l .rest) (l .inv .1) (l .inv .2) some),
     )
 
 returns-2 : tie.Need-returns-2 Inv-loop μ-loop
@@ -60,8 +60,8 @@ returns-2 c =
     let l = c .before .loop in
     let a = c .before .before .args in
     let all : a .d - l .more ≡ a .d = omega arith in
-    let short : bitXor (a .mask) (l .rest) < 2 ^ 32 = xor-lt 32 (a .mask) (l .rest) (search needs) (l .inv .1) in
-    let first : (i : ℕ) → taken (bitXor (a .mask) (l .rest)) i ≡ _ = first-cleared (a .mask) (a .d) (l .rest) (rw all at (l .inv .2)) in
+    let short : bitXor (a .mask) (l .rest) < 2 ^ 64 = xor-lt 64 (a .mask) (l .rest) (search needs) (l .inv .1) in
+    let first : (i : ℕ) → hasBit (bitXor (a .mask) (l .rest)) i ≡ _ = first-cleared (a .mask) (a .d) (l .rest) (rw all at (l .inv .2)) in
     (short, λ i h. first i, omega (arith, all, l .inv .3, first-count (a .mask) (a .d) (bitXor (a .mask) (l .rest)) short (λ i h. first i)))
 
 pub first-of-spec : {M : Type 1} → statement M

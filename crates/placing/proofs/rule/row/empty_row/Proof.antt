@@ -8,20 +8,20 @@ use lib.Bits.{bitAnd, and-le-l, and-le-r}
 use lib.Count.{trailingZeros}
 use lib.Dec.{eqb}
 use borrow.Author.Needs as author
-use Rattle.station.specs.Head.{taken}
-use Rattle.placing.proofs.MaskBits.{taken-zero, lowest, cleared}
+use Rattle.station.specs.Head.{hasBit}
+use Rattle.placing.proofs.MaskBits.{hasBit-zero, lowest, cleared}
 use Rattle.placing.proofs.rule.row.EmptiedRow.{Emptying, emptying-none, emptying-next, emptying-past, emptying-all}
 use Rattle.placing.proofs.rule.row.empty_row.Statement.{statement}
 use Rattle.placing.proofs.rule.row.empty_row.Tie as tie
 
 abbrev Inv-loop : tie.InvT-loop
-Inv-loop table₀ start bridges mask rest₀ table rest = (rest < 256) × Emptying table₀ start bridges (taken mask) table (taken rest)
+Inv-loop table₀ start bridges mask rest₀ table rest = (rest < 256) × Emptying table₀ start bridges (hasBit mask) table (hasBit rest)
 
 abbrev μ-loop : tie.MeasureT-loop
 μ-loop table₀ start bridges mask rest₀ table rest = rest
 
 loop-holds : tie.Need-loop-holds Inv-loop μ-loop
-loop-holds c = let a = c .before .args in (omega arith, emptying-none (a .table .now) (a .start) (a .bridges) (taken (a .mask)))
+loop-holds c = let a = c .before .args in (omega arith, emptying-none (a .table .now) (a .start) (a .bridges) (hasBit (a .mask)))
 
 next-free-requires : tie.Need-next-free-requires Inv-loop μ-loop
 next-free-requires c κs = search author.needs
@@ -53,14 +53,14 @@ loop-again c =
     let some = next .before .loop-test .taken in
     let z = next .next-free .result in
     let at-z : z ≡ trailingZeros 8 (l .rest) = next .next-free .ensures in
-    let here : taken (l .rest) z ≡ true = rw at-z (lowest 8 (l .rest) some (l .inv .0) .set) in
-    let fewer : (b : ℕ) → taken (bitAnd (l .rest) (l .rest - 1)) b ≡ (taken (l .rest) b && not (eqb b z)) = rw at-z (cleared 8 (l .rest) some (l .inv .0)) in (
+    let here : hasBit (l .rest) z ≡ true = rw at-z (lowest 8 (l .rest) some (l .inv .0) .set) in
+    let fewer : (b : ℕ) → hasBit (bitAnd (l .rest) (l .rest - 1)) b ≡ (hasBit (l .rest) b && not (eqb b z)) = rw at-z (cleared 8 (l .rest) some (l .inv .0)) in (
       omega (arith, l .inv .0, c .without-next .ensures, and-le-l (l .rest) (l .rest - 1)),
       rw (c .without-next .ensures)
           (⊎-elim
-          (λ w. rw (w .1) (emptying-next t (a .start) (a .bridges) (taken (a .mask)) (l .table) (taken (l .rest)) (taken (bitAnd (l .rest) (l .rest - 1))) z (l .inv .1) here fewer
+          (λ w. rw (w .1) (emptying-next t (a .start) (a .bridges) (hasBit (a .mask)) (l .table) (hasBit (l .rest)) (hasBit (bitAnd (l .rest) (l .rest - 1))) z (l .inv .1) here fewer
           (w .0 .taken) (omega arith)))
-          (λ w. rw (w .1) (emptying-past t (a .start) (a .bridges) (taken (a .mask)) (l .table) (taken (l .rest)) (taken (bitAnd (l .rest) (l .rest - 1))) z (l .inv .1) here fewer
+          (λ w. rw (w .1) (emptying-past t (a .start) (a .bridges) (hasBit (a .mask)) (l .table) (hasBit (l .rest)) (hasBit (bitAnd (l .rest) (l .rest - 1))) z (l .inv .1) here fewer
           (w .0 .left)))
           (c .before .if1 .came)),
     )
@@ -73,7 +73,7 @@ returns c =
     let l = c .before .loop in
     let a = c .before .before .before .args in
     let end : l .rest ≡ 0 = omega arith in
-    emptying-all (a .table .now) (a .start) (a .bridges) (taken (a .mask)) (l .table) (taken (l .rest)) (l .inv .1) (λ b h. ap (λ (m : ℕ). taken m b) end ∙ taken-zero b)
+    emptying-all (a .table .now) (a .start) (a .bridges) (hasBit (a .mask)) (l .table) (hasBit (l .rest)) (l .inv .1) (λ b h. ap (λ (m : ℕ). hasBit m b) end ∙ hasBit-zero b)
 
 pub empty-row-spec : {M : Type 1} → statement M
 empty-row-spec =

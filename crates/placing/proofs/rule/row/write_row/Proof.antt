@@ -10,7 +10,7 @@ use borrow.Author.Needs as author
 use Rattle.laws.specs.Sums.{bit}
 use Rattle.laws.specs.Lists.{at}
 use Rattle.laws.proofs.Tests.{false-of-not}
-use Rattle.station.specs.Head.{taken}
+use Rattle.station.specs.Head.{hasBit}
 use Rattle.placing.specs.method.Rule.{dueCells}
 use Rattle.placing.proofs.MaskBits.{none-below-lowest}
 use Rattle.placing.proofs.rule.row.RowWritten.{RowFilled, filled-none, filled-all, filled-clean}
@@ -20,13 +20,13 @@ use Rattle.placing.proofs.rule.row.write_row.Tie as tie
 
 abbrev Inv-loop : tie.InvT-loop
 Inv-loop table₀ start bridges mask chosen due₀ early late empties free₀ jobs₀ table due free jobs =
-    (free < 256) × Serving table₀ start bridges chosen (taken mask) (dueCells due₀ early late) due₀ table free jobs due
+    (free < 256) × Serving table₀ start bridges chosen (hasBit mask) (dueCells due₀ early late) due₀ table free jobs due
 
 abbrev μ-loop : tie.MeasureT-loop
 μ-loop table₀ start bridges mask chosen due₀ early late empties free₀ jobs₀ table due free jobs = jobs
 
--- the next job is one of the 32
-job : (c : tie.After-next-job Inv-loop μ-loop) → c .next-job .result < 32
+-- the next job is one of the 64
+job : (c : tie.After-next-job Inv-loop μ-loop) → c .next-job .result < 64
 job c =
     let l = c .before .before .loop in
     omega (arith, c .next-job .ensures, earliest (c .before .before .before .before .args .chosen) (l .jobs) (l .inv .1 .pending) (c .before .loop-test .taken))
@@ -37,8 +37,8 @@ loop-holds c =
     let t = a .table .now in
     let v = dueCells (a .due .now) (a .early .now) (a .late .now) in (
       omega arith,
-      serving-none t (a .start) (a .bridges) (a .chosen) (taken (a .mask)) v (a .due .now) (search author.needs) (c .before .pre .2) t (a .mask)
-          (filled-none t (a .start) (a .bridges) (taken (a .chosen)) (taken (a .mask)) v),
+      serving-none t (a .start) (a .bridges) (a .chosen) (hasBit (a .mask)) v (a .due .now) (search author.needs) (c .before .pre .2) t (a .mask)
+          (filled-none t (a .start) (a .bridges) (hasBit (a .chosen)) (hasBit (a .mask)) v),
     )
 
 next-job-requires : tie.Need-next-job-requires Inv-loop μ-loop
@@ -81,21 +81,21 @@ loop-again c =
     let t = a .table .now in
     let v : ℕ → ℕ = dueCells (a .due .now) (a .early .now) (a .late .now) in
     let some = next .before .loop-test .taken in
-    let here : next .next-job .result ≡ trailingZeros 32 (l .jobs) = next .next-job .ensures in
-    let value : cell .next-cell .result ≡ v (trailingZeros 32 (l .jobs)) =
-    value-of t (a .start) (a .bridges) (a .chosen) (taken (a .mask)) v (a .due .now) (l .table) (l .free) (l .jobs) (l .due) (l .inv .1) some
+    let here : next .next-job .result ≡ trailingZeros 64 (l .jobs) = next .next-job .ensures in
+    let value : cell .next-cell .result ≡ v (trailingZeros 64 (l .jobs)) =
+    value-of t (a .start) (a .bridges) (a .chosen) (hasBit (a .mask)) v (a .due .now) (l .table) (l .free) (l .jobs) (l .due) (l .inv .1) some
     (a .early .now) (a .late .now) (next .next-job .result) here (cell .next-cell .result) (cell .next-cell .ensures .0) in
     ⊎-elim
     (λ w. (
       omega (arith, w .3, w .1 .ensures, and-le-l (l .free) (l .free - 1)),
       rw (w .2, w .3, w .1 .ensures, c .without-lowest .ensures, cell .next-cell .ensures .1, here)
-          (serving-next t (a .start) (a .bridges) (a .chosen) (taken (a .mask)) v (a .due .now) (l .table) (l .free) (l .jobs) (l .due) (l .inv .1) some
+          (serving-next t (a .start) (a .bridges) (a .chosen) (hasBit (a .mask)) v (a .due .now) (l .table) (l .free) (l .jobs) (l .due) (l .inv .1) some
           (l .inv .0) (free .next-free .result) (free .next-free .ensures) (w .0 .taken) (omega arith) (omega arith) (cell .next-cell .result) value),
     ))
     (λ w. (
       omega (arith, w .2),
       rw (w .1, w .2, c .without-lowest .ensures, cell .next-cell .ensures .1, here)
-          (serving-full t (a .start) (a .bridges) (a .chosen) (taken (a .mask)) v (a .due .now) (l .table) (l .free) (l .jobs) (l .due) (l .inv .1) some
+          (serving-full t (a .start) (a .bridges) (a .chosen) (hasBit (a .mask)) v (a .due .now) (l .table) (l .free) (l .jobs) (l .due) (l .inv .1) some
           (λ b h. none-below-lowest 8 (l .free) (l .inv .0) b (let over = w .0 .left in omega (arith, h, over, free .next-free .ensures)))),
     ))
     (joined .if1 .came)
@@ -104,13 +104,13 @@ loop-again c =
 served : (c : tie.After-loop Inv-loop μ-loop)
     → let l = c .before .loop in
     let a = c .before .before .before .args in
-    RowFilled (a .table .now) (a .start) (a .bridges) (taken (a .chosen)) (taken (a .mask)) (dueCells (a .due .now) (a .early .now) (a .late .now)) (l .table) (taken (l .free)) 32
-    × ((i : ℕ) → at (l .due) i ≡ at (a .due .now) i - bit (taken (a .chosen) i))
+    RowFilled (a .table .now) (a .start) (a .bridges) (hasBit (a .chosen)) (hasBit (a .mask)) (dueCells (a .due .now) (a .early .now) (a .late .now)) (l .table) (hasBit (l .free)) 64
+    × ((i : ℕ) → at (l .due) i ≡ at (a .due .now) i - bit (hasBit (a .chosen) i))
 served c =
     let l = c .before .loop in
     let a = c .before .before .before .args in
     let end : l .jobs ≡ 0 = omega arith in
-    serving-all (a .table .now) (a .start) (a .bridges) (a .chosen) (taken (a .mask)) (dueCells (a .due .now) (a .early .now) (a .late .now)) (a .due .now) (l .table) (l .free)
+    serving-all (a .table .now) (a .start) (a .bridges) (a .chosen) (hasBit (a .mask)) (dueCells (a .due .now) (a .early .now) (a .late .now)) (a .due .now) (l .table) (l .free)
     (l .due) (rw end at (l .inv .1))
 
 same-length : tie.Need-same-length Inv-loop μ-loop
@@ -125,8 +125,8 @@ returns c =
       l .inv .1 .long,
       all .1,
       λ clean.
-          filled-clean (a .table .now) (a .start) (a .bridges) (taken (a .chosen)) (taken (a .mask)) (dueCells (a .due .now) (a .early .now) (a .late .now)) 32
-          (l .table) (taken (l .free)) (all .0) (clean (false-of-not _ (c .if2 .taken))),
+          filled-clean (a .table .now) (a .start) (a .bridges) (hasBit (a .chosen)) (hasBit (a .mask)) (dueCells (a .due .now) (a .early .now) (a .late .now)) 64
+          (l .table) (hasBit (l .free)) (all .0) (clean (false-of-not _ (c .if2 .taken))),
     )
 
 empty-row-requires : tie.Need-empty-row-requires Inv-loop μ-loop
@@ -146,8 +146,8 @@ returns-2 c =
       l .inv .1 .long,
       all .1,
       λ clean.
-          filled-all (a .table .now) (a .start) (a .bridges) (taken (a .chosen)) (taken (a .mask)) (dueCells (a .due .now) (a .early .now) (a .late .now)) 32
-          (l .table) (taken (l .free)) (all .0) (emptied .empty-row .last .0) (emptied .empty-row .ensures),
+          filled-all (a .table .now) (a .start) (a .bridges) (hasBit (a .chosen)) (hasBit (a .mask)) (dueCells (a .due .now) (a .early .now) (a .late .now)) 64
+          (l .table) (hasBit (l .free)) (all .0) (emptied .empty-row .last .0) (emptied .empty-row .ensures),
     )
 
 pub write-row-spec : {M : Type 1} → statement M

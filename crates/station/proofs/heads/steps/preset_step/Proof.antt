@@ -9,7 +9,7 @@ use lib.ListN.{set, take}
 use borrow.Author.Needs.{needs}
 use Rattle.laws.proofs.Tests.{true-of-not}
 use Rattle.station.specs.Head as meant
-use Rattle.station.specs.Head.{presetOf, inLimits, hasNumber}
+use Rattle.station.specs.Head.{presetOf, presetInLimits, hasNumber}
 use Rattle.station.specs.Types.{presetIn, withCount}
 use Rattle.station.specs.declared.types.Preset.{Preset}
 use Rattle.station.specs.declared.heads.steps.Stage.the-variants.{Presets}
@@ -34,7 +34,7 @@ returns c =
     c .stop .ensures ∙ preset-refused (a .args .state) (lineOf a) (sym (ap not (c .before .before .preset-in-limits .ensures)) ∙ c .before .if1 .taken)
 
 -- after the first test: the line is within its limits
-fits : (c : tie.Else1) → not (inLimits (lineOf (c .before .before .before .before))) ≡ false
+fits : (c : tie.Else1) → not (presetInLimits (lineOf (c .before .before .before .before))) ≡ false
 fits c = sym (ap not (c .before .preset-in-limits .ensures)) ∙ c .if1 .left
 
 number-used-requires : tie.Need-number-used-requires
@@ -61,7 +61,7 @@ returns-3 c =
     c .stop3 .ensures ∙ preset-many (a .args .state) (lineOf a) (fits (c .before .before .before .before)) (unused (c .before .before)) (omega arith)
 
 record-of-requires : tie.Need-record-of-requires
-record-of-requires c κs = true-of-not (inLimits (lineOf (c .before .before .before .before .before .before .before))) (fits (c .before .before .before))
+record-of-requires c κs = true-of-not (presetInLimits (lineOf (c .before .before .before .before .before .before .before))) (fits (c .before .before .before))
 
 with-record-requires : tie.Need-with-record-requires
 with-record-requires c κs = search needs

@@ -1,6 +1,6 @@
--- Laws of the records that are read into the bank and written back.
+-- Laws of the records that are read into the copied and written back.
 --
--- In order: one more element of a list's front replaced by another's (`front-more`); the bank as a loop fills it (`loading`): after one more turn
+-- In order: one more element of a list's front replaced by another's (`front-more`); the copied as a loop fills it (`loading`): after one more turn
 -- (`loading-more`), after 32 (`loading-all`); the list as a loop writes it, which is `saved` at the number of turns: before the first turn (`saved-none`), its length
 -- (`length-saved`), after one more turn (`saved-more`), after the last (`saved-all`).
 -- Then for callers: a list of 32 records or more, read (`loaded-whole`); records that were read and are written back (`saved-loaded`); records written over
@@ -32,13 +32,13 @@ getD-padded [] (suc n) (suc i) a = getD-padded [] n i a
 getD-padded (x ∷ l) n zero a = refl
 getD-padded (x ∷ l) n (suc i) a = getD-padded l n i a
 
--- ---- the bank, filled from the front
+-- ---- the copied, filled from the front
 
 -- the list, with zeros after it
 abbrev padded : List Preset → List Preset
 padded ps = ps ++ replicate 32 noRecord
 
--- the bank with its first n records filled
+-- the copied with its first n records filled
 abbrev pub loading : List Preset → ℕ → List Preset
 loading ps n = take n (padded ps) ++ drop n (replicate 32 noRecord)
 
@@ -52,30 +52,30 @@ loading-all ps = append-nil (loaded ps)
 
 -- ---- the list, written from the front
 
-pub saved-none : (ps bank : List Preset) → ps ≡ saved ps bank 0
-saved-none ps bank = let e : reach ps 0 ≡ 0 = omega arith in rw e refl
+pub saved-none : (ps copied : List Preset) → ps ≡ saved ps copied 0
+saved-none ps copied = let e : reach ps 0 ≡ 0 = omega arith in rw e refl
 
-module _ (ps bank : List Preset) (full : length bank ≡ 32) where
-  pub length-saved : (n : ℕ) → length (saved ps bank n) ≡ length ps
-  length-saved n = omega (arith, full, length-append (take (reach ps n) bank) (drop (reach ps n) ps), length-take (reach ps n) bank, length-drop (reach ps n) ps)
+module _ (ps copied : List Preset) (full : length copied ≡ 32) where
+  pub length-saved : (n : ℕ) → length (saved ps copied n) ≡ length ps
+  length-saved n = omega (arith, full, length-append (take (reach ps n) copied) (drop (reach ps n) ps), length-take (reach ps n) copied, length-drop (reach ps n) ps)
 
   -- past the list's end nothing is written
-  pub saved-more : (n : ℕ) → n < 32 → set (saved ps bank n) n (getD bank n noRecord) ≡ saved ps bank (n + 1)
+  pub saved-more : (n : ℕ) → n < 32 → set (saved ps copied n) n (getD copied n noRecord) ≡ saved ps copied (n + 1)
   saved-more n l = go (is (ltb n (length ps)))
     where
-      go : Is (ltb n (length ps)) → set (saved ps bank n) n (getD bank n noRecord) ≡ saved ps bank (n + 1)
+      go : Is (ltb n (length ps)) → set (saved ps copied n) n (getD copied n noRecord) ≡ saved ps copied (n + 1)
       go (is-true e) =
           let low = lt-of n (length ps) e in
           let here : reach ps n ≡ n = omega (arith, low, l) in
           let next : reach ps (n + 1) ≡ n + 1 = omega (arith, low, l) in
-          rw (here, next) (front-more ps bank n noRecord low (omega (arith, full, l)))
+          rw (here, next) (front-more ps copied n noRecord low (omega (arith, full, l)))
       go (is-false e) =
           let high = ge-of n (length ps) e in
           let same : reach ps (n + 1) ≡ reach ps n = omega (arith, high, l) in
-          rw same (set-out (saved ps bank n) n (getD bank n noRecord) (omega (arith, high, length-saved n)))
+          rw same (set-out (saved ps copied n) n (getD copied n noRecord) (omega (arith, high, length-saved n)))
 
-pub saved-all : (ps bank : List Preset) (n : ℕ) → saved ps bank (min n 32) ≡ saved ps bank n
-saved-all ps bank n = let e : reach ps (min n 32) ≡ reach ps n = omega arith in rw e refl
+pub saved-all : (ps copied : List Preset) (n : ℕ) → saved ps copied (min n 32) ≡ saved ps copied n
+saved-all ps copied n = let e : reach ps (min n 32) ≡ reach ps n = omega arith in rw e refl
 
 -- ---- for callers
 
