@@ -2,6 +2,7 @@
 use crate::output::around;
 use crate::output::number;
 use crate::output::put;
+use placing::cells::Cell;
 use placing::cells::is_optional;
 use placing::cells::kind_of;
 use placing::cells::number_in;
@@ -20,7 +21,7 @@ const MANDATORY: u16 = 2;
 const OPTIONAL: u16 = 3;
 
 // Whether a cell is lost: it was optional and is so no more.
-fn is_lost(was: u16, cell: u16) -> bool
+fn is_lost(was: Cell, cell: Cell) -> bool
     ensures { λ r. ⌜ r ≡ (isOptional was && not (isOptional cell)) ⌝ }
 {
     if is_optional(was) {
@@ -66,7 +67,7 @@ fn hatching(kind: u16) {
 }
 
 // Writes a cell's number, unless it is 0, which no preset and no job has.
-fn number_of(cell: u16) {
+fn number_of(cell: Cell) {
     let n = number_in(cell);
     if n != 0 {
         number(n);
@@ -74,7 +75,7 @@ fn number_of(cell: u16) {
 }
 
 // Writes what stands in a cell: `-` where it is busy, else the kind's letter and the number; nothing where it is empty.
-fn label(cell: u16) {
+fn label(cell: Cell) {
     match kind_of(cell) {
         EMPTY => {}
         BUSY => put(b"<tspan font-weight=\"bold\">-</tspan>"),
@@ -86,7 +87,7 @@ fn label(cell: u16) {
 }
 
 // Writes a cell's label, on a plate of the kind's colour with this upper edge; the label stands on the line `base`.
-fn labelled(cell: u16, plate: usize, base: usize) {
+fn labelled(cell: Cell, plate: usize, base: usize) {
     if kind_of(cell) == EMPTY {
         return;
     }
@@ -98,7 +99,7 @@ fn labelled(cell: u16, plate: usize, base: usize) {
 }
 
 // Writes the mark of a lost cell: a broken border, and in a corner what stood there, struck out.
-fn lost_mark(was: u16) {
+fn lost_mark(was: Cell) {
     put(
         b"<path d=\"M2 2h40v28h-40z\" fill=\"none\" stroke=\"#000\" stroke-width=\"3\" stroke-dasharray=\"6 3\"/>",
     );
@@ -109,7 +110,7 @@ fn lost_mark(was: u16) {
 }
 
 // Writes a cell with its upper left corner at the origin, marked where it is lost, by what it was before.
-pub fn cell_at_origin(was: u16, cell: u16) {
+pub fn cell_at_origin(was: Cell, cell: Cell) {
     put(b"<rect width=\"44\" height=\"32");
     fill(kind_of(cell));
     hatching(kind_of(cell));

@@ -15,6 +15,7 @@ use lines::last_event;
 use pictures::both_frames;
 use pictures::plan_frame;
 use pictures::refused_text;
+use placing::cells::Cell;
 use station::heads::ReadAnswer;
 use station::heads::read_head_by_value;
 use station::types::Head;
@@ -26,7 +27,7 @@ use station::types::Preset;
 fn draw_frame(
     head: Head,
     presets: [Preset; 32],
-    before: [u16; 512],
+    before: [Cell; 512],
     clock: usize,
     event: &[u8],
     line: usize,

@@ -7,10 +7,11 @@ use crate::layout::row;
 use crate::output::around;
 use crate::output::moved;
 use crate::output::put;
+use placing::cells::Cell;
 ghost use Prim.Native.Nat.{_≤_};
 
 // The cell of a table at a place; an empty one past its end.
-fn cell_of(table: &[u16], place: usize) -> u16 {
+fn cell_of(table: &[Cell], place: usize) -> Cell {
     if place < table.len() {
         return table[place];
     }
@@ -18,14 +19,14 @@ fn cell_of(table: &[u16], place: usize) -> u16 {
 }
 
 // Writes the cell of a slot and a bridge, as it is; `was` is what it was before.
-fn placed_cell(slot: usize, bridge: usize, was: u16, is: u16) {
+fn placed_cell(slot: usize, bridge: usize, was: Cell, is: Cell) {
     moved(column(slot), row(bridge));
     cell_at_origin(was, is);
     put(b"</g>\n");
 }
 
 // Writes the cells of a slot. They stand in the tables, that before and that after, from the place `first` on.
-fn slot_cells(was: &[u16], is: &[u16], slot: usize, bridges: usize, first: usize)
+fn slot_cells(was: &[Cell], is: &[Cell], slot: usize, bridges: usize, first: usize)
     requires { ⌜ (bridges ≤ 8) × (first ≤ 512) ⌝ }
 {
     let mut b = 0;
@@ -44,7 +45,7 @@ fn slot_label(slot: usize)
 }
 
 // Writes the first slots' numbers and their cells on the first bridges.
-fn first_slots(was: &[u16], is: &[u16], slots: usize, bridges: usize)
+fn first_slots(was: &[Cell], is: &[Cell], slots: usize, bridges: usize)
     requires { ⌜ (slots ≤ 64) × (bridges ≤ 8) ⌝ }
 {
     let mut s = 0;
@@ -58,7 +59,7 @@ fn first_slots(was: &[u16], is: &[u16], slots: usize, bridges: usize)
 }
 
 // Writes the slots' numbers and all cells.
-pub fn slots_and_cells(was: &[u16], is: &[u16], slots: usize, bridges: usize) {
+pub fn slots_and_cells(was: &[Cell], is: &[Cell], slots: usize, bridges: usize) {
     first_slots(was, is, drawn_slots(slots), drawn_bridges(bridges));
 }
 
@@ -99,7 +100,7 @@ pub fn clock_mark(clock: usize, bridges: usize) {
 }
 
 // Writes one entry of the legend: a small cell and a word.
-fn legend_entry(x: usize, y: usize, was: u16, cell: u16, word: &[u8]) {
+fn legend_entry(x: usize, y: usize, was: Cell, cell: Cell, word: &[u8]) {
     moved(x, y);
     put(b"<g transform=\"scale(.75)\" text-anchor=\"middle\">");
     cell_at_origin(was, cell);

@@ -9,6 +9,7 @@ use crate::parts::clock_mark;
 use crate::parts::legend;
 use crate::parts::slots_and_cells;
 use frame::types::Answer;
+use placing::cells::Cell;
 use station::causes::cause_number;
 use station::types::Refusal;
 
@@ -51,7 +52,7 @@ fn outcome(answer: Answer, n: usize) {
     match answer {
         Answer::Now(_) => {}
         Answer::Taken(lost) => around(b": ", lost, b" lost"),
-        Answer::Refused(cause) => {
+        Answer::Refused(_, cause) => {
             put(b": <tspan font-family=\"monospace\" font-size=\"12\">");
             refused(n, cause);
             put(b"</tspan>");
@@ -67,7 +68,7 @@ fn event_caption(event: &[u8]) {
 }
 
 // Writes the rest of a frame's picture, after its caption: the frame as it is, with what was there before.
-fn frame(slots: usize, bridges: usize, was: &[u16], is: &[u16], clock: usize, with_lost: bool) {
+fn frame(slots: usize, bridges: usize, was: &[Cell], is: &[Cell], clock: usize, with_lost: bool) {
     put(b"</text>\n<text x=\"68\" y=\"62\" text-anchor=\"end\">slot</text>\n");
     put(b"<g text-anchor=\"end\">\n");
     bridge_labels(bridges);
@@ -80,7 +81,7 @@ fn frame(slots: usize, bridges: usize, was: &[u16], is: &[u16], clock: usize, wi
 }
 
 // Writes the picture of a plan.
-pub fn plan_frame(slots: usize, bridges: usize, table: [u16; 512], clock: usize) {
+pub fn plan_frame(slots: usize, bridges: usize, table: [Cell; 512], clock: usize) {
     let w = width(slots, b"");
     let h = height(bridges);
     begin(w, h);
@@ -93,12 +94,12 @@ pub fn plan_frame(slots: usize, bridges: usize, table: [u16; 512], clock: usize)
 pub fn both_frames(
     slots: usize,
     bridges: usize,
-    before: [u16; 512],
+    before: [Cell; 512],
     clock: usize,
     event: &[u8],
     n: usize,
     answer: Answer,
-    after: [u16; 512],
+    after: [Cell; 512],
     next: usize,
 ) {
     let w = width(slots, event);

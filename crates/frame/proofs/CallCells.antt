@@ -18,13 +18,13 @@ use Rattle.placing.specs.Table.{Cells, cell, Each, kindOf, isCall, callCell, ho
 use Rattle.placing.specs.State.{State}
 use Rattle.placing.specs.Valid.{ValidCall, Change, usable, jobAt}
 use Rattle.placing.specs.Call.{evictedSet}
-use Rattle.placing.specs.Outcomes.{CallAnswer, callOf}
+use Rattle.placing.specs.Outcomes.{Cost, costOf, CallAnswer, callOf}
 use Rattle.placing.specs.Claims.{Running}
-use Rattle.placing.proofs.Theorems.{cells-pos, cells-ext, Good, hasJob-of, changed-call, changed-new-call, changed-job-usable}
+use Rattle.placing.proofs.Theorems.{cells-pos, cells-ext, Good, hasJob-of, changed-call, changed-new-call, new-usable}
 use Rattle.placing.proofs.Theorems.{call-accepted, call-claim}
 use Rattle.frame.specs.Event.{Event, taken, Outcome, eventOf, runOf}
 use Rattle.frame.specs.Demands.{stateAt, answerAt, EventIs, stopped, clockSet, placed, CallAt, CallCells}
-use Rattle.frame.proofs.EventList.{kept-over, run-rest}
+use Rattle.frame.proofs.EventList.{kept-over, run-rest, between}
 use Rattle.frame.proofs.OneEvent.{event-is, call-taken, call-table, event-running}
 use Rattle.frame.proofs.ListedCalls.{running-at, took, valid-at}
 
@@ -58,7 +58,7 @@ calls-twice h t u v w a b = record {
 -- ---- one event
 
 -- an accepted call
-module _ (h : Head) (jobs : List Job) (st : State) (n : ℕ) (taken-is : callOf h jobs st .answer ≡ CallAnswer.taken n) where
+module _ (h : Head) (jobs : List Job) (st : State) (n : Cost) (taken-is : callOf h jobs st .answer ≡ CallAnswer.taken n) where
   abbrev u : List ℕ
   u = callOf h jobs st .after .table
 
@@ -70,7 +70,7 @@ module _ (h : Head) (jobs : List Job) (st : State) (n : ℕ) (taken-is : callOf 
 
   call-calls : KeptCalls h (st .table) (callOf h jobs st .after .table)
   call-calls = record {
-    calls = changed-call h (st .clock) jobs (cell h (st .table)) (cell h u) good changes;
+    calls = changed-call h (st .clock) jobs (cell h (st .table)) (cell h u) (good .high) changes;
     no-more = λ k e s b l m q. old k e s b l m q (is (eqb (cell h u s b) (cell h (st .table) s b)));
   }
     where
@@ -78,7 +78,7 @@ module _ (h : Head) (jobs : List Job) (st : State) (n : ℕ) (taken-is : callOf 
           → Is (eqb (cell h u s b) (cell h (st .table) s b)) → cell h (st .table) s b ≡ callCell k
       old k e s b l m q (is-true p) = sym (eq-of (cell h u s b) (cell h (st .table) s b) p) ∙ q
       old k e s b l m q (is-false p) =
-          let f = changed-new-call h (st .clock) jobs (cell h (st .table)) (cell h u) good changes s b l m
+          let f = changed-new-call h (st .clock) jobs (cell h (st .table)) (cell h u) (good .high) changes s b l m
           (call-cell h (cell h u) (call-claim h jobs st .valid n taken-is .wellFormed) k s b l m q) (ne-of (cell h u s b) (cell h (st .table) s b) p) in
           let number : jobAt jobs (f .0) .number ≡ k = omega (arith, f .2) in
           absurd (clash (sym e ∙ ap (hasJob h (cell h (st .table))) (sym number)
@@ -91,7 +91,7 @@ event-calls h st e = go (eventOf h st e) (event-is h st e) refl
     go _ (stopped r f) q = calls-same h (st .table)
     go _ (clockSet t asks f) q = calls-same h (st .table)
     go _ (placed jobs asks f) q =
-        let n = ones (evictedSet h (st .clock) jobs (cell h (st .table))) in
+        let n = costOf h jobs st in
         subst (KeptCalls h (st .table)) (sym (call-table h st e jobs asks) ∙ ap (λ (o : Outcome). o .after .table) q)
         (call-calls h jobs st n (call-taken h st e jobs asks n (ap (λ (o : Outcome). o .answer) q)))
 
@@ -104,7 +104,7 @@ run-calls h st es run =
 
 -- ---- the cells of a call's jobs
 
-module _ (h : Head) (st : State) (es : List Event) (start : Running h st) (j : ℕ) (jobs : List Job) (here : CallAt es j jobs) (n : ℕ) (q : answerAt h st es j ≡ taken n) where
+module _ (h : Head) (st : State) (es : List Event) (start : Running h st) (j : ℕ) (jobs : List Job) (here : CallAt es j jobs) (n : Cost) (q : answerAt h st es j ≡ taken n) where
   -- the state that the call gets, and the table that it leaves
   abbrev before : State
   before = stateAt h st es j
@@ -142,12 +142,14 @@ module _ (h : Head) (st : State) (es : List Event) (start : Running h st) (j : �
 
     later-at : Each h (λ s b. cell h (runOf h st es .after .table) s b ≡ v → usable (before .clock) s ≡ true)
     later-at s b m k e =
-        changed-job-usable h (before .clock) jobs (cell h (before .table)) (cell h left) (call-accepted h jobs before n (took h st es start j jobs here n q) .1)
-        (valid .changes) (running-at h st es start j .wellFormed .cells) i l s b m k (kept-since .no-more (jobAt jobs i .number) has s b m k e)
+        new-usable h (before .clock) jobs (cell h (before .table)) (cell h left) (call-accepted h jobs before n (took h st es start j jobs here n q) .1)
+        (valid .changes) i l s b m k (kept-since .no-more (jobAt jobs i .number) has s b m k e)
 
 pub call-cells : (h : Head) (st : State) (es : List Event) → Running h st → CallCells h st es
 call-cells h st es start = record {
   jobs-exact = λ j jobs n here. exact-at h st es start j jobs here n;
   jobs-later = λ j jobs n here. later-at h st es start j jobs here n;
+  calls-between = λ i j l m.
+      between h (Running h) (λ x y. KeptCalls h (x .table) (y .table)) (event-running h) (run-calls h) st es start i j l m .calls;
   calls-stay = run-calls h st es start .calls;
 }

@@ -8,33 +8,29 @@ use mathlib.Core.Path.{_≡_, refl, sym, _∙_, ap, subst}
 use mathlib.Core.List.{List}
 use lib.ListN.{length}
 use lib.Dec.{ltb, lit≤}
-use Rattle.laws.specs.Lists.{at}
-use Rattle.laws.specs.Placement.{left, lrtf, SlotRule}
 use Rattle.laws.proofs.Tests.{Is, is-true, is-false, is}
 use Rattle.laws.proofs.Comparisons.{lt-of, ge-of}
-use Rattle.laws.proofs.Placement.{chosen-rule}
 use Rattle.station.specs.Head.{Head}
-use Rattle.station.specs.Refusal.{firstOf}
+use Rattle.station.specs.Refusal.{firstOf, mandatoryNotFeasible}
 use Rattle.station.specs.Reading.{Reading, headOf}
 use Rattle.station.proofs.Theorems.{read-means, read-valid, read-written, written-read, yielded}
 use Rattle.placing.specs.Table.{cell, cells}
 use Rattle.placing.specs.State.{State, stateOf}
 use Rattle.placing.specs.Valid.{firstClock}
-use Rattle.placing.specs.Plan.{planFreeCount, needs, planned}
-use Rattle.placing.specs.Call.{lengths, callFreeCount}
+use Rattle.placing.specs.Plan.{planned}
 use Rattle.placing.specs.Outcomes.{PlanAnswer, planOf}
 use Rattle.placing.specs.Claims.{Running}
-use Rattle.placing.proofs.Theorems.{cell-written, length-lengths, needs-long, grants-rule}
+use Rattle.placing.proofs.Theorems.{cell-written, grants-rule}
 use Rattle.placing.proofs.Theorems.{clock-is}
 use Rattle.placing.proofs.Theorems.{plan-granted, plan-claim, plan-only-five, nine-counts-all, call-claim}
 use Rattle.frame.specs.Event.{Event, refused, Run, runOf}
 use Rattle.frame.specs.Text.{Whole, ran, startOf, eventsOf, wholeWithPlan, wholeWithHead, wholeOf}
 use Rattle.frame.specs.Demands.{stateAt, eventAt, answerAt, cellsAt, Ends, too-long, too-short, head-refused, is-not-planned, is-planned}
-use Rattle.frame.specs.Demands.{EventIs, Demand1, Demand2, OneText, Demand3}
-use Rattle.frame.proofs.EventList.{answered, outcome-at, answer-at, state-end}
-use Rattle.frame.proofs.OneEvent.{event-is, now-asks, event-never-eleven, seven-asks}
-use Rattle.frame.proofs.KeptCells.{run-kept, run-counted, run-clock}
-use Rattle.frame.proofs.ListedCalls.{running-at, callClaim, seven-at, took, rule-at, valid-at, reported-at, least-at}
+use Rattle.frame.specs.Demands.{EventIs, Demand1, Demand2, OneText, Between, Demand3}
+use Rattle.frame.proofs.EventList.{answered, outcome-at, answer-at, state-next, state-end, between}
+use Rattle.frame.proofs.OneEvent.{event-is, refused-no-line, refused-leaves, clock-leaves, now-asks, event-never-eleven, seven-asks, event-running}
+use Rattle.frame.proofs.KeptCells.{Kept, Still, run-kept, run-still, run-counted, run-clock}
+use Rattle.frame.proofs.ListedCalls.{running-at, callClaim, seven-at, took, rule-at, slots-at, valid-at, lost-at, reported-at, least-at}
 use Rattle.frame.proofs.CallCells.{call-cells}
 
 -- ---- demand 1
@@ -48,9 +44,10 @@ text-ends text t = go (is (ltb 32768 (length text))) (is (ltb (length t) 512))
         → Ends text t (wholeWithPlan text h n a (planOf h t .table))
     with-plan h n long e (PlanAnswer.granted g) q =
         is-planned long (read-means text (Reading.accepted h n) e) q (plan-claim h t .valid g q)
-    with-plan h n long e (PlanAnswer.refused r) q =
-        let five = plan-only-five h t r long (read-valid text h n e) q in
-        rw five (is-not-planned long (read-means text (Reading.accepted h n) e) (plan-claim h t .five .0 (q ∙ ap PlanAnswer.refused five) .2))
+    with-plan h n long e (PlanAnswer.refused k r) q =
+        let five : PlanAnswer.refused k r ≡ PlanAnswer.refused 0 mandatoryNotFeasible = plan-only-five h t r long (read-valid text h n e) q in
+        let only : r ≡ mandatoryNotFeasible = cc in
+        rw only (is-not-planned long (read-means text (Reading.accepted h n) e) (plan-claim h t .five .0 (q ∙ five) .2))
 
     with-head : length text ≤ 32768 → 512 ≤ length t → (x : Reading) → headOf text ≡ x → Ends text t (wholeWithHead text x t)
     with-head short long (Reading.accepted h n) e = with-plan h n long e (planOf h t .answer) refl
@@ -108,16 +105,9 @@ demand-1 text t = record {
 pub demand-2 : (h : Head) (t : List ℕ) → Demand2 h t
 demand-2 h t = record {
   grants = λ g q. let p = plan-granted h t g q in rw (p .0) (grants-rule (p .1));
-  slots = λ g q s.
-      let p = plan-granted h t g q in
-      let x = planFreeCount h in
-      subst (λ (k : ℕ). SlotRule k (at (left (needs h) x s)) (x s) (λ i. lrtf (needs h) x i s)) (needs-long h (p .2) (p .1))
-      (chosen-rule (length (needs h)) (at (left (needs h) x s)) (x s));
+  slots = plan-claim h t .slots;
   cells = λ g q. rw (plan-granted h t g q .4) (cell-written h (planned h) t);
-  call-slots = λ clock jobs s.
-      let x = callFreeCount h clock jobs (cell h t) in
-      subst (λ (k : ℕ). SlotRule k (at (left (lengths jobs) x s)) (x s) (λ i. lrtf (lengths jobs) x i s))
-      (length-lengths jobs) (chosen-rule (length (lengths jobs)) (at (left (lengths jobs) x s)) (x s));
+  call-slots = λ clock jobs. call-claim h jobs (stateOf t clock) .slots;
   call-cells = λ clock jobs n q. call-claim h jobs (stateOf t clock) .rule n q;
 }
 
@@ -127,6 +117,11 @@ one-text = record { read-written = read-written; written-read = written-read; va
 
 -- ---- demand 3
 
+-- what stays from the start of any list to its end, stays between any two moments of one
+kept-between : (h : Head) (st : State) (es : List Event) → Running h st
+    → Between es (λ i j. Kept h (stateAt h st es i .table) (stateAt h st es j .table))
+kept-between h st es start = between h (Running h) (λ x y. Kept h (x .table) (y .table)) (event-running h) (run-kept h) st es start
+
 -- Demand 3, over any list of events from any start that 11 lets pass.
 pub demand-3 : (h : Head) (st : State) (es : List Event) → Running h st → Demand3 h st es
 demand-3 h st es start = record {
@@ -135,10 +130,14 @@ demand-3 h st es start = record {
   seven-is-a-call = λ j l q.
       let w = seven-asks h (stateAt h st es j) (eventAt es j) (running-at h st es start j) (sym (answer-at h st es j l) ∙ q) in
       (w .0, record { inside = l; asks = w .1 });
+  capacity = λ j jobs here. callClaim h st es start j jobs here .capacity;
+  excess = λ j jobs n here q. callClaim h st es start j jobs here .excess n (took h st es start j jobs here n q);
   evicted = λ j jobs n here q. callClaim h st es start j jobs here .evicted n (took h st es start j jobs here n q);
   order = λ j jobs n here q. callClaim h st es start j jobs here .order n (took h st es start j jobs here n q);
   rule = λ j jobs n here. rule-at h st es start j jobs here n;
+  slots = λ j jobs n here. slots-at h st es start j jobs here n;
   valid = λ j jobs n here. valid-at h st es start j jobs here n;
+  lost-cells = λ j jobs n here. lost-at h st es start j jobs here n;
   reported = λ j jobs n here. reported-at h st es start j jobs here n;
   least = λ j jobs n here. least-at h st es start j jobs here n;
   nine-counts-all = λ j l u. let r = running-at h st es start j in nine-counts-all h (cellsAt h st es j) u (r .valid) (r .wellFormed .cells);
@@ -147,8 +146,16 @@ demand-3 h st es start = record {
   running = subst (Running h) (state-end h st es) (running-at h st es start (length es));
   clock = run-clock h st es;
   clock-asked = λ j t l q. now-asks h (stateAt h st es j) (eventAt es j) t (sym (answer-at h st es j l) ∙ q);
+  no-line = λ j n r l q. refused-no-line h (stateAt h st es j) (eventAt es j) n r (sym (answer-at h st es j l) ∙ q);
+  refused-leaves = λ j r l q.
+      state-next h st es j l ∙ refused-leaves h (stateAt h st es j) (eventAt es j) r (sym (answer-at h st es j l) ∙ q);
+  clock-leaves = λ j t l q.
+      ap (λ (x : State). x .table) (state-next h st es j l) ∙ clock-leaves h (stateAt h st es j) (eventAt es j) t (sym (answer-at h st es j l) ∙ q);
   fixed = run-kept h st es start .fixed;
+  fixed-between = λ i j l m. kept-between h st es start i j l m .fixed;
   optional = run-kept h st es start .optional;
+  optional-between = λ i j l m. kept-between h st es start i j l m .optional;
+  still = λ i j l m. between h (Running h) (Still h) (event-running h) (run-still h) st es start i j l m .cells;
   conserved = run-counted h st es;
   calls = call-cells h st es start;
   past = run-kept h st es start .past;

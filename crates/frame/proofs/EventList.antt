@@ -1,17 +1,19 @@
 -- A list of events, taken apart: what each event gets and answers, in terms of `eventOf` alone.
 --
 -- In order: one answer for each event (`answered`); what event j comes to (`outcome-at`, `answer-at`, `state-next`), and the whole list
--- (`state-end`); what each event keeps, of each state (`kept-at`) and of the whole list (`kept-over`); the list from event j on (`run-rest`).
+-- (`state-end`); what each event keeps, of each state (`kept-at`) and of the whole list (`kept-over`); the list from event j on (`run-rest`); what every
+-- list does, between any two moments of one (`run-between`, `between`).
 -- Assumes nothing.
-use Prim.Native.Nat.{ℕ, zero, suc, _<_}
+use Prim.Native.Nat.{ℕ, zero, suc, _≤_, _<_}
 use native.Mathlib.Nat.{le-of-suc-le-suc, not-suc-le-zero}
-use mathlib.Core.Path.{_≡_, refl, ap}
+use mathlib.Core.Path.{_≡_, refl, sym, _∙_, ap, subst}
 use mathlib.Core.List.{List, [], _∷_}
-use lib.ListN.{length, drop}
+use lib.ListN.{length, take, drop}
+use lib.Seq.{take-take}
 use Rattle.station.specs.Head.{Head}
 use Rattle.placing.specs.State.{State}
 use Rattle.frame.specs.Event.{Event, Outcome, eventOf, runOf}
-use Rattle.frame.specs.Demands.{stateAt, eventAt, answerAt}
+use Rattle.frame.specs.Demands.{stateAt, eventAt, answerAt, Between}
 
 -- every event has one answer
 pub answered : (h : Head) (st : State) (es : List Event) → length (runOf h st es .answers) ≡ length es
@@ -68,3 +70,15 @@ run-rest h st [] zero = refl
 run-rest h st [] (suc j) = refl
 run-rest h st (e ∷ es) zero = refl
 run-rest h st (e ∷ es) (suc j) = run-rest h (eventOf h st e .after) es j
+
+-- the events between two moments of the list lead from the one state to the other
+run-between : (h : Head) (st : State) (es : List Event) (i j : ℕ) → i ≤ j → runOf h (stateAt h st es i) (drop i (take j es)) .after ≡ stateAt h st es j
+run-between h st es i j l =
+    ap (λ (x : List Event). runOf h (runOf h st x .after) (drop i (take j es)) .after) (sym (take-take i j es l)) ∙ run-rest h st (take j es) i
+
+-- What every list of events does to what it gets, holds between any two moments of a list.
+pub between : (h : Head) (P : State → Type 0) (R : State → State → Type 0) → ((st : State) (e : Event) → P st → P (eventOf h st e .after))
+    → ((st : State) (es : List Event) → P st → R st (runOf h st es .after))
+    → (st : State) (es : List Event) → P st → Between es (λ i j. R (stateAt h st es i) (stateAt h st es j))
+between h P R keep all st es p i j l m =
+    subst (R (stateAt h st es i)) (run-between h st es i j l) (all (stateAt h st es i) (drop i (take j es)) (kept-at h P keep st es p i))

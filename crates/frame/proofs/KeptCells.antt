@@ -2,28 +2,29 @@
 -- (Call cells: CallCells.antt.)
 --
 -- In order: what is kept (`Kept`), of nothing done (`kept-same`), of two steps in turn (`kept-twice`), of one event (`event-kept`), of a list
--- (`run-kept`); the optional cells counted (`run-counted`); the clock (`run-clock`).
+-- (`run-kept`); the same of the cells in slots gone by (`run-still`); the optional cells counted (`run-counted`); the clock (`run-clock`).
 -- Assumes nothing.
-use Prim.Native.Nat.{ℕ, _+_}
+use Prim.Native.Nat.{ℕ, _+_, _≤_}
 use native.Mathlib.Omega.{arith}
 use mathlib.Core.Path.{_≡_, refl, sym, _∙_, ap, subst}
-use mathlib.Core.Bool.{true, _||_}
+use mathlib.Core.Bool.{true, false, _||_}
 use mathlib.Core.List.{List, [], _∷_}
 use Rattle.laws.specs.Eviction.{ones}
+use Rattle.laws.proofs.Comparisons.{gt-of, leb-no}
 use Rattle.station.specs.Head.{Head, Job}
 use Rattle.placing.specs.Table.{cell, Each, isBusy, isMandatory, isOptional}
 use Rattle.placing.specs.State.{State}
-use Rattle.placing.specs.Valid.{Change, optionalCount}
+use Rattle.placing.specs.Valid.{Change, usable, firstSlot, optionalCount}
 use Rattle.placing.specs.Call.{evictedSet}
-use Rattle.placing.specs.Outcomes.{CallAnswer, callOf}
+use Rattle.placing.specs.Outcomes.{Cost, costOf, CallAnswer, callOf}
 use Rattle.placing.specs.Claims.{Running, SamePast}
 use Rattle.placing.proofs.Theorems.{Good}
-use Rattle.placing.proofs.Theorems.{changed-keeps-fixed, changed-kept-fixed, changed-optional, changed-optional-count}
+use Rattle.placing.proofs.Theorems.{change-gone, changed-keeps-fixed, changed-kept-fixed, changed-optional, changed-optional-count}
 use Rattle.placing.proofs.Theorems.{call-accepted, call-claim}
-use Rattle.frame.specs.Event.{Event, Answer, now, taken, refused, Outcome, eventOf, runOf}
+use Rattle.frame.specs.Event.{Event, Answer, clockNow, taken, refused, Outcome, eventOf, runOf}
 use Rattle.frame.specs.Demands.{EventIs, stopped, clockSet, placed, SameFixed, lastClock, totalTaken}
 use Rattle.frame.proofs.EventList.{kept-over}
-use Rattle.frame.proofs.OneEvent.{event-is, call-taken, call-table, event-running}
+use Rattle.frame.proofs.OneEvent.{event-is, clock-set, call-taken, call-table, event-running}
 
 pub record Kept (h : Head) (t u : List ℕ) : Type 0 where
   pub fixed : Each h (λ s b. SameFixed (cell h t s b) (cell h u s b))
@@ -54,7 +55,7 @@ kept-twice h t u v a b = record {
 -- ---- one event
 
 -- an accepted call
-module _ (h : Head) (jobs : List Job) (st : State) (n : ℕ) (took : callOf h jobs st .answer ≡ CallAnswer.taken n) where
+module _ (h : Head) (jobs : List Job) (st : State) (n : Cost) (took : callOf h jobs st .answer ≡ CallAnswer.taken n) where
   abbrev u : List ℕ
   u = callOf h jobs st .after .table
 
@@ -67,16 +68,16 @@ module _ (h : Head) (jobs : List Job) (st : State) (n : ℕ) (took : callOf h jo
   call-kept : Kept h (st .table) (callOf h jobs st .after .table)
   call-kept = record {
     fixed = λ s b l m. record {
-      from-first = changed-keeps-fixed h (st .clock) jobs (cell h (st .table)) (cell h u) good changes s b l m;
-      from-second = changed-kept-fixed h (st .clock) jobs (cell h (st .table)) (cell h u) good changes s b l m;
+      from-first = changed-keeps-fixed h (st .clock) jobs (cell h (st .table)) (cell h u) (good .high) changes s b l m;
+      from-second = changed-kept-fixed h (st .clock) jobs (cell h (st .table)) (cell h u) (good .high) changes s b l m;
     };
-    optional = changed-optional h (st .clock) jobs (cell h (st .table)) (cell h u) good changes;
+    optional = changed-optional h (st .clock) jobs (cell h (st .table)) (cell h u) (good .high) changes;
     past = call-claim h jobs st .past;
   }
 
-  call-counted : optionalCount h (cell h (st .table)) ≡ optionalCount h (cell h (callOf h jobs st .after .table)) + n
+  call-counted : optionalCount h (cell h (st .table)) ≡ optionalCount h (cell h (callOf h jobs st .after .table)) + n .count
   call-counted =
-      omega (arith, changed-optional-count h (st .clock) jobs (cell h (st .table)) (cell h u) good changes, call-claim h jobs st .reported n took)
+      omega (arith, changed-optional-count h (st .clock) jobs (cell h (st .table)) (cell h u) (good .high) changes, call-claim h jobs st .reported n took)
 
 pub event-kept : (h : Head) (st : State) (e : Event) → Kept h (st .table) (eventOf h st e .after .table)
 event-kept h st e = go (eventOf h st e) (event-is h st e) refl
@@ -85,7 +86,7 @@ event-kept h st e = go (eventOf h st e) (event-is h st e) refl
     go _ (stopped r f) q = kept-same h (st .table)
     go _ (clockSet t asks f) q = kept-same h (st .table)
     go _ (placed jobs asks f) q =
-        let n = ones (evictedSet h (st .clock) jobs (cell h (st .table))) in
+        let n = costOf h jobs st in
         subst (Kept h (st .table)) (sym (call-table h st e jobs asks) ∙ ap (λ (o : Outcome). o .after .table) q)
         (call-kept h jobs st n (call-taken h st e jobs asks n (ap (λ (o : Outcome). o .answer) q)))
 
@@ -96,13 +97,50 @@ run-kept h st es run =
     kept-over h (Running h) (λ x y. Kept h (x .table) (y .table)) (λ x p. kept-same h (x .table))
     (λ x y z p q. kept-twice h (x .table) (y .table) (z .table)) (event-running h) (λ x e p. event-kept h x e) st es run
 
+-- ---- slots gone by
+
+-- from one state to a later one the clock does not fall, and every cell of a slot gone by stays
+pub record Still (h : Head) (x y : State) : Type 0 where
+  pub later : x .clock ≤ y .clock
+  pub cells : Each h (λ s b. usable (x .clock) s ≡ false → cell h (y .table) s b ≡ cell h (x .table) s b)
+
+still-same : (h : Head) (x : State) → Still h x x
+still-same h x = record { later = omega arith; cells = λ s b l m e. refl }
+
+still-twice : (h : Head) (x y z : State) → Still h x y → Still h y z → Still h x z
+still-twice h x y z a b = record {
+  later = omega (arith, a .later, b .later);
+  cells = λ s c l m e.
+      b .cells s c l m (leb-no (firstSlot (y .clock)) s (omega (arith, gt-of (firstSlot (x .clock)) s e, a .later))) ∙ a .cells s c l m e;
+}
+
+event-still : (h : Head) (st : State) (e : Event) → Still h st (eventOf h st e .after)
+event-still h st e = go (eventOf h st e) (event-is h st e) refl
+  where
+    go : (o : Outcome) → EventIs h st e o → eventOf h st e ≡ o → Still h st (o .after)
+    go _ (stopped r f) q = still-same h st
+    go _ (clockSet t asks f) q = record { later = clock-set h st e t asks f .1; cells = λ s b l m g. refl }
+    go _ (placed jobs asks f) q =
+        let n = costOf h jobs st in
+        let table = sym (call-table h st e jobs asks) ∙ ap (λ (o : Outcome). o .after .table) q in
+        let took = call-taken h st e jobs asks n (ap (λ (o : Outcome). o .answer) q) in
+        record {
+          later = omega arith;
+          cells = subst (λ (u : List ℕ). Each h (λ s b. usable (st .clock) s ≡ false → cell h u s b ≡ cell h (st .table) s b)) table
+              (λ s b l m. change-gone (st .clock) jobs s (cell h (st .table) s b) (cell h (callOf h jobs st .after .table) s b) (changes h jobs st n took s b l m));
+        }
+
+pub run-still : (h : Head) (st : State) (es : List Event) → Running h st → Still h st (runOf h st es .after)
+run-still h st es run =
+    kept-over h (Running h) (Still h) (λ x p. still-same h x) (λ x y z p q. still-twice h x y z) (event-running h) (λ x e p. event-still h x e) st es run
+
 -- ---- the optional cells, counted
 
 totalTaken-cons : (a : Answer) (answers : List Answer) → totalTaken (a ∷ answers) ≡ totalTaken (a ∷ []) + totalTaken answers
 unfolding totalTaken
-totalTaken-cons (now t) answers = omega arith
+totalTaken-cons (clockNow t) answers = omega arith
 totalTaken-cons (taken n) answers = omega arith
-totalTaken-cons (refused r) answers = omega arith
+totalTaken-cons (refused _ r) answers = omega arith
 
 -- before an event there are those after it and those reported
 event-counted : (h : Head) (st : State) (e : Event)
@@ -115,7 +153,7 @@ event-counted h st e = go (eventOf h st e) (event-is h st e) refl
     go _ (stopped r f) q = omega arith
     go _ (clockSet t asks f) q = omega arith
     go _ (placed jobs asks f) q =
-        let n = ones (evictedSet h (st .clock) jobs (cell h (st .table))) in
+        let n = costOf h jobs st in
         omega (
           arith,
           call-counted h jobs st n (call-taken h st e jobs asks n (ap (λ (o : Outcome). o .answer) q)),
@@ -138,9 +176,9 @@ run-counted h st (e ∷ es) =
 
 lastClock-cons : (c : ℕ) (a : Answer) (answers : List Answer) → lastClock c (a ∷ answers) ≡ lastClock (lastClock c (a ∷ [])) answers
 unfolding lastClock
-lastClock-cons c (now t) answers = refl
+lastClock-cons c (clockNow t) answers = refl
 lastClock-cons c (taken n) answers = refl
-lastClock-cons c (refused r) answers = refl
+lastClock-cons c (refused _ r) answers = refl
 
 event-clock : (h : Head) (st : State) (e : Event) → eventOf h st e .after .clock ≡ lastClock (st .clock) (eventOf h st e .answer ∷ [])
 unfolding lastClock

@@ -1,10 +1,10 @@
 -- One event on a running frame: what it can come to, and what it keeps.
 --
--- In order: the cases of an event (`event-is`); a call as an event is the call of the layer below (`event-call`), which leaves the clock (`call-clock`); who asked for an answer
+-- In order: the cases of an event (`event-is`, `clock-set`); what a refusal and a clock leave (`refused-no-line`, `refused-leaves`, `clock-leaves`); a call as an event is the call of the layer below (`event-call`), which leaves the clock (`call-clock`); who asked for an answer
 -- (`taken-asks`, `now-asks`); the refusals that an event's own causes never give (`event-never-eleven`, `seven-asks`); the frame is a running one
 -- afterwards (`event-running`).
 -- Assumes nothing.
-use Prim.Native.Nat.{ℕ, _<_}
+use Prim.Native.Nat.{ℕ, _≤_, _<_}
 use native.Mathlib.Omega.{arith}
 use mathlib.Core.Path.{_≡_, refl, sym, _∙_, ap}
 use mathlib.Core.Logic.{_⊎_, inl, inr, _↔_}
@@ -14,6 +14,7 @@ use mathlib.Core.List.{List, [], _∷_, _++_}
 use lib.Dec.{ltb, lit<}
 use Rattle.laws.specs.Eviction.{ones}
 use Rattle.laws.proofs.Tests.{clash, true-of-not}
+use Rattle.laws.proofs.Comparisons.{ge-of}
 use Rattle.station.specs.Head.{Head, Job}
 use Rattle.station.specs.Refusal.{Refusal, numberOf, noForm, outOfLimits, outOfPlace, numberUsed, clockBack, callNotFeasible, tooMany, notWellFormed}
 use Rattle.station.specs.Refusal.{try, firstOf}
@@ -23,10 +24,10 @@ use Rattle.placing.specs.Table.{cell}
 use Rattle.placing.specs.Valid.{clockIn}
 use Rattle.placing.specs.State.{State}
 use Rattle.placing.specs.Call.{evictedSet, called, callFits}
-use Rattle.placing.specs.Outcomes.{written, frameCauses, jobsOutside, jobsUsed, jobsTooMany, callCauses, CallAnswer, CallOutcome, callOf}
+use Rattle.placing.specs.Outcomes.{Cost, costOf, written, frameCauses, jobsOutside, jobsUsed, jobsTooMany, callCauses, CallAnswer, CallOutcome, callOf}
 use Rattle.placing.specs.Claims.{Running}
 use Rattle.placing.proofs.Theorems.{of-running, call-claim}
-use Rattle.frame.specs.Event.{Event, line, clock, call, Asked, setClock, place, fault, asked, askedByForm, now, taken, refused}
+use Rattle.frame.specs.Event.{Event, line, clock, call, Asked, setClock, placeJobs, fault, asked, askedByForm, clockNow, taken, refused}
 use Rattle.frame.specs.Event.{Outcome, ownCauses, askedCauses, eventCauses, carriedOut, comesTo, eventOf}
 use Rattle.frame.specs.Event.{answerOf}
 use Rattle.frame.specs.Demands.{EventIs, stopped, clockSet, placed}
@@ -42,7 +43,7 @@ event-is h st e = go (firstOf (eventCauses h st e)) refl
 
     done : (a : Asked) → asked e ≡ a → firstOf (eventCauses h st e) ≡ none → EventIs h st e (carriedOut h st a)
     done (setClock t) q n = clockSet t q n
-    done (place jobs) q n = placed jobs q n
+    done (placeJobs jobs) q n = placed jobs q n
     done (fault r) q n =
         let tried : firstOf (frameCauses h st ++ (some r ∷ [])) ≡ none =
         ap (λ (a : Asked). firstOf (askedCauses h st a)) (sym q) ∙ n in
@@ -53,10 +54,42 @@ event-is h st e = go (firstOf (eventCauses h st e)) refl
     go none n = rw (n, comesTo) (done (asked e) refl n)
     go (some r) n = rw (n, comesTo) (stopped r n)
 
--- a clock for which no cause holds is one of the frame's
-clock-range : (h : Head) (st : State) (t : ℕ) → firstOf (ownCauses h st (setClock t)) ≡ none → clockIn (h .slots) t ≡ true
+-- a clock for which no cause holds is one of the frame's, and not below the present one
+pub clock-set : (h : Head) (st : State) (e : Event) (t : ℕ) → asked e ≡ setClock t → firstOf (eventCauses h st e) ≡ none
+    → (clockIn (h .slots) t ≡ true) × (st .clock ≤ t)
 unfolding ownCauses
-clock-range h st t e = true-of-not _ (first-none outOfLimits (not (clockIn (h .slots) t)) _ e .0)
+clock-set h st e t asks f =
+    let first = append-left-none (frameCauses h st) (ownCauses h st (asked e)) f in
+    let own : firstOf (ownCauses h st (setClock t)) ≡ none =
+    ap (λ (a : Asked). firstOf (ownCauses h st a)) (sym asks) ∙ sym (append-none (frameCauses h st) (ownCauses h st (asked e)) first) ∙ f in
+    let limits = first-none outOfLimits (not (clockIn (h .slots) t)) (try clockBack (ltb t (st .clock)) ∷ []) own in
+    (true-of-not _ (limits .0), ge-of t (st .clock) (first-none clockBack (ltb t (st .clock)) [] (limits .1) .0))
+
+-- an event by itself has no line
+pub refused-no-line : (h : Head) (st : State) (e : Event) (n : ℕ) (r : Refusal) → eventOf h st e .answer ≡ refused n r → n ≡ 0
+refused-no-line h st e n r q = go (eventOf h st e) (event-is h st e) q
+  where
+    go : (o : Outcome) → EventIs h st e o → o .answer ≡ refused n r → n ≡ 0
+    go _ (stopped c f) p = cc
+    go _ (clockSet t asks f) p = cc
+    go _ (placed jobs asks f) p = cc
+
+-- a refused event changes nothing, and a clock leaves the table
+pub refused-leaves : (h : Head) (st : State) (e : Event) (r : Refusal) → eventOf h st e .answer ≡ refused 0 r → eventOf h st e .after ≡ st
+refused-leaves h st e r q = go (eventOf h st e) (event-is h st e) q
+  where
+    go : (o : Outcome) → EventIs h st e o → o .answer ≡ refused 0 r → o .after ≡ st
+    go _ (stopped c f) p = refl
+    go _ (clockSet t f g) p = cc
+    go _ (placed jobs f g) p = cc
+
+pub clock-leaves : (h : Head) (st : State) (e : Event) (t : ℕ) → eventOf h st e .answer ≡ clockNow t → eventOf h st e .after .table ≡ st .table
+clock-leaves h st e t q = go (eventOf h st e) (event-is h st e) q
+  where
+    go : (o : Outcome) → EventIs h st e o → o .answer ≡ clockNow t → o .after .table ≡ st .table
+    go _ (stopped r f) p = refl
+    go _ (clockSet c f g) p = refl
+    go _ (placed jobs f g) p = cc
 
 -- ---- a call as an event
 
@@ -65,13 +98,13 @@ abbrev pub outcomeOf : CallOutcome → Outcome
 outcomeOf o = record { answer = answerOf (o .answer); after = o .after }
 
 -- an event that asks for a call comes to what `callOf` says
-pub event-call : (h : Head) (st : State) (e : Event) (jobs : List Job) → asked e ≡ place jobs
+pub event-call : (h : Head) (st : State) (e : Event) (jobs : List Job) → asked e ≡ placeJobs jobs
     → eventOf h st e ≡ outcomeOf (callOf h jobs st)
 unfolding comesTo carriedOut ownCauses callOf
-event-call h st e jobs q = ap (comesTo h st) q ∙ go (firstOf (askedCauses h st (place jobs))) refl
+event-call h st e jobs q = ap (comesTo h st) q ∙ go (firstOf (askedCauses h st (placeJobs jobs))) refl
   where
-    go : (o : Option Refusal) → firstOf (askedCauses h st (place jobs)) ≡ o
-        → comesTo h st (place jobs) ≡ outcomeOf (callOf h jobs st)
+    go : (o : Option Refusal) → firstOf (askedCauses h st (placeJobs jobs)) ≡ o
+        → comesTo h st (placeJobs jobs) ≡ outcomeOf (callOf h jobs st)
     go none n = rw (n, comesTo, callOf) refl
     go (some r) n = rw (n, comesTo, callOf) refl
 
@@ -84,23 +117,23 @@ call-clock h jobs st = go (firstOf (frameCauses h st ++ callCauses h (st .clock)
     go none n = rw (n, callOf) refl
     go (some r) n = rw (n, callOf) refl
 
-answerOf-taken : (a : CallAnswer) (n : ℕ) → answerOf a ≡ taken n → a ≡ CallAnswer.taken n
+answerOf-taken : (a : CallAnswer) (n : Cost) → answerOf a ≡ taken n → a ≡ CallAnswer.taken n
 answerOf-taken (CallAnswer.taken m) n q = cc
-answerOf-taken (CallAnswer.refused r) n q = cc
+answerOf-taken (CallAnswer.refused _ r) n q = cc
 
-answerOf-refused : (a : CallAnswer) (r : Refusal) → answerOf a ≡ refused r → a ≡ CallAnswer.refused r
+answerOf-refused : (a : CallAnswer) (r : Refusal) → answerOf a ≡ refused 0 r → a ≡ CallAnswer.refused 0 r
 answerOf-refused (CallAnswer.taken m) r q = cc
-answerOf-refused (CallAnswer.refused s) r q = cc
+answerOf-refused (CallAnswer.refused _ s) r q = cc
 
-module _ (h : Head) (st : State) (e : Event) (jobs : List Job) (asks : asked e ≡ place jobs) where
+module _ (h : Head) (st : State) (e : Event) (jobs : List Job) (asks : asked e ≡ placeJobs jobs) where
   same-answer : eventOf h st e .answer ≡ answerOf (callOf h jobs st .answer)
   same-answer = ap (λ (o : Outcome). o .answer) (event-call h st e jobs asks)
 
-  pub call-taken : (n : ℕ) → eventOf h st e .answer ≡ taken n → callOf h jobs st .answer ≡ CallAnswer.taken n
+  pub call-taken : (n : Cost) → eventOf h st e .answer ≡ taken n → callOf h jobs st .answer ≡ CallAnswer.taken n
   call-taken n q = answerOf-taken (callOf h jobs st .answer) n (sym same-answer ∙ q)
 
   -- and a refusal is the call's
-  pub call-refused : (r : Refusal) → (eventOf h st e .answer ≡ refused r) ↔ (callOf h jobs st .answer ≡ CallAnswer.refused r)
+  pub call-refused : (r : Refusal) → (eventOf h st e .answer ≡ refused 0 r) ↔ (callOf h jobs st .answer ≡ CallAnswer.refused 0 r)
   call-refused r = (
     λ q. answerOf-refused (callOf h jobs st .answer) r (sym same-answer ∙ q),
     λ q. same-answer ∙ ap answerOf q,
@@ -110,19 +143,19 @@ module _ (h : Head) (st : State) (e : Event) (jobs : List Job) (asks : asked e �
   call-table = ap (λ (o : Outcome). o .after .table) (event-call h st e jobs asks)
 
 -- an answer of cells taken is a call's
-pub taken-asks : (h : Head) (st : State) (e : Event) (n : ℕ) → eventOf h st e .answer ≡ taken n → (jobs : List Job) × (asked e ≡ place jobs)
+pub taken-asks : (h : Head) (st : State) (e : Event) (n : Cost) → eventOf h st e .answer ≡ taken n → (jobs : List Job) × (asked e ≡ placeJobs jobs)
 taken-asks h st e n q = go (eventOf h st e) (event-is h st e) q
   where
-    go : (o : Outcome) → EventIs h st e o → o .answer ≡ taken n → (jobs : List Job) × (asked e ≡ place jobs)
+    go : (o : Outcome) → EventIs h st e o → o .answer ≡ taken n → (jobs : List Job) × (asked e ≡ placeJobs jobs)
     go _ (stopped r f) p = absurd (let z : _≡_ {A = ℕ} 0 1 = cc in omega arith)
     go _ (clockSet t f g) p = absurd (let z : _≡_ {A = ℕ} 0 1 = cc in omega arith)
     go _ (placed jobs f g) p = (jobs, f)
 
 -- an answer of the clock is that of an event that asks for it
-pub now-asks : (h : Head) (st : State) (e : Event) (t : ℕ) → eventOf h st e .answer ≡ now t → asked e ≡ setClock t
+pub now-asks : (h : Head) (st : State) (e : Event) (t : ℕ) → eventOf h st e .answer ≡ clockNow t → asked e ≡ setClock t
 now-asks h st e t q = go (eventOf h st e) (event-is h st e) q
   where
-    go : (o : Outcome) → EventIs h st e o → o .answer ≡ now t → asked e ≡ setClock t
+    go : (o : Outcome) → EventIs h st e o → o .answer ≡ clockNow t → asked e ≡ setClock t
     go _ (stopped r f) p = cc
     go _ (clockSet c f g) p = let same : c ≡ t = cc in f ∙ ap setClock same
     go _ (placed jobs f g) p = cc
@@ -158,7 +191,7 @@ fault-never h st e r q asks above = skip r true (λ p. go p (fault-is e r asks))
     go p (inr s) = omega (arith, ap numberOf s)
 
 -- a call gives 2, 4, 9 or 7
-place-never : (h : Head) (st : State) (jobs : List Job) (q : Refusal) → 9 < numberOf q → Never q (ownCauses h st (place jobs))
+place-never : (h : Head) (st : State) (jobs : List Job) (q : Refusal) → 9 < numberOf q → Never q (ownCauses h st (placeJobs jobs))
 unfolding ownCauses
 place-never h st jobs q above =
     skip outOfLimits (jobsOutside jobs) (λ p. omega arith) (skip numberUsed (jobsUsed h (cell h (st .table)) jobs) (λ p. omega arith)
@@ -166,11 +199,11 @@ place-never h st jobs q above =
     (skip callNotFeasible (not (callFits h (st .clock) jobs (cell h (st .table)))) (λ p. omega arith) end)))
 
 -- on a running frame a refusal is one of the event's own causes
-own-refusal : (h : Head) (st : State) (e : Event) (r : Refusal) → Running h st → eventOf h st e .answer ≡ refused r
+own-refusal : (h : Head) (st : State) (e : Event) (r : Refusal) → Running h st → eventOf h st e .answer ≡ refused 0 r
     → firstOf (ownCauses h st (asked e)) ≡ some r
 own-refusal h st e r run q = go (eventOf h st e) (event-is h st e) q
   where
-    go : (o : Outcome) → EventIs h st e o → o .answer ≡ refused r → firstOf (ownCauses h st (asked e)) ≡ some r
+    go : (o : Outcome) → EventIs h st e o → o .answer ≡ refused 0 r → firstOf (ownCauses h st (asked e)) ≡ some r
     go _ (stopped c f) p =
         let same : firstOf (eventCauses h st e) ≡ some r = cc in
         sym (append-none (frameCauses h st) (ownCauses h st (asked e)) (of-running h st run)) ∙ same
@@ -183,22 +216,22 @@ own-never : (h : Head) (st : State) (e : Event) {r : Refusal} (a : Asked) → as
 own-never h st e a q n f = never-first n (ap (λ (x : Asked). firstOf (ownCauses h st x)) (sym q) ∙ f)
 
 -- "11 was never met"
-pub event-never-eleven : (h : Head) (st : State) (e : Event) → Running h st → eventOf h st e .answer ≡ refused notWellFormed → ⊥
+pub event-never-eleven : (h : Head) (st : State) (e : Event) → Running h st → eventOf h st e .answer ≡ refused 0 notWellFormed → ⊥
 event-never-eleven h st e run q = go (asked e) refl (own-refusal h st e notWellFormed run q)
   where
     go : (a : Asked) → asked e ≡ a → firstOf (ownCauses h st (asked e)) ≡ some notWellFormed → ⊥
     go (setClock t) s = own-never h st e (setClock t) s (clock-never h st t notWellFormed (lit< tt))
-    go (place jobs) s = own-never h st e (place jobs) s (place-never h st jobs notWellFormed (lit< tt))
+    go (placeJobs jobs) s = own-never h st e (placeJobs jobs) s (place-never h st jobs notWellFormed (lit< tt))
     go (fault r) s = own-never h st e (fault r) s (fault-never h st e r notWellFormed s (lit< tt))
 
 -- 7 is an answer to calls alone
-pub seven-asks : (h : Head) (st : State) (e : Event) → Running h st → eventOf h st e .answer ≡ refused callNotFeasible
-    → (jobs : List Job) × (asked e ≡ place jobs)
+pub seven-asks : (h : Head) (st : State) (e : Event) → Running h st → eventOf h st e .answer ≡ refused 0 callNotFeasible
+    → (jobs : List Job) × (asked e ≡ placeJobs jobs)
 seven-asks h st e run q = go (asked e) refl (own-refusal h st e callNotFeasible run q)
   where
-    go : (a : Asked) → asked e ≡ a → firstOf (ownCauses h st (asked e)) ≡ some callNotFeasible → (jobs : List Job) × (asked e ≡ place jobs)
+    go : (a : Asked) → asked e ≡ a → firstOf (ownCauses h st (asked e)) ≡ some callNotFeasible → (jobs : List Job) × (asked e ≡ placeJobs jobs)
     go (setClock t) s f = absurd (own-never h st e (setClock t) s (clock-never h st t callNotFeasible (lit< tt)) f)
-    go (place jobs) s f = (jobs, s)
+    go (placeJobs jobs) s f = (jobs, s)
     go (fault r) s f = absurd (own-never h st e (fault r) s (fault-never h st e r callNotFeasible s (lit< tt)) f)
 
 -- ---- the frame afterwards
@@ -210,21 +243,18 @@ event-running h st e run = go (eventOf h st e) (event-is h st e) refl
     go : (o : Outcome) → EventIs h st e o → eventOf h st e ≡ o → Running h (o .after)
     go _ (stopped r f) q = run
     go _ (clockSet t asks f) q =
-        let first = append-left-none (frameCauses h st) (ownCauses h st (asked e)) f in
-        let own = sym (append-none (frameCauses h st) (ownCauses h st (asked e)) first) ∙ f in
-        let range = clock-range h st t (ap (λ (a : Asked). firstOf (ownCauses h st a)) (sym asks) ∙ own) in
         record {
           long = run .long;
           valid = run .valid;
-          wellFormed = record { cells = run .wellFormed .cells; clock = range };
+          wellFormed = record { cells = run .wellFormed .cells; clock = clock-set h st e t asks f .0 };
         }
     go _ (placed jobs asks f) q =
-        let took = call-taken h st e jobs asks (ones (evictedSet h (st .clock) jobs (cell h (st .table)))) (ap (λ (o : Outcome). o .answer) q) in
+        let took = call-taken h st e jobs asks (costOf h jobs st) (ap (λ (o : Outcome). o .answer) q) in
         let same : written h (called h (st .clock) jobs (cell h (st .table))) (st .table) ≡ callOf h jobs st .after .table =
         sym (ap (λ (o : Outcome). o .after .table) q) ∙ call-table h st e jobs asks in
         let callClaim = call-claim h jobs st in
         rw same (record {
           long = omega (arith, run .long, callClaim .past .long);
           valid = run .valid;
-          wellFormed = record { cells = callClaim .valid (ones (evictedSet h (st .clock) jobs (cell h (st .table)))) took .wellFormed; clock = run .wellFormed .clock };
+          wellFormed = record { cells = callClaim .valid (costOf h jobs st) took .wellFormed; clock = run .wellFormed .clock };
         })

@@ -21,7 +21,7 @@ use Rattle.station.proofs.Examples.{reads}
 use Rattle.placing.specs.Table.{cell, cells}
 use Rattle.placing.specs.Valid.{ValidPlan, ValidCall, lost}
 use Rattle.placing.specs.State.{stateOf}
-use Rattle.placing.specs.Outcomes.{PlanAnswer, planOf, CallAnswer, callOf}
+use Rattle.placing.specs.Outcomes.{cost, PlanAnswer, planOf, CallAnswer, callOf}
 use Rattle.placing.proofs.Theorems.{plan-claim, call-claim}
 use Rattle.placing.proofs.Examples.{plans, calls, must-go, goes}
 use Rattle.frame.specs.Event.{ownCauses, carriedOut, comesTo, runOf}
@@ -201,18 +201,18 @@ misleading =
 
 abbrev isGranted : PlanAnswer → Bool
 isGranted (PlanAnswer.granted g) = true
-isGranted (PlanAnswer.refused r) = false
+isGranted (PlanAnswer.refused _ r) = false
 
 granted-is : (a : PlanAnswer) → isGranted a ≡ true → (g : List ℕ) × (a ≡ PlanAnswer.granted g)
 granted-is (PlanAnswer.granted g) e = (g, refl)
-granted-is (PlanAnswer.refused r) e = absurd (clash (sym e))
+granted-is (PlanAnswer.refused _ r) e = absurd (clash (sym e))
 
 abbrev AnswerOf : Head → Meaning → Type 0
 AnswerOf h as-listed = Unit {0}
-AnswerOf h no-plan = planOf h blank .answer ≡ PlanAnswer.refused mandatoryNotFeasible
+AnswerOf h no-plan = planOf h blank .answer ≡ PlanAnswer.refused 0 mandatoryNotFeasible
 AnswerOf h a-plan = isGranted (planOf h blank .answer) ≡ true
-AnswerOf h (no-placement clock jobs) = callOf h jobs (stateOf (planTable h) clock) .answer ≡ CallAnswer.refused callNotFeasible
-AnswerOf h (loses clock jobs n) = callOf h jobs (stateOf (planTable h) clock) .answer ≡ CallAnswer.taken n
+AnswerOf h (no-placement clock jobs) = callOf h jobs (stateOf (planTable h) clock) .answer ≡ CallAnswer.refused 0 callNotFeasible
+AnswerOf h (loses clock jobs n) = callOf h jobs (stateOf (planTable h) clock) .answer ≡ CallAnswer.taken (cost n)
 
 abbrev AnswerIn : Reading → Meaning → Type 0
 AnswerIn (Reading.accepted h n) m = AnswerOf h m

@@ -3,7 +3,7 @@
 --
 -- In order: texts: lines after an event, the limits of a clock and of a call at both edges, the causes of a head and of an event two at a time, the order of
 -- loss (`texts-list`); events on a lent table, by the listed order 8, 2, 11, 1, 3, 2, 4, 9, 6, 7 (`events-answered`), and with preset records
--- (`records-answered`); a text beside short lent things (`texts-end`); the entries that write lines (`lines-answered`).
+-- (`records-answered`); a text beside short lent things (`texts-end`), and a text of events (`events-end`); the entries that write lines (`lines-answered`).
 -- Assumes nothing.
 use Prim.Native.Nat.{ℕ}
 use mathlib.Core.Path.{_≡_, refl}
@@ -16,18 +16,20 @@ use Rattle.station.specs.Wrote.{moved}
 use Rattle.station.specs.WriteHead as write
 use Rattle.station.specs.declared.types.Head as record-of-head
 use Rattle.placing.proofs.Examples.{jobCells, recordsTo}
-use Rattle.frame.specs.Event.{Event, line, clock, call, Answer, now, taken, refused, eventOf}
+use Rattle.frame.specs.Event.{Event, line, clock, call, Answer, clockNow, taken, refused, eventOf}
 use Rattle.placing.specs.State.{State, stateOf}
 use Rattle.frame.specs.EventDone.{eventMeant}
-use Rattle.frame.specs.EventEntry.{eventListed}
+use Rattle.frame.specs.EventEntry.{eventOnSlice}
 use Rattle.frame.specs.Text.{notRead, wholeOf}
-use Rattle.frame.specs.TextDone.{wholeBeside}
-use Rattle.frame.specs.TextEntry.{wholeListed}
+use Rattle.frame.specs.TextDone.{wholeWithOutput, listed, refusedAt}
+use Rattle.frame.specs.TextEntry.{wholeOnSlice}
+use Rattle.frame.specs.EventsDone.{eventsMeant}
 use Rattle.frame.specs.Listing.{listingOf}
 use Rattle.frame.specs.declared.types.Answer.the-variants as reply
 use Rattle.frame.specs.WriteListing.{listingCause, listingMeant}
 use Rattle.frame.specs.WroteLine.{lineWritten, answerWritten, grantWritten, slotWritten}
 use Rattle.frame.proofs.Starred.{Case, shows, blank, lists}
+use Rattle.placing.specs.Outcomes.{cost}
 
 -- ---- texts
 
@@ -88,36 +90,36 @@ job n c = record { number = n; slots = c }
 abbrev events : List EventCase
 events =
     -- 8: "lent table below 512 cells", before the head record's 2, before 11, before the line's 1 and 3
-    answers (now 1) (bare 1 1) (lent []) 1 (line (bytes "(clock 1)\n"))
-    ∷ answers (refused tooShort) (bare 1 1) (replicate 511 0) 1 (line (bytes "(clock 1)\n"))
-    ∷ answers (refused tooShort) (bare 0 1) (replicate 511 0) 1 (line (bytes "(clock 1)\n"))
-    ∷ answers (refused tooShort) (bare 1 1) (replicate 511 7) 1 (line (bytes "(clock 1)\n"))
-    ∷ answers (refused tooShort) (bare 1 1) (replicate 511 0) 1 (line [])
+    answers (clockNow 1) (bare 1 1) (lent []) 1 (line (bytes "(clock 1)\n"))
+    ∷ answers (refused 0 tooShort) (bare 1 1) (replicate 511 0) 1 (line (bytes "(clock 1)\n"))
+    ∷ answers (refused 0 tooShort) (bare 0 1) (replicate 511 0) 1 (line (bytes "(clock 1)\n"))
+    ∷ answers (refused 0 tooShort) (bare 1 1) (replicate 511 7) 1 (line (bytes "(clock 1)\n"))
+    ∷ answers (refused 0 tooShort) (bare 1 1) (replicate 511 0) 1 (line [])
     -- the head record's 2, before 11, before the line's 1 and 3
-    ∷ answers (refused outOfLimits) (bare 1 9) (lent (7 ∷ [])) 0 (line (bytes "(clock 1)\n"))
-    ∷ answers (refused outOfLimits) (bare 65 1) (lent []) 1 (line [])
-    ∷ answers (refused outOfLimits) (bare 1 0) (lent []) 1 (line (bytes "(frame 1 1)\n"))
+    ∷ answers (refused 0 outOfLimits) (bare 1 9) (lent (7 ∷ [])) 0 (line (bytes "(clock 1)\n"))
+    ∷ answers (refused 0 outOfLimits) (bare 65 1) (lent []) 1 (line [])
+    ∷ answers (refused 0 outOfLimits) (bare 1 0) (lent []) 1 (line (bytes "(frame 1 1)\n"))
     -- 11: "a table that is not sound, or a clock outside 1 to S + 1", before 1, 3, 2, 4, 6 and 7
-    ∷ answers (refused notWellFormed) (bare 1 1) (lent (7 ∷ [])) 1 (line [])
-    ∷ answers (refused notWellFormed) (bare 1 1) (lent []) 0 (line (bytes "(frame 1 1)\n"))
-    ∷ answers (refused notWellFormed) (bare 1 1) (lent []) 3 (clock 0)
-    ∷ answers (refused notWellFormed) (bare 1 1) (lent []) 3 (clock 1)
-    ∷ answers (refused notWellFormed) (bare 1 1) (lent (7 ∷ [])) 1 (call [])
-    ∷ answers (refused notWellFormed) (bare 1 1) (lent (7 ∷ [])) 1 (call (job 5 1 ∷ job 5 1 ∷ []))
-    ∷ answers (refused notWellFormed) (bare 1 1) (lent []) 3 (call (job 5 1 ∷ []))
-    ∷ answers (refused notWellFormed) (bare 13 5) (lent (jobCells 65 0)) 1 (clock 1)
+    ∷ answers (refused 0 notWellFormed) (bare 1 1) (lent (7 ∷ [])) 1 (line [])
+    ∷ answers (refused 0 notWellFormed) (bare 1 1) (lent []) 0 (line (bytes "(frame 1 1)\n"))
+    ∷ answers (refused 0 notWellFormed) (bare 1 1) (lent []) 3 (clock 0)
+    ∷ answers (refused 0 notWellFormed) (bare 1 1) (lent []) 3 (clock 1)
+    ∷ answers (refused 0 notWellFormed) (bare 1 1) (lent (7 ∷ [])) 1 (call [])
+    ∷ answers (refused 0 notWellFormed) (bare 1 1) (lent (7 ∷ [])) 1 (call (job 5 1 ∷ job 5 1 ∷ []))
+    ∷ answers (refused 0 notWellFormed) (bare 1 1) (lent []) 3 (call (job 5 1 ∷ []))
+    ∷ answers (refused 0 notWellFormed) (bare 13 5) (lent (jobCells 65 0)) 1 (clock 1)
     -- the clock's limits, and those of the lent one; 2 before 6
-    ∷ answers (now 2) (bare 1 1) (lent []) 2 (clock 2)
-    ∷ answers (refused outOfLimits) (bare 1 1) (lent []) 2 (clock 3)
-    ∷ answers (refused clockBack) (bare 1 1) (lent []) 2 (clock 1)
-    ∷ answers (refused outOfLimits) (bare 1 1) (lent []) 2 (clock 0)
+    ∷ answers (clockNow 2) (bare 1 1) (lent []) 2 (clock 2)
+    ∷ answers (refused 0 outOfLimits) (bare 1 1) (lent []) 2 (clock 3)
+    ∷ answers (refused 0 clockBack) (bare 1 1) (lent []) 2 (clock 1)
+    ∷ answers (refused 0 outOfLimits) (bare 1 1) (lent []) 2 (clock 0)
     -- "no job outside a text"; 2 before 4, 4 before 9, 9 before 7
-    ∷ answers (refused outOfLimits) (bare 1 1) (lent []) 1 (call [])
-    ∷ answers (refused outOfLimits) (bare 1 1) (lent []) 1 (call (job 5 1 ∷ job 5 65 ∷ []))
-    ∷ answers (refused numberUsed) (bare 8 8) (lent (jobCells 64 0)) 1 (call (job 64 1 ∷ []))
-    ∷ answers (refused tooMany) (bare 8 8) (lent (jobCells 64 0)) 1 (line (bytes "(call (65 1))\n"))
-    ∷ answers (taken 0) (bare 8 8) (lent (jobCells 63 0)) 1 (line (bytes "(call (64 1))\n"))
-    ∷ answers (refused callNotFeasible) (bare 1 1) (lent []) 2 (call (job 5 1 ∷ []))
+    ∷ answers (refused 0 outOfLimits) (bare 1 1) (lent []) 1 (call [])
+    ∷ answers (refused 0 outOfLimits) (bare 1 1) (lent []) 1 (call (job 5 1 ∷ job 5 65 ∷ []))
+    ∷ answers (refused 0 numberUsed) (bare 8 8) (lent (jobCells 64 0)) 1 (call (job 64 1 ∷ []))
+    ∷ answers (refused 0 tooMany) (bare 8 8) (lent (jobCells 64 0)) 1 (line (bytes "(call (65 1))\n"))
+    ∷ answers (taken (cost 0)) (bare 8 8) (lent (jobCells 63 0)) 1 (line (bytes "(call (64 1))\n"))
+    ∷ answers (refused 0 callNotFeasible) (bare 1 1) (lent []) 2 (call (job 5 1 ∷ []))
     ∷ []
 
 pub events-answered : map (λ c. eventOf (c .head) (c .state) (c .event) .answer) events ≡ map (λ c. c .said) events
@@ -133,13 +135,13 @@ counting n = record { slots = 1; bridges = 1; busy = replicate 8 0; count = n }
 abbrev clockOne : Event
 clockOne = line (bytes "(clock 1)\n")
 
-pub records-answered : (eventMeant (counting 32) (recordsTo 32) (stateOf (lent []) 1) clockOne .answer ≡ now 1)
-    × (eventMeant (counting 33) (recordsTo 33) (stateOf (lent (7 ∷ [])) 0) (line []) .answer ≡ refused outOfLimits)
-    × (eventMeant (counting 33) (recordsTo 33) (stateOf (replicate 511 0) 1) clockOne .answer ≡ refused tooShort)
-    × (eventListed 32 (counting 0) [] (stateOf (lent []) 1) clockOne .answer ≡ now 1)
-    × (eventListed 31 (counting 0) [] (stateOf (lent []) 1) clockOne .answer ≡ refused tooShort)
-    × (eventListed 31 (counting 33) [] (stateOf (lent (7 ∷ [])) 0) (line []) .answer ≡ refused tooShort)
-unfolding lists eventMeant eventListed recordsTo
+pub records-answered : (eventMeant (counting 32) (recordsTo 32) (stateOf (lent []) 1) clockOne .answer ≡ clockNow 1)
+    × (eventMeant (counting 33) (recordsTo 33) (stateOf (lent (7 ∷ [])) 0) (line []) .answer ≡ refused 0 outOfLimits)
+    × (eventMeant (counting 33) (recordsTo 33) (stateOf (replicate 511 0) 1) clockOne .answer ≡ refused 0 tooShort)
+    × (eventOnSlice 32 (counting 0) [] (stateOf (lent []) 1) clockOne .answer ≡ clockNow 1)
+    × (eventOnSlice 31 (counting 0) [] (stateOf (lent []) 1) clockOne .answer ≡ refused 0 tooShort)
+    × (eventOnSlice 31 (counting 33) [] (stateOf (lent (7 ∷ [])) 0) (line []) .answer ≡ refused 0 tooShort)
+unfolding lists eventMeant eventOnSlice recordsTo
 records-answered = (refl, refl, refl, refl, refl, refl)
 
 -- ---- a text beside lent things that are too short: 10, then 8, then the head's
@@ -148,35 +150,51 @@ pub texts-end : (wholeOf (replicate 32769 10) (replicate 511 0) ≡ notRead 0 te
     × (wholeOf (replicate 32768 10) (replicate 511 0) ≡ notRead 0 tooShort)
     × (wholeOf (replicate 32768 10) (replicate 512 0) ≡ notRead 1 noForm)
     × (wholeOf [] (replicate 511 0) ≡ notRead 0 tooShort)
-    × (wholeBeside (replicate 32769 10) [] (replicate 8191 0) ≡ notRead 0 textTooLong)
-    × (wholeBeside [] (replicate 512 0) (replicate 8191 0) ≡ notRead 0 tooShort)
-    × (wholeBeside [] (replicate 511 0) (replicate 8192 0) ≡ notRead 0 tooShort)
-    × (wholeBeside [] (replicate 512 0) (replicate 8192 0) ≡ notRead 1 outOfPlace)
-    × (wholeListed 31 (replicate 32769 10) [] [] ≡ notRead 0 textTooLong)
-    × (wholeListed 31 [] (replicate 512 0) (replicate 8192 0) ≡ notRead 0 tooShort)
-    × (wholeListed 32 [] (replicate 512 0) (replicate 8192 0) ≡ notRead 1 outOfPlace)
-unfolding lists wholeBeside wholeListed
+    × (wholeWithOutput (replicate 32769 10) [] (replicate 8191 0) ≡ notRead 0 textTooLong)
+    × (wholeWithOutput [] (replicate 512 0) (replicate 8191 0) ≡ notRead 0 tooShort)
+    × (wholeWithOutput [] (replicate 511 0) (replicate 8192 0) ≡ notRead 0 tooShort)
+    × (wholeWithOutput [] (replicate 512 0) (replicate 8192 0) ≡ notRead 1 outOfPlace)
+    × (wholeOnSlice 31 (replicate 32769 10) [] [] ≡ notRead 0 textTooLong)
+    × (wholeOnSlice 31 [] (replicate 512 0) (replicate 8192 0) ≡ notRead 0 tooShort)
+    × (wholeOnSlice 32 [] (replicate 512 0) (replicate 8192 0) ≡ notRead 1 outOfPlace)
+unfolding lists wholeWithOutput wholeOnSlice
 texts-end = (refl, refl, refl, refl, refl, refl, refl, refl, refl, refl, refl)
+
+-- ---- a text of events on a lent frame: 10, 8, the head record's 2, 11, then its lines, numbered from 1
+
+pub events-end : (eventsMeant 31 (counting 33) [] (stateOf [] 0) (replicate 32769 10) [] .ended ≡ refusedAt 0 textTooLong)
+    × (eventsMeant 31 (counting 33) [] (stateOf (lent (7 ∷ [])) 0) [] (replicate 8192 0) .ended ≡ refusedAt 0 tooShort)
+    × (eventsMeant 32 (counting 33) [] (stateOf (lent (7 ∷ [])) 0) [] (replicate 8191 0) .ended ≡ refusedAt 0 tooShort)
+    × (eventsMeant 32 (counting 33) [] (stateOf (replicate 511 0) 0) [] (replicate 8192 0) .ended ≡ refusedAt 0 tooShort)
+    × (eventsMeant 32 (counting 33) [] (stateOf (lent (7 ∷ [])) 0) [] (replicate 8192 0) .ended ≡ refusedAt 0 outOfLimits)
+    × (eventsMeant 32 (counting 0) [] (stateOf (lent (7 ∷ [])) 1) (bytes "x") (replicate 8192 0) .ended ≡ refusedAt 0 notWellFormed)
+    × (eventsMeant 32 (counting 0) [] (stateOf (lent []) 3) (bytes "x") (replicate 8192 0) .ended ≡ refusedAt 0 notWellFormed)
+    × (eventsMeant 32 (counting 0) [] (stateOf (lent []) 2) [] (replicate 8192 0) .ended ≡ listed 0)
+    × (take 45 (eventsMeant 32 (counting 0) [] (stateOf (lent []) 1) (bytes "(frame 1 1)\n(call (5 1))\n(clock 2)\n(clock 1)") (replicate 8192 0) .output)
+    ≡ bytes "(refused 1 3)\n(taken 0)\n(now 2)\n(refused 4 1)")
+unfolding lists eventsMeant moved
+events-end = (refl, refl, refl, refl, refl, refl, refl, refl, refl)
 
 -- ---- the entries that write lines
 
 -- `write_listing`: 10, then 8 for the output and for the table; the refused line of an empty text has 14 bytes
-pub lines-answered : (listingMeant (replicate 32769 10) [] [] .answer ≡ write.refused textTooLong)
-    × (listingMeant [] blank (replicate 8191 0) .answer ≡ write.refused tooShort)
-    × (listingMeant [] (replicate 511 0) (replicate 8192 0) .answer ≡ write.refused tooShort)
+pub lines-answered : (listingMeant (replicate 32769 10) [] [] .answer ≡ write.refused 0 textTooLong)
+    × (listingMeant [] blank (replicate 8191 0) .answer ≡ write.refused 0 tooShort)
+    × (listingMeant [] (replicate 511 0) (replicate 8192 0) .answer ≡ write.refused 0 tooShort)
     × (listingMeant [] blank (replicate 8192 0) .answer ≡ write.written 14)
     -- the line of an answer and of a grant: 8 for the output
     × (answerWritten 0 (reply.Now 1) (replicate 8192 0) .answer ≡ write.written 8)
-    × (answerWritten 0 (reply.Now 1) (replicate 8191 0) .answer ≡ write.refused tooShort)
+    × (answerWritten 0 (reply.Now 1) (replicate 8191 0) .answer ≡ write.refused 0 tooShort)
     × (grantWritten 1 2 (replicate 8192 0) .answer ≡ write.written 14)
-    × (grantWritten 1 2 (replicate 8191 0) .answer ≡ write.refused tooShort)
+    × (grantWritten 1 2 (replicate 8191 0) .answer ≡ write.refused 0 tooShort)
     -- a slot's line: 8, the head record's 2, 11, then 2 for the slot, from 1 to S
-    × (slotWritten (counting 0) [] (lent []) 1 (replicate 8192 0) .answer ≡ write.written 11)
-    × (slotWritten (counting 33) [] (lent (7 ∷ [])) 0 (replicate 8191 0) .answer ≡ write.refused tooShort)
-    × (slotWritten (counting 33) [] (replicate 511 0) 0 (replicate 8192 0) .answer ≡ write.refused tooShort)
-    × (slotWritten (counting 33) [] (lent (7 ∷ [])) 1 (replicate 8192 0) .answer ≡ write.refused outOfLimits)
-    × (slotWritten (counting 0) [] (lent (7 ∷ [])) 0 (replicate 8192 0) .answer ≡ write.refused notWellFormed)
-    × (slotWritten (counting 0) [] (lent []) 0 (replicate 8192 0) .answer ≡ write.refused outOfLimits)
-    × (slotWritten (counting 0) [] (lent []) 2 (replicate 8192 0) .answer ≡ write.refused outOfLimits)
+    × (slotWritten 32 (counting 0) [] (lent []) 1 (replicate 8192 0) .answer ≡ write.written 11)
+    × (slotWritten 32 (counting 33) [] (lent (7 ∷ [])) 0 (replicate 8191 0) .answer ≡ write.refused 0 tooShort)
+    × (slotWritten 31 (counting 0) [] (lent []) 1 (replicate 8192 0) .answer ≡ write.refused 0 tooShort)
+    × (slotWritten 32 (counting 33) [] (replicate 511 0) 0 (replicate 8192 0) .answer ≡ write.refused 0 tooShort)
+    × (slotWritten 32 (counting 33) [] (lent (7 ∷ [])) 1 (replicate 8192 0) .answer ≡ write.refused 0 outOfLimits)
+    × (slotWritten 32 (counting 0) [] (lent (7 ∷ [])) 0 (replicate 8192 0) .answer ≡ write.refused 0 notWellFormed)
+    × (slotWritten 32 (counting 0) [] (lent []) 0 (replicate 8192 0) .answer ≡ write.refused 0 outOfLimits)
+    × (slotWritten 32 (counting 0) [] (lent []) 2 (replicate 8192 0) .answer ≡ write.refused 0 outOfLimits)
 unfolding lists moved listingCause listingMeant lineWritten
-lines-answered = (refl, refl, refl, refl, refl, refl, refl, refl, refl, refl, refl, refl, refl, refl, refl)
+lines-answered = (refl, refl, refl, refl, refl, refl, refl, refl, refl, refl, refl, refl, refl, refl, refl, refl)

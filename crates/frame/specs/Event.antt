@@ -13,7 +13,7 @@ use Rattle.placing.specs.Table.{cell}
 use Rattle.placing.specs.Valid.{clockIn}
 use Rattle.placing.specs.State.{State, withClock}
 use Rattle.placing.specs.Call.{evictedSet}
-use Rattle.placing.specs.Outcomes.{frameCauses, callCauses, CallAnswer, calledState}
+use Rattle.placing.specs.Outcomes.{Cost, costOf, frameCauses, callCauses, CallAnswer, calledState}
 
 -- "events of every kind (here clocks and calls) .. and faulty lines": a line of whatever bytes, its end included, or a clock or a call handed over.
 pub data Event : Type 0 where
@@ -21,16 +21,16 @@ pub data Event : Type 0 where
   clock : ℕ → Event
   call : List Job → Event
 
--- the new clock; the cells evicted; or the refusal
+-- the new clock; what a call costs; or the refusal
 pub data Answer : Type 0 where
-  now : ℕ → Answer
-  taken : ℕ → Answer
-  refused : Refusal → Answer
+  clockNow : ℕ → Answer
+  taken : Cost → Answer
+  refused : ℕ → Refusal → Answer
 
 -- the answer to a call of the layer below, as that to an event
 abbrev pub answerOf : CallAnswer → Answer
 answerOf (CallAnswer.taken n) = taken n
-answerOf (CallAnswer.refused r) = refused r
+answerOf (CallAnswer.refused n r) = refused n r
 
 pub record Outcome : Type 0 where
   pub answer : Answer
@@ -39,7 +39,7 @@ pub record Outcome : Type 0 where
 -- what an event asks for, or the fault of its line
 pub data Asked : Type 0 where
   setClock : ℕ → Asked
-  place : List Job → Asked
+  placeJobs : List Job → Asked
   fault : Refusal → Asked
 
 -- "a line that is not one of the five forms, or lacks its end"; "A head line after an event is out of place."
@@ -49,18 +49,18 @@ askedByForm (some (frameLine s b)) = fault outOfPlace
 askedByForm (some (busyLine b p)) = fault outOfPlace
 askedByForm (some (presetLine p)) = fault outOfPlace
 askedByForm (some (clockLine t)) = setClock t
-askedByForm (some (callLine p)) = place (jobsOf p)
+askedByForm (some (callLine p)) = placeJobs (jobsOf p)
 
 abbrev pub asked : Event → Asked
 asked (line l) = askedByForm (form l)
 asked (clock t) = setClock t
-asked (call jobs) = place jobs
+asked (call jobs) = placeJobs jobs
 
 -- What an event is tried for after 8, a head record's 2, and 11: its line's 1 or 3, "t below 1 or above S + 1" and "a clock below the present one",
 -- or the causes of a call.
 unfoldable pub ownCauses : Head → State → Asked → List (Option Refusal)
 ownCauses h st (setClock t) = try outOfLimits (not (clockIn (h .slots) t)) ∷ try clockBack (ltb t (st .clock)) ∷ []
-ownCauses h st (place jobs) = callCauses h (st .clock) jobs (cell h (st .table))
+ownCauses h st (placeJobs jobs) = callCauses h (st .clock) jobs (cell h (st .table))
 ownCauses h st (fault r) = some r ∷ []
 
 -- the causes of what is asked, in the listed order
@@ -76,13 +76,13 @@ clockState h t st = withClock t st
 
 -- An event for which no cause holds: a clock changes the clock alone, a call the table alone.
 unfoldable pub carriedOut : Head → State → Asked → Outcome
-carriedOut h st (setClock t) = record { answer = now t; after = clockState h t st }
-carriedOut h st (place jobs) = record { answer = taken (ones (evictedSet h (st .clock) jobs (cell h (st .table)))); after = calledState h jobs st }
-carriedOut h st (fault r) = record { answer = refused r; after = st }
+carriedOut h st (setClock t) = record { answer = clockNow t; after = clockState h t st }
+carriedOut h st (placeJobs jobs) = record { answer = taken (costOf h jobs st); after = calledState h jobs st }
+carriedOut h st (fault r) = record { answer = refused 0 r; after = st }
 
 -- One event: refused by the first cause that holds, which changes nothing, or carried out.
 unfoldable pub comesTo : Head → State → Asked → Outcome
-comesTo h st a = elim (firstOf (askedCauses h st a)) [ none ↦ carriedOut h st a | some r ↦ record { answer = refused r; after = st } ]
+comesTo h st a = elim (firstOf (askedCauses h st a)) [ none ↦ carriedOut h st a | some r ↦ record { answer = refused 0 r; after = st } ]
 
 abbrev pub eventOf : Head → State → Event → Outcome
 eventOf h st e = comesTo h st (asked e)

@@ -21,7 +21,7 @@ unfoldable pub eventMeant : record-of-head.Head → List record-of-preset.Preset
 eventMeant head ps st e =
     elim (firstOf (causesOf head ps (st .table))) [
       | none ↦ eventOf (headIn head ps) st e
-      | some r ↦ record { answer = refused r; after = st }
+      | some r ↦ record { answer = refused 0 r; after = st }
     ]
 
 -- The code answers r and leaves the table u, as the outcome o says.

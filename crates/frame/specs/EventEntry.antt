@@ -1,13 +1,14 @@
 -- What the entries set_clock and event over a borrowed list of preset records are held to, for every input. Document 01, "Presets stand in a lent list of records, in
 -- file order", and "Causes": "preset list below 32 records" is 8, which is tried first.
 --
--- In order: an event (`eventListed`, `EventListed`), which is all that `set_clock` promises; the promise of `event` (`EventEntry`).
+-- In order: an event (`eventOnSlice`, `EventOnSlice`); the promise of both entries (`EventEntry`), of `set_clock` for the event `clock t`, of `event` for `line l`.
 -- Assumes nothing.
 use Prim.Native.Nat.{ℕ}
 use mathlib.Core.Option.{none, some}
 use mathlib.Core.List.{List, [], _∷_}
 use lib.ListN.{length}
 use lib.Dec.{ltb}
+use Rattle.station.specs.Limits.{leastRecords}
 use Rattle.station.specs.Refusal.{tooShort, try, firstOf}
 use Rattle.station.specs.Types.{headIn}
 use Rattle.station.specs.declared.types.Preset as record-of-preset
@@ -20,18 +21,18 @@ use Rattle.frame.specs.Demands.{Demand3}
 use Rattle.frame.specs.EventDone.{eventMeant, Yields}
 
 -- One event where the list has so many records: 8 for fewer than 32, which changes nothing, else what the event comes to.
-unfoldable pub eventListed : ℕ → record-of-head.Head → List record-of-preset.Preset → State → Event → Outcome
-eventListed records head ps st e =
-    elim (firstOf (try tooShort (ltb records 32) ∷ [])) [ none ↦ eventMeant head ps st e | some r ↦ record { answer = refused r; after = st } ]
+unfoldable pub eventOnSlice : ℕ → record-of-head.Head → List record-of-preset.Preset → State → Event → Outcome
+eventOnSlice records head ps st e =
+    elim (firstOf (try tooShort (ltb records leastRecords) ∷ [])) [ none ↦ eventMeant head ps st e | some r ↦ record { answer = refused 0 r; after = st } ]
 
 -- What an entry answers and leaves for an event. Of the list no record is changed.
-abbrev pub EventListed : ℕ → record-of-head.Head → List record-of-preset.Preset → State → Event → List ℕ → result.Outcome → Type 0
-EventListed records head ps st e u r = Yields (eventListed records head ps st e) u r
+abbrev pub EventOnSlice : ℕ → record-of-head.Head → List record-of-preset.Preset → State → Event → List ℕ → result.Outcome → Type 0
+EventOnSlice records head ps st e u r = Yields (eventOnSlice records head ps st e) u r
 
--- What `event` answers and leaves, and what is claimed of it.
+-- What `set_clock` and `event` answer and leave, and what is claimed of it.
 pub record EventEntry (head : record-of-head.Head) (ps : List record-of-preset.Preset) (st : State) (e : Event) (u : List ℕ) (r : result.Outcome) : Type 0 where
-  pub done : EventListed (length ps) head ps st e u r
+  pub done : EventOnSlice (length ps) head ps st e u r
   -- a frame that 11 lets pass is such a frame afterwards: "Each event gets the table and clock that the last one left"
   pub kept : Running (headIn head ps) st → Running (headIn head ps) (stateOf u (r .clock))
-  -- so that demand 3 holds of a list of events handed over one by one
+  -- so that demand 3 holds of a list of events handed over one by one, and in it demand 2's rule of a call, on this very table (`slots`, `rule`)
   pub claim : Running (headIn head ps) st → Demand3 (headIn head ps) st (e ∷ [])

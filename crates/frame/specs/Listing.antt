@@ -8,7 +8,7 @@ use Rattle.station.specs.Refusal.{Refusal, numberOf}
 use Rattle.station.specs.Text.{bytes, _then_}
 use Rattle.station.specs.Decimal.{digits}
 use Rattle.placing.specs.Table.{cell, kindOf, numberIn}
-use Rattle.frame.specs.Event.{Answer, now, taken, refused}
+use Rattle.frame.specs.Event.{Answer, clockNow, taken, refused}
 use Rattle.frame.specs.Text.{Whole, notRead, notPlanned, ran}
 
 -- "Refused: line and number."
@@ -20,9 +20,9 @@ unfoldable pub grantedLine : ℕ → ℕ → List ℕ
 grantedLine n g = bytes "(granted " then digits n then bytes " " then digits g then bytes ")\n"
 
 unfoldable pub answerLine : ℕ → Answer → List ℕ
-answerLine n (now t) = bytes "(now " then digits t then bytes ")\n"
-answerLine n (taken k) = bytes "(taken " then digits k then bytes ")\n"
-answerLine n (refused r) = refusedLine n r
+answerLine n (clockNow t) = bytes "(now " then digits t then bytes ")\n"
+answerLine n (taken c) = bytes "(taken " then digits (c .count) then bytes ")\n"
+answerLine n (refused _ r) = refusedLine n r
 
 -- "`-` busy, `0` empty, else m, o or c for kinds 2, 3, 4 and the number"
 unfoldable pub cellText : ℕ → ℕ → List ℕ

@@ -5,6 +5,7 @@ use mathlib.Core.Option.{none, some}
 use mathlib.Core.List.{List, [], _∷_, map}
 use lib.ListN.{length, drop}
 use lib.Dec.{ltb}
+use Rattle.station.specs.Limits.{mostBytes, leastCells}
 use Rattle.station.specs.Head.{Head}
 use Rattle.station.specs.Refusal.{Refusal, tooShort, textTooLong, try, firstOf}
 use Rattle.station.specs.Text.{lines}
@@ -31,7 +32,7 @@ eventsOf text n = map line (drop n (lines text))
 
 unfoldable pub wholeWithPlan : List ℕ → Head → ℕ → PlanAnswer → List ℕ → Whole
 wholeWithPlan text h n (PlanAnswer.granted g) t = ran h n g (runOf h (startOf t) (eventsOf text n))
-wholeWithPlan text h n (PlanAnswer.refused r) t = notPlanned h n r
+wholeWithPlan text h n (PlanAnswer.refused _ r) t = notPlanned h n r
 
 unfoldable pub wholeWithHead : List ℕ → Reading → List ℕ → Whole
 wholeWithHead text (Reading.accepted h n) t = wholeWithPlan text h n (planOf h t .answer) (planOf h t .table)
@@ -40,5 +41,5 @@ wholeWithHead text (Reading.refused n r) t = notRead n r
 -- 10, then 8, then the causes of the head's lines, then 5
 unfoldable pub wholeOf : List ℕ → List ℕ → Whole
 wholeOf text t =
-    elim (firstOf (try textTooLong (ltb 32768 (length text)) ∷ try tooShort (ltb (length t) 512) ∷ []))
+    elim (firstOf (try textTooLong (ltb mostBytes (length text)) ∷ try tooShort (ltb (length t) leastCells) ∷ []))
     [ none ↦ wholeWithHead text (headOf text) t | some r ↦ notRead 0 r ]

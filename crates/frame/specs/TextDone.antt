@@ -11,6 +11,7 @@ use mathlib.Core.List.{List, [], _∷_}
 use lib.ListN.{length}
 use lib.Seq.{sets}
 use lib.Dec.{ltb}
+use Rattle.station.specs.Limits.{mostBytes, leastOutput}
 use Rattle.station.specs.Head.{Head}
 use Rattle.station.specs.Refusal.{Refusal, tooShort, textTooLong, try, firstOf}
 use Rattle.station.specs.Types.{refusalIn}
@@ -30,9 +31,9 @@ use Rattle.frame.specs.Listing.{listingOf}
 use Rattle.frame.specs.Demands.{Demand1, Demand2, Demand3}
 
 -- What a text comes to beside a lent output: 10, then 8 for "output below 8,192 bytes" as for a table below 512 cells, then the rest.
-unfoldable pub wholeBeside : List ℕ → List ℕ → List ℕ → Whole
-wholeBeside text t out =
-    elim (firstOf (try textTooLong (ltb 32768 (length text)) ∷ try tooShort (ltb (length out) 8192) ∷ []))
+unfoldable pub wholeWithOutput : List ℕ → List ℕ → List ℕ → Whole
+wholeWithOutput text t out =
+    elim (firstOf (try textTooLong (ltb mostBytes (length text)) ∷ try tooShort (ltb (length out) leastOutput) ∷ []))
     [ none ↦ wholeOf text t | some r ↦ notRead 0 r ]
 
 -- how a text ends: the number of bytes of the listing in the output, or the line and the cause of the one refusal
@@ -88,20 +89,20 @@ pub record Leaves (w : Whole) (given : record-of-head.Head) (ps : List record-of
   pub output : out₁ ≡ outputAfter w out
 
 abbrev pub TextDone : List ℕ → record-of-head.Head → List record-of-preset.Preset → List ℕ → ℕ → List ℕ → List ℕ → List ℕ → result.TextRun → Type 0
-TextDone text head ps t clock out t₁ out₁ r = Leaves (wholeBeside text t out) head ps t clock out t₁ out₁ r
+TextDone text head ps t clock out t₁ out₁ r = Leaves (wholeWithOutput text t out) head ps t clock out t₁ out₁ r
 
 -- What is claimed of a text beside a table and an output, whatever they are: the three demands, of the very outcome that `run_text_by_value` answers and leaves.
 -- That it holds for all of them is `text-claim` in proofs/text/WholeText.antt.
 pub record TextClaim (text t out : List ℕ) : Type 0 where
   -- "output below 8,192 bytes" is 8 at line 0; beside any other output a text comes to what demand 1 speaks of
-  pub short-output : length text ≤ 32768 → length out < 8192 → wholeBeside text t out ≡ notRead 0 tooShort
-  pub other-output : 8192 ≤ length out → wholeBeside text t out ≡ wholeOf text t
+  pub short-output : length text ≤ mostBytes → length out < leastOutput → wholeWithOutput text t out ≡ notRead 0 tooShort
+  pub other-output : leastOutput ≤ length out → wholeWithOutput text t out ≡ wholeOf text t
   -- "every station file, of whatever bytes, ends as a plan or as one numbered refusal", and each later line is accepted or changes nothing
   pub demand1 : Demand1 text t
   -- a text that ran has run every line after its head, from its plan and the first clock on
-  pub events : (h : Head) (n : ℕ) (g : List ℕ) (r : Run) → wholeBeside text t out ≡ ran h n g r → r ≡ runOf h (startOf (planOf h t .table)) (eventsOf text n)
-  -- its grants, its table and the table after each call are those of the rules
-  pub demand2 : (h : Head) (n : ℕ) (g : List ℕ) (r : Run) → wholeBeside text t out ≡ ran h n g r → Demand2 h t
+  pub events : (h : Head) (n : ℕ) (g : List ℕ) (r : Run) → wholeWithOutput text t out ≡ ran h n g r → r ≡ runOf h (startOf (planOf h t .table)) (eventsOf text n)
+  -- its grants, its plan's table and the table after each call, whatever table that meets, are those of the rules
+  pub demand2 : (h : Head) (n : ℕ) (g : List ℕ) (r : Run) → wholeWithOutput text t out ≡ ran h n g r → (u : List ℕ) → Demand2 h u
   -- demand 3 over the list of all its lines after the head, and what it says of the plan
-  pub demand3 : (h : Head) (n : ℕ) (g : List ℕ) (r : Run) → wholeBeside text t out ≡ ran h n g r → Demand3 h (startOf (planOf h t .table)) (eventsOf text n)
-  pub plan : (h : Head) (n : ℕ) (g : List ℕ) (r : Run) → wholeBeside text t out ≡ ran h n g r → PlanClaim h t
+  pub demand3 : (h : Head) (n : ℕ) (g : List ℕ) (r : Run) → wholeWithOutput text t out ≡ ran h n g r → Demand3 h (startOf (planOf h t .table)) (eventsOf text n)
+  pub plan : (h : Head) (n : ℕ) (g : List ℕ) (r : Run) → wholeWithOutput text t out ≡ ran h n g r → PlanClaim h t

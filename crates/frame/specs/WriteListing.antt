@@ -10,6 +10,7 @@ use mathlib.Core.List.{List, [], _∷_}
 use lib.ListN.{length}
 use lib.Seq.{sets}
 use lib.Dec.{ltb}
+use Rattle.station.specs.Limits.{mostBytes, leastCells, leastOutput}
 use Rattle.station.specs.Refusal.{Refusal, tooShort, textTooLong, try, firstOf}
 use Rattle.station.specs.Wrote.{moved}
 use Rattle.station.specs.WriteHead.{Answer, written, refused, answerOf, outputOf, answerIn}
@@ -21,7 +22,7 @@ use Rattle.frame.specs.TextDone.{tableAfter}
 -- The causes, in document 01's order: "text above 32,768 bytes", 10, then "output below 8,192 bytes" and "lent table below 512 cells", 8.
 unfoldable pub listingCause : List ℕ → List ℕ → List ℕ → Option Refusal
 listingCause text t out =
-    firstOf (try textTooLong (ltb 32768 (length text)) ∷ try tooShort (ltb (length out) 8192) ∷ try tooShort (ltb (length t) 512) ∷ [])
+    firstOf (try textTooLong (ltb mostBytes (length text)) ∷ try tooShort (ltb (length out) leastOutput) ∷ try tooShort (ltb (length t) leastCells) ∷ [])
 
 -- the number of bytes written, or the refusal; the table and the output afterwards
 pub record ListingOutcome : Type 0 where
@@ -39,7 +40,7 @@ unfoldable pub listingMeant : List ℕ → List ℕ → List ℕ → ListingOutc
 listingMeant text t out =
     elim (listingCause text t out) [
       | none ↦ listingWritten (wholeOf text t) t out
-      | some r ↦ record { answer = refused r; table = t; output = out }
+      | some r ↦ record { answer = refused 0 r; table = t; output = out }
     ]
 
 -- What `write_listing` answers and leaves.

@@ -7,6 +7,7 @@ use mathlib.Core.Option.{Option}
 use mathlib.Core.List.{List, [], _∷_, _++_}
 use lib.ListN.{length}
 use lib.Dec.{ltb}
+use Rattle.station.specs.Limits.{leastOutput, leastRecords}
 use Rattle.station.specs.Head.{within}
 use Rattle.station.specs.Refusal.{Refusal, outOfLimits, tooShort, try, firstOf}
 use Rattle.station.specs.Types.{headIn}
@@ -31,7 +32,7 @@ lineWritten causes line out = record { answer = answerOf (firstOf causes) (lengt
 
 -- "output below 8,192 bytes, the frame's size regardless"
 abbrev pub outputShort : List ℕ → Option Refusal
-outputShort out = try tooShort (ltb (length out) 8192)
+outputShort out = try tooShort (ltb (length out) leastOutput)
 
 -- the line of an answer: "Now: the clock. Taken: refinement cells lost. Refused: line and number."
 abbrev pub answerWritten : ℕ → reply.Answer → List ℕ → WriteOutcome
@@ -41,14 +42,14 @@ answerWritten n a out = lineWritten (outputShort out ∷ []) (answerLine n (type
 abbrev pub grantWritten : ℕ → ℕ → List ℕ → WriteOutcome
 grantWritten n g out = lineWritten (outputShort out ∷ []) (grantedLine n g) out
 
--- The causes of a slot's line: 8 for the output and for the table, 2 for the head record, 11 for the table, and 2 for "a value .. outside its limits", the
--- slot's number. A slot's line asks for no clock, so 11 is tried with the first clock, which every frame passes.
-abbrev pub slotCauses : record-of-head.Head → List record-of-preset.Preset → List ℕ → ℕ → List ℕ → List (Option Refusal)
-slotCauses head ps t s out = outputShort out ∷ (frameCausesOf head ps (startOf t) ++ (try outOfLimits (not (within 1 (head .slots) s)) ∷ []))
+-- The causes of a slot's line where the list has n records: 8 for the output, for the list and for the table, 2 for the head record, 11 for the table, and 2 for "a value ..
+-- outside its limits", the slot's number. A slot's line asks for no clock, so 11 is tried with the first clock, which every frame passes.
+abbrev pub slotCauses : ℕ → record-of-head.Head → List record-of-preset.Preset → List ℕ → ℕ → List ℕ → List (Option Refusal)
+slotCauses n head ps t s out = outputShort out ∷ try tooShort (ltb n leastRecords) ∷ (frameCausesOf head ps (startOf t) ++ (try outOfLimits (not (within 1 (head .slots) s)) ∷ []))
 
 -- the line of a slot, its number being the paper's, from 1 on: "Slot: its number, then the bridges"
-abbrev pub slotWritten : record-of-head.Head → List record-of-preset.Preset → List ℕ → ℕ → List ℕ → WriteOutcome
-slotWritten head ps t s out = lineWritten (slotCauses head ps t s out) (slotLine (headIn head ps) t (s - 1)) out
+abbrev pub slotWritten : ℕ → record-of-head.Head → List record-of-preset.Preset → List ℕ → ℕ → List ℕ → WriteOutcome
+slotWritten n head ps t s out = lineWritten (slotCauses n head ps t s out) (slotLine (headIn head ps) t (s - 1)) out
 
 -- What such an entry promises: its answer r and the output afterwards are those of the outcome.
 pub record WroteLine (o : WriteOutcome) (r : writing.Writing) (after : List ℕ) : Type 0 where

@@ -9,17 +9,18 @@ use crate::event::counted::clock_counted;
 use crate::event::counted::event_counted;
 use crate::types::Answer;
 use crate::types::Outcome;
+use placing::cells::Cell;
 use placing::check::Cause;
 use placing::check::frame_cause;
 use placing::counts::counts_of;
+use station::limits::MOST_PRESETS;
 use station::records::load;
 use station::records::record_count;
 use station::types::Head;
 use station::types::Preset;
-ghost use lib.ListN.{length};
 ghost use Rattle.placing.specs.State.{stateOf};
 ghost use Rattle.frame.specs.Event.{Event};
-ghost use Rattle.frame.specs.EventEntry.{EventListed, EventEntry};
+ghost use Rattle.frame.specs.EventEntry.{EventEntry};
 ghost use Rattle.frame.specs.EventDone.{EventDone};
 ghost use mathlib.Core.List.{[], _∷_};
 ghost use Rattle.station.specs.Types.{headIn};
@@ -27,13 +28,13 @@ ghost use Rattle.placing.specs.Claims.{Running};
 ghost use Rattle.frame.specs.Demands.{Demand3};
 
 // Sets the clock: "slot t is about to begin". The causes 8 of the list and of the table, 2 of the head record, 11, then 2 where t is outside 1 to S + 1, and 6 where
-// it is below the present clock. The list and the table are only looked at.
-pub fn set_clock(head: Head, presets: &[Preset], table: &[u16], clock: usize, t: usize) -> Outcome
-    ensures { λ r. ⌜ EventListed (length (now (presets .entry))) head (now (presets .entry)) (stateOf (now (table .entry)) clock) (Event.clock t) (now (table .entry)) r ⌝ }
+// it is below the present clock. The list and the table are only looked at. A frame that 11 lets pass is such a frame afterwards.
+pub fn set_clock(head: Head, presets: &[Preset], table: &[Cell], clock: usize, t: usize) -> Outcome
+    ensures { λ r. ⌜ EventEntry head (now (presets .entry)) (stateOf (now (table .entry)) clock) (Event.clock t) (now (table .entry)) r ⌝ }
 {
     let records = record_count(presets);
-    let bank = load(presets);
-    clock_counted(records, head, bank, table, clock, t)
+    let copied = load(presets);
+    clock_counted(records, head, copied, table, clock, t)
 }
 
 // One event line, its byte 10 included, on the table and the clock that the last event left: the causes 8 of the list and of the table, 2 of the head record, 11,
@@ -42,31 +43,33 @@ pub fn set_clock(head: Head, presets: &[Preset], table: &[u16], clock: usize, t:
 pub fn event(
     head: Head,
     presets: &[Preset],
-    table: &mut [u16],
+    table: &mut [Cell],
     clock: usize,
     line: &[u8],
 ) -> Outcome
     ensures { λ r. ⌜ EventEntry head (now (presets .entry)) (stateOf (now (table .entry)) clock) (Event.line (now (line .entry))) (now (table .exit)) r ⌝ }
 {
     let records = record_count(presets);
-    let bank = load(presets);
-    event_counted(records, head, bank, table, clock, line)
+    let copied = load(presets);
+    event_counted(records, head, copied, table, clock, line)
 }
 
 // Sets the clock: "slot t is about to begin". The causes 8, 2 of the head record, 11, then 2 where t is outside 1 to S + 1, and 6 where it is below the
-// present clock. The table is only looked at.
+// present clock. The table is only looked at. A frame that 11 lets pass is such a frame afterwards.
 pub fn set_clock_by_value(
     head: Head,
-    presets: [Preset; 32],
-    table: &[u16],
+    presets: [Preset; MOST_PRESETS],
+    table: &[Cell],
     clock: usize,
     t: usize,
 ) -> Outcome
-    ensures { λ r. ⌜ EventDone head presets (stateOf (now (table .entry)) clock) (Event.clock t) (now (table .entry)) r ⌝ }
+    ensures done { λ r. ⌜ EventDone head presets (stateOf (now (table .entry)) clock) (Event.clock t) (now (table .entry)) r ⌝ }
+    ensures kept { λ r. ⌜ (Running (headIn head presets) (stateOf (now (table .entry)) clock) → Running (headIn head presets) (stateOf (now (table .entry)) (r .clock))) ⌝ }
+    ensures claim { λ _. ⌜ (Running (headIn head presets) (stateOf (now (table .entry)) clock) → Demand3 (headIn head presets) (stateOf (now (table .entry)) clock) (Event.clock t ∷ [])) ⌝ }
 {
     if let Cause::Met(r) = frame_cause(head, presets, table, clock) {
         return Outcome {
-            answer: Answer::Refused(r),
+            answer: Answer::Refused(0, r),
             clock,
         };
     }
@@ -78,8 +81,8 @@ pub fn set_clock_by_value(
 // events handed over one by one.
 pub fn event_by_value(
     head: Head,
-    presets: [Preset; 32],
-    table: &mut [u16],
+    presets: [Preset; MOST_PRESETS],
+    table: &mut [Cell],
     clock: usize,
     line: &[u8],
 ) -> Outcome
@@ -89,13 +92,13 @@ pub fn event_by_value(
 {
     if let Cause::Met(r) = frame_cause(head, presets, table, clock) {
         return Outcome {
-            answer: Answer::Refused(r),
+            answer: Answer::Refused(0, r),
             clock,
         };
     }
     let counts = counts_of(head, presets, table, clock);
     let mut used = counts.used;
-    let mut held = counts.jobs;
+    let mut admitted = counts.jobs;
     let mut capacities = counts.capacities;
     event_by_counts(
         head,
@@ -103,7 +106,7 @@ pub fn event_by_value(
         table,
         clock,
         &mut used,
-        &mut held,
+        &mut admitted,
         &mut capacities,
         line,
     )

@@ -1,18 +1,24 @@
 // A whole text: head, plan, then every line as an event, and the listing as it comes. The entry `run_text` has its presets in a borrowed slice of records, `run_text_by_value` by
 // value.
 mod counted; // counted.rt: what the entry does with the records by value, where the list has as many records as are counted
-mod lines; // lines.rt: the lines of a text after its head
+pub(crate) mod lines; // lines.rt: the lines of a text, or those after its head
 
 use crate::listing::bytes::granted_lines;
 use crate::listing::bytes::slot_lines;
 use crate::text::counted::answer_of;
-use crate::text::counted::bank_of;
+use crate::text::counted::presets_of;
 use crate::text::counted::text_counted;
 use crate::text::lines::run_lines;
+use placing::cells::Cell;
+use placing::check::FIRST_CLOCK;
 use placing::plan::PlanAnswer;
 use placing::plan::plan_by_value;
 use station::heads::ReadAnswer;
 use station::heads::read_head_by_value;
+use station::limits::LEAST_CELLS;
+use station::limits::LEAST_OUTPUT;
+use station::limits::MOST_BYTES;
+use station::limits::MOST_PRESETS;
 use station::records::load;
 use station::records::record_count;
 use station::records::save;
@@ -39,16 +45,16 @@ pub fn run_text(
     text: &[u8],
     head: Head,
     presets: &mut [Preset],
-    table: &mut [u16],
+    table: &mut [Cell],
     clock: usize,
     out: &mut [u8],
 ) -> TextAnswer
     ensures { λ r. ⌜ TextEntry (now (text .entry)) head (now (presets .entry)) (now (table .entry)) clock (now (out .entry)) (now (presets .exit)) (now (table .exit)) (now (out .exit)) r ⌝ }
 {
     let records = record_count(presets);
-    let bank = load(presets);
-    let run = text_counted(records, text, head, bank, table, clock, out);
-    save(presets, bank_of(run), 32);
+    let copied = load(presets);
+    let run = text_counted(records, text, head, copied, table, clock, out);
+    save(presets, presets_of(run), MOST_PRESETS);
     answer_of(run)
 }
 
@@ -62,12 +68,18 @@ pub enum Ended {
 pub struct TextRun {
     pub ended: Ended,
     pub head: Head,
-    pub presets: [Preset; 32],
+    pub presets: [Preset; MOST_PRESETS],
     pub clock: usize,
 }
 
 // A refusal, with the head, the presets and the clock that it leaves.
-fn refused(line: usize, cause: Refusal, head: Head, presets: [Preset; 32], clock: usize) -> TextRun
+fn refused(
+    line: usize,
+    cause: Refusal,
+    head: Head,
+    presets: [Preset; MOST_PRESETS],
+    clock: usize,
+) -> TextRun
     ensures { λ r. ⌜ r ≡ refusedRun line cause head presets clock ⌝ }
 {
     TextRun {
@@ -84,8 +96,8 @@ fn run_head(
     bytes: usize,
     lines: usize,
     head: Head,
-    presets: [Preset; 32],
-    table: &mut [u16],
+    presets: [Preset; MOST_PRESETS],
+    table: &mut [Cell],
     clock: usize,
     out: &mut [u8],
 ) -> TextRun
@@ -95,12 +107,22 @@ fn run_head(
     let planned = plan_by_value(head, presets, table);
     let answer = planned.answer;
     let grants = planned.grants;
-    if let PlanAnswer::Refused(cause) = answer {
+    if let PlanAnswer::Refused(_, cause) = answer {
         return refused(lines, cause, head, presets, clock);
     }
     let granted = granted_lines(out, 0, presets, grants, head.count);
-    let ran = run_lines(text, bytes, lines, head, presets, table, out, granted);
-    let end = slot_lines(out, ran.place, head.slots, head.bridges, table);
+    let ran = run_lines(
+        text,
+        bytes,
+        lines,
+        head,
+        presets,
+        table,
+        FIRST_CLOCK,
+        out,
+        granted,
+    );
+    let end = slot_lines(out, ran.position, head.slots, head.bridges, table);
     TextRun {
         ended: Ended::Ran(end),
         head,
@@ -115,21 +137,21 @@ fn run_head(
 pub fn run_text_by_value(
     text: &[u8],
     head: Head,
-    presets: [Preset; 32],
-    table: &mut [u16],
+    presets: [Preset; MOST_PRESETS],
+    table: &mut [Cell],
     clock: usize,
     out: &mut [u8],
 ) -> TextRun
     ensures done { λ r. ⌜ TextDone (now (text .entry)) head presets (now (table .entry)) clock (now (out .entry)) (now (table .exit)) (now (out .exit)) r ⌝ }
     ensures claim { λ _. ⌜ TextClaim (now (text .entry)) (now (table .entry)) (now (out .entry)) ⌝ }
 {
-    if 32768 < text.len() {
+    if MOST_BYTES < text.len() {
         return refused(0, Refusal::TextTooLong, head, presets, clock);
     }
-    if out.len() < 8192 {
+    if out.len() < LEAST_OUTPUT {
         return refused(0, Refusal::TooShort, head, presets, clock);
     }
-    if table.len() < 512 {
+    if table.len() < LEAST_CELLS {
         return refused(0, Refusal::TooShort, head, presets, clock);
     }
     let read = read_head_by_value(text, head, presets);

@@ -5,7 +5,7 @@ use station::types::Refusal;
 pub enum Answer {
     Now(usize),
     Taken(usize),
-    Refused(Refusal),
+    Refused(usize, Refusal),
 }
 
 // What one event comes to beside the table: its answer, and the clock afterwards.

@@ -35,26 +35,26 @@ module _ {text t out out₁ : List ℕ} (long : 655360 ≤ length out) where
         output = w .output ∙ ap (λ (o : Option Refusal). outputOf o (listingOf (wholeOf text t)) out) e;
       }
       go (some r) e =
-          let q : written n ≡ refused r = w .answer ∙ ap (λ (o : Option Refusal). answerOf o (length (listingOf (wholeOf text t)))) e in
+          let q : written n ≡ refused 0 r = w .answer ∙ ap (λ (o : Option Refusal). answerOf o (length (listingOf (wholeOf text t)))) e in
           absurd (let z : _≡_ {A = ℕ} 0 1 = cc in omega arith)
 
   -- the one line of a text that was not taken, where the refusal left the output
-  pub printed-refusal : {c : cause.Refusal} {out₂ : List ℕ} {r : writing.Writing} → ListedWhole text t out out₁ (Refused c)
-      → WroteLine (answerWritten 0 (reply.Refused c) out₁) r out₂ → WroteLine (lineWritten [] (listingOf (wholeOf text t)) out) r out₂
+  pub printed-refusal : {k : ℕ} {c : cause.Refusal} {out₂ : List ℕ} {r : writing.Writing} → ListedWhole text t out out₁ (Refused k c)
+      → WroteLine (answerWritten 0 (reply.Refused 0 c) out₁) r out₂ → WroteLine (lineWritten [] (listingOf (wholeOf text t)) out) r out₂
   unfolding lineWritten firstOf answerLine listingOf
-  printed-refusal {c} {out₂} {r} w x = go (listingCause text t out) refl
+  printed-refusal {k} {c} {out₂} {r} w x = go (listingCause text t out) refl
     where
       go : (o : Option Refusal) → listingCause text t out ≡ o → WroteLine (lineWritten [] (listingOf (wholeOf text t)) out) r out₂
       go none e =
-          let q : refused (refusalIn c) ≡ written (length (listingOf (wholeOf text t))) =
+          let q : refused k (refusalIn c) ≡ written (length (listingOf (wholeOf text t))) =
           w .answer ∙ ap (λ (o : Option Refusal). answerOf o (length (listingOf (wholeOf text t)))) e in
           absurd (let z : _≡_ {A = ℕ} 0 1 = cc in omega arith)
       go (some d) e =
-          let q : refused (refusalIn c) ≡ refused d = w .answer ∙ ap (λ (o : Option Refusal). answerOf o (length (listingOf (wholeOf text t)))) e in
+          let q : refused k (refusalIn c) ≡ refused 0 d = w .answer ∙ ap (λ (o : Option Refusal). answerOf o (length (listingOf (wholeOf text t)))) e in
           let same : out₁ ≡ out = w .output ∙ ap (λ (o : Option Refusal). outputOf o (listingOf (wholeOf text t)) out) e in
-          let is-line : listingOf (wholeOf text t) ≡ answerLine 0 (meant.Answer.refused (refusalIn c)) =
+          let is-line : listingOf (wholeOf text t) ≡ answerLine 0 (meant.Answer.refused 0 (refusalIn c)) =
           ap listingOf (cause-whole text t out d (omega (arith, long)) e) ∙ ap (refusedLine 0) (let i : d ≡ refusalIn c = cc in i) in
-          let o : WroteLine (answerWritten 0 (reply.Refused c) out) r out₂ = rw same at x in
+          let o : WroteLine (answerWritten 0 (reply.Refused 0 c) out) r out₂ = rw same at x in
           let enough = ltb-no (length out) 8192 (omega (arith, long)) in
           rw is-line (record { answer = o .answer ∙ rw enough refl; output = o .output ∙ rw enough refl })
 
@@ -70,10 +70,10 @@ printed-bytes line out {out₁} {r} {n} w e =
     )
 
 -- and no such writing is refused
-pub printed-never : (line out : List ℕ) {out₁ : List ℕ} {r : writing.Writing} {c : cause.Refusal} → WroteLine (lineWritten [] line out) r out₁ → r ≡ Refused c → ⊥
+pub printed-never : (line out : List ℕ) {out₁ : List ℕ} {r : writing.Writing} {k : ℕ} {c : cause.Refusal} → WroteLine (lineWritten [] line out) r out₁ → r ≡ Refused k c → ⊥
 unfolding lineWritten firstOf
-printed-never line out {out₁} {r} {c} w e =
-    let q : refused (refusalIn c) ≡ written (length line) = sym (ap answerIn e) ∙ w .answer in
+printed-never line out {out₁} {r} {k} {c} w e =
+    let q : refused k (refusalIn c) ≡ written (length line) = sym (ap answerIn e) ∙ w .answer in
     let z : _≡_ {A = ℕ} 0 1 = cc in
     omega arith
 

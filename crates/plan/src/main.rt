@@ -19,11 +19,11 @@ fn listing(text: &[u8], table: &mut [u16], out: &mut [u8]) -> usize
     let listed = write_listing(text, table, out);
     match listed {
         Writing::Written(n) => n,
-        Writing::Refused(cause) => {
-            let line = write_answer(out, 0, Answer::Refused(cause));
+        Writing::Refused(_, cause) => {
+            let line = write_answer(out, 0, Answer::Refused(0, cause));
             match line {
                 Writing::Written(n) => n,
-                Writing::Refused(_) => 0,
+                Writing::Refused(_, _) => 0,
             }
         }
     }

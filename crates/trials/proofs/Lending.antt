@@ -46,28 +46,28 @@ use Rattle.station.proofs.types.Job as J
 use Rattle.station.proofs.types.Job.Laws as J′
 use Rattle.station.proofs.types.Preset as T
 use Rattle.station.proofs.types.Preset.Laws as T′
-use Rattle.station.proofs.Walks.{Bank, bank-val, bank-tells, bank-makes}
+use Rattle.station.proofs.Walks.{Bank, copied-val, copied-tells, copied-makes}
 
 -- ---- 32 records in a local
 
 module _ {M : Type 1} (𝓤 : URA M) (H : Heap 𝓤) (A : Atoms 𝓤) (W : Given 𝓤 H A) (b : ℕ) (ps : List Preset) where
   -- the local that holds them as one value
   abbrev pub Local : Fml
-  Local = fat fullShare (tyArray T′.mir 32) b 0 (bank-val ps)
+  Local = fat fullShare (tyArray T′.mir 32) b 0 (copied-val ps)
 
-  in-memory : Is Bank ps (bank-val ps ∷ []) → ent 𝓤 (sem 𝓤 H A Local) (sem 𝓤 H A (partAt Bank fullShare ps b 0))
+  in-memory : Is Bank ps (copied-val ps ∷ []) → ent 𝓤 (sem 𝓤 H A Local) (sem 𝓤 H A (partAt Bank fullShare ps b 0))
   unfolding partOf
   in-memory is =
-      qed W (‵ Local ∷ []) ∵ use1 W (‵ (cellAt fullShare (Bank .mir) (bank-val ps ∷ []) b 0)) (W .laws .at-raw fullShare (tyArray T′.mir 32) b 0 (bank-val ps)) $
-      owned ! Bank (Is Bank) (bank-makes 𝓤 H A W) ps _ is $ move ! (1 ∷ 0 ∷ []) $ fjoin ! $
-      fpack ! (List Val) (λ vs. fsep (cellAt fullShare (Bank .mir) vs b 0) (Bank .own ps vs)) (bank-val ps ∷ []) $ done !
+      qed W (‵ Local ∷ []) ∵ use1 W (‵ (cellAt fullShare (Bank .mir) (copied-val ps ∷ []) b 0)) (W .laws .at-raw fullShare (tyArray T′.mir 32) b 0 (copied-val ps)) $
+      owned ! Bank (Is Bank) (copied-makes 𝓤 H A W) ps _ is $ move ! (1 ∷ 0 ∷ []) $ fjoin ! $
+      fpack ! (List Val) (λ vs. fsep (cellAt fullShare (Bank .mir) vs b 0) (Bank .own ps vs)) (copied-val ps ∷ []) $ done !
 
   -- they are records then
-  out-of-memory : ent 𝓤 (sem 𝓤 H A (partAt Bank fullShare ps b 0)) (guard 𝓤 (Is Bank ps (bank-val ps ∷ [])) (sem 𝓤 H A Local))
+  out-of-memory : ent 𝓤 (sem 𝓤 H A (partAt Bank fullShare ps b 0)) (guard 𝓤 (Is Bank ps (copied-val ps ∷ [])) (sem 𝓤 H A Local))
   unfolding partOf
   out-of-memory =
-      qed W (‵ (partAt Bank fullShare ps b 0) ∷ []) ∵ fpick ! (λ vs. fsplit ! $ move ! (1 ∷ []) $ peeks ! Bank (Is Bank) (shows 𝓤 H A Bank) ps vs (λ is. drop ! $ check ! (subst (Is Bank ps) (bank-tells ps vs is) is) $
-      rewrite ! 0 (λ (us : List Val). ‵ (cellAt fullShare (Bank .mir) us b 0)) (bank-tells ps vs is) refl $ use1 W (‵ Local) (W .laws .raw-at fullShare (tyArray T′.mir 32) b 0 (bank-val ps)) $ done !))
+      qed W (‵ (partAt Bank fullShare ps b 0) ∷ []) ∵ fpick ! (λ vs. fsplit ! $ move ! (1 ∷ []) $ peeks ! Bank (Is Bank) (shows 𝓤 H A Bank) ps vs (λ is. drop ! $ check ! (subst (Is Bank ps) (copied-tells ps vs is) is) $
+      rewrite ! 0 (λ (us : List Val). ‵ (cellAt fullShare (Bank .mir) us b 0)) (copied-tells ps vs is) refl $ use1 W (‵ Local) (W .laws .raw-at fullShare (tyArray T′.mir 32) b 0 (copied-val ps)) $ done !))
 
   -- the elements side by side
   abbrev Elements : ℕ → Fml
@@ -88,7 +88,7 @@ module _ {M : Type 1} (𝓤 : URA M) (H : Heap 𝓤) (A : Atoms 𝓤) (W : Given
     abbrev pub LentShared : Fml
     LentShared = flent κ (Elements (length ps))
 
-    pub lends-shared : Is Bank ps (bank-val ps ∷ []) → ent 𝓤 (sem 𝓤 H A Local) (H .⇛ (ex 𝓤 (λ (δ : GName). sep 𝓤 (sem 𝓤 H A (Shared δ)) (sem 𝓤 H A LentShared))))
+    pub lends-shared : Is Bank ps (copied-val ps ∷ []) → ent 𝓤 (sem 𝓤 H A Local) (H .⇛ (ex 𝓤 (λ (δ : GName). sep 𝓤 (sem 𝓤 H A (Shared δ)) (sem 𝓤 H A LentShared))))
     lends-shared is =
         qed W (‵ Local ∷ []) ∵ use1 W (‵ (partAt Bank fullShare ps b 0)) (in-memory is) $ use1 W (‵ (Elements 32)) (array-apart 𝓤 H A W T.the-row fullShare tt 32 ps b 0) $
         fsplit ! $ feqL ! (λ l. feqI ! ℕ (length ps) (length ps) refl $ fjoin ! $
@@ -98,7 +98,7 @@ module _ {M : Type 1} (𝓤 : URA M) (H : Heap 𝓤) (A : Atoms 𝓤) (W : Given
     pub shared-back : length ps ≡ 32 → ent 𝓤 (sep 𝓤 (A .dead κ) (sem 𝓤 H A LentShared)) (H .⇛ (sem 𝓤 H A Local))
     shared-back l =
         qed W (‵ (fdead κ) ∷ ‵ LentShared ∷ []) ∵ updating ! $ lent-back ! tt $ fsplit ! $ drop ! $ feqI ! ℕ (length ps) 32 l $ fjoin ! $
-        use1 W (‵ (partAt Bank fullShare ps b 0)) (array-whole 𝓤 H A W T.the-row fullShare 32 ps b 0) $ use1 W (given (Is Bank ps (bank-val ps ∷ [])) (‵ Local)) out-of-memory $ learn ! (λ _. at-once ! $ done !)
+        use1 W (‵ (partAt Bank fullShare ps b 0)) (array-whole 𝓤 H A W T.the-row fullShare 32 ps b 0) $ use1 W (given (Is Bank ps (copied-val ps ∷ [])) (‵ Local)) out-of-memory $ learn ! (λ _. at-once ! $ done !)
 
     -- ---- lent as a `&mut`
     abbrev pub Mutable : GName → Fml
@@ -107,7 +107,7 @@ module _ {M : Type 1} (𝓤 : URA M) (H : Heap 𝓤) (A : Atoms 𝓤) (W : Given
     abbrev pub LentMut : ℕ → GName → Fml
     LentMut n δ = flent κ (Held T.the-row n b 0 δ)
 
-    pub lends-mut : Is Bank ps (bank-val ps ∷ []) → ent 𝓤 (sem 𝓤 H A Local) (H .⇛ (ex 𝓤 (λ (δ : GName). sep 𝓤 (sem 𝓤 H A (Mutable δ)) (sem 𝓤 H A (LentMut (length ps) δ)))))
+    pub lends-mut : Is Bank ps (copied-val ps ∷ []) → ent 𝓤 (sem 𝓤 H A Local) (H .⇛ (ex 𝓤 (λ (δ : GName). sep 𝓤 (sem 𝓤 H A (Mutable δ)) (sem 𝓤 H A (LentMut (length ps) δ)))))
     lends-mut is =
         qed W (‵ Local ∷ []) ∵ use1 W (‵ (partAt Bank fullShare ps b 0)) (in-memory is) $ use1 W (‵ (Elements 32)) (array-apart 𝓤 H A W T.the-row fullShare tt 32 ps b 0) $
         fsplit ! $ feqL ! (λ l. rewrite ! 0 (λ (F : Fml). ‵ F) (parts-cells T.the-row fullShare ps b 0) refl $
@@ -115,11 +115,11 @@ module _ {M : Type 1} (𝓤 : URA M) (H : Heap 𝓤) (A : Atoms 𝓤) (W : Given
         (lends-slice 𝓤 H A W T.the-row (named 0) κ ps b 0 (room l))))
 
     -- where the list is ps at last, whatever it was
-    pub mut-back : (n : ℕ) (δ : GName) → n ≡ 32 → ent 𝓤 (sep 𝓤 (A .dead κ) (sep 𝓤 (sem 𝓤 H A (LentMut n δ)) (sem 𝓤 H A (finally T.the-row δ ps)))) (H .⇛ (guard 𝓤 (Is Bank ps (bank-val ps ∷ [])) (sem 𝓤 H A Local)))
+    pub mut-back : (n : ℕ) (δ : GName) → n ≡ 32 → ent 𝓤 (sep 𝓤 (A .dead κ) (sep 𝓤 (sem 𝓤 H A (LentMut n δ)) (sem 𝓤 H A (finally T.the-row δ ps)))) (H .⇛ (guard 𝓤 (Is Bank ps (copied-val ps ∷ [])) (sem 𝓤 H A Local)))
     mut-back n δ e =
         qed W (‵ (fdead κ) ∷ ‵ (LentMut n δ) ∷ ‵ (finally T.the-row δ ps) ∷ []) ∵ updating ! $ use3 W (later (‵ (Arr (mem T.the-row) n .lies ps b 0))) (slice-back 𝓤 H A W T.the-row κ δ ps n b 0) $ await ! tt $
         fsplit ! $ feqL ! (λ l. rewrite ! 0 (λ (F : Fml). ‵ F) (sym (parts-cells T.the-row fullShare ps b 0)) refl $ feqI ! ℕ (length ps) 32 (subst (λ (k : ℕ). length ps ≡ k) e l) $ fjoin ! $
-        use1 W (‵ (partAt Bank fullShare ps b 0)) (array-whole 𝓤 H A W T.the-row fullShare 32 ps b 0) $ use1 W (given (Is Bank ps (bank-val ps ∷ [])) (‵ Local)) out-of-memory $ learn ! (λ is. at-once ! $ check ! is $ done !))
+        use1 W (‵ (partAt Bank fullShare ps b 0)) (array-whole 𝓤 H A W T.the-row fullShare 32 ps b 0) $ use1 W (given (Is Bank ps (copied-val ps ∷ [])) (‵ Local)) out-of-memory $ learn ! (λ is. at-once ! $ check ! is $ done !))
 
 -- ---- a call of which only the result's type is used
 

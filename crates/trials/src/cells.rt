@@ -1,14 +1,15 @@
 // The library's table. Past the frame's cells it is full of a mark that must stay.
 use crate::records::number_of;
+use placing::cells::Cell;
 use second_planner::frames::cells;
 use second_planner::packed::field;
 use second_planner::packed::has;
 
 // The mark, a cell of no kind.
-pub const MARK: u16 = 54321;
+pub const MARK: Cell = 54321;
 
 // A cell of the library's table by a small one's: document 01, kind × 256 + number.
-fn cell_of(cell: usize) -> u16 {
+fn cell_of(cell: usize) -> Cell {
     if cell == 0 {
         return 0;
     }
@@ -16,7 +17,7 @@ fn cell_of(cell: usize) -> u16 {
 }
 
 // What the library's table has at a place for a small one: the mark past the frame's cells.
-fn cell_at(frame: usize, table: usize, i: usize) -> u16 {
+fn cell_at(frame: usize, table: usize, i: usize) -> Cell {
     if i >= cells(frame) {
         return MARK;
     }
@@ -27,7 +28,7 @@ fn cell_at(frame: usize, table: usize, i: usize) -> u16 {
 }
 
 // The library's table of a small one.
-pub fn table_of(frame: usize, small: usize) -> [u16; 512] {
+pub fn table_of(frame: usize, small: usize) -> [Cell; 512] {
     let mut table = [MARK; 512];
     let mut i = 0;
     while i < 6 {
@@ -38,7 +39,7 @@ pub fn table_of(frame: usize, small: usize) -> [u16; 512] {
 }
 
 // Whether the library's table is a small one's, and the mark is in all other cells.
-pub fn is_table(frame: usize, small: usize, table: [u16; 512]) -> bool {
+pub fn is_table(frame: usize, small: usize, table: [Cell; 512]) -> bool {
     let mut i = 0;
     while i < 512 {
         if table[i] != cell_at(frame, small, i) {

@@ -2,11 +2,15 @@
 // (A function that lends records is proved by a walk by hand, so that each of these is one call.)
 use frame::event::event;
 use frame::event::set_clock;
+use frame::events::EventsAnswer;
+use frame::events::run_events;
+use frame::listing::write_slot;
 use frame::text::TextAnswer;
 use frame::text::run_text;
 use frame::types::Outcome;
 use placing::call::CallAnswer;
 use placing::call::call;
+use placing::cells::Cell;
 use placing::plan::Planned;
 use placing::plan::plan;
 use station::entries::HeadAnswer;
@@ -36,7 +40,7 @@ pub fn lent_write_head(head: Head, presets: [Preset; 32], out: &mut [u8]) -> Wri
 }
 
 // Plans a head.
-pub fn lent_plan(head: Head, presets: [Preset; 32], table: &mut [u16]) -> Planned {
+pub fn lent_plan(head: Head, presets: [Preset; 32], table: &mut [Cell]) -> Planned {
     plan(head, &presets, table)
 }
 
@@ -44,7 +48,7 @@ pub fn lent_plan(head: Head, presets: [Preset; 32], table: &mut [u16]) -> Planne
 pub fn lent_call(
     head: Head,
     presets: [Preset; 32],
-    table: &mut [u16],
+    table: &mut [Cell],
     clock: usize,
     jobs: [Job; 8],
     n: usize,
@@ -56,7 +60,7 @@ pub fn lent_call(
 pub fn lent_set_clock(
     head: Head,
     presets: [Preset; 32],
-    table: &[u16],
+    table: &[Cell],
     clock: usize,
     t: usize,
 ) -> Outcome {
@@ -67,7 +71,7 @@ pub fn lent_set_clock(
 pub fn lent_event(
     head: Head,
     presets: [Preset; 32],
-    table: &mut [u16],
+    table: &mut [Cell],
     clock: usize,
     line: &[u8],
 ) -> Outcome {
@@ -79,10 +83,33 @@ pub fn lent_run_text(
     text: &[u8],
     head: Head,
     presets: [Preset; 32],
-    table: &mut [u16],
+    table: &mut [Cell],
     clock: usize,
     out: &mut [u8],
 ) -> TextAnswer {
     let mut list = presets;
     run_text(text, head, &mut list, table, clock, out)
+}
+
+// A text of events.
+pub fn lent_run_events(
+    head: Head,
+    presets: [Preset; 32],
+    table: &mut [Cell],
+    clock: usize,
+    text: &[u8],
+    out: &mut [u8],
+) -> EventsAnswer {
+    run_events(head, &presets, table, clock, text, out)
+}
+
+// The line of a slot.
+pub fn lent_write_slot(
+    head: Head,
+    presets: [Preset; 32],
+    table: &[Cell],
+    slot: usize,
+    out: &mut [u8],
+) -> Writing {
+    write_slot(head, &presets, table, slot, out)
 }

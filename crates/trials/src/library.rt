@@ -9,6 +9,7 @@ use crate::records::presets_of;
 use crate::records::refused;
 use placing::call::CallAnswer;
 use placing::call::call_by_value;
+use placing::cells::Cell;
 use placing::plan::PlanAnswer;
 use placing::plan::Planned;
 use placing::plan::plan_by_value;
@@ -21,7 +22,7 @@ fn plan_report(planned: Planned) -> usize {
     let grants = planned.grants;
     match answer {
         PlanAnswer::Granted => grants_in(grants) << 56,
-        PlanAnswer::Refused(cause) => refused(cause),
+        PlanAnswer::Refused(_, cause) => refused(cause),
     }
 }
 
@@ -33,12 +34,12 @@ fn call_report(answer: CallAnswer) -> usize {
         } else {
             NO_TABLE
         },
-        CallAnswer::Refused(cause) => refused(cause),
+        CallAnswer::Refused(_, cause) => refused(cause),
     }
 }
 
 // The library's answer as the second planner writes it: the table that is expected, if it is that, and what is reported.
-fn answer_with(frame: usize, table: [u16; 512], expected: usize, report: usize) -> usize {
+fn answer_with(frame: usize, table: [Cell; 512], expected: usize, report: usize) -> usize {
     if is_table(frame, expected, table) {
         return expected & 0xffffffffffff | report;
     }

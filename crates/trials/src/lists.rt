@@ -1,20 +1,22 @@
-// The listing of document 01, its head read into a lent list of preset records and written from it, planned, and its events handed over one by one: each entry over a lent
+// The listing of document 01, its head read into a lent list of preset records and written from it, planned, and its events handed over one by one, then as a text: each entry over a lent
 // list once. Then the whole text. What each answers is written, and the first eight cells of the table, which are the frame's, after each that changes it.
 use crate::lent::lent_call;
 use crate::lent::lent_event;
 use crate::lent::lent_plan;
 use crate::lent::lent_read_head;
 use crate::lent::lent_records;
+use crate::lent::lent_run_events;
 use crate::lent::lent_run_text;
 use crate::lent::lent_set_clock;
 use crate::lent::lent_write_head;
+use crate::lent::lent_write_slot;
 use crate::texts::line;
 use crate::texts::write_first;
 use frame::text::Ended;
-use frame::text::TextAnswer;
 use frame::types::Answer;
 use frame::types::Outcome;
 use placing::call::CallAnswer;
+use placing::cells::Cell;
 use placing::plan::PlanAnswer;
 use placing::plan::Planned;
 use station::causes::cause_number;
@@ -40,12 +42,12 @@ fn jobs() -> [Job; 8] {
     jobs
 }
 
-fn wide(cell: u16) -> u64 {
+fn wide(cell: Cell) -> u64 {
     cell as u64
 }
 
 // Writes the cells of four slots of two bridges.
-fn show_cells(table: &[u16; 512]) {
+fn show_cells(table: &[Cell; 512]) {
     line(b"cells", wide(table[0]), wide(table[1]));
     line(b"cells", wide(table[2]), wide(table[3]));
     line(b"cells", wide(table[4]), wide(table[5]));
@@ -60,11 +62,11 @@ fn show_read(read: HeadAnswer) {
     }
 }
 
-// Writes the head that was written.
+// Writes the head that was written, or the line.
 fn show_written(written: Writing, out: &[u8]) {
     match written {
         Writing::Written(n) => write_first(out, n),
-        Writing::Refused(cause) => line(b"refused", 0, cause_number(cause) as u64),
+        Writing::Refused(n, cause) => line(b"refused", n as u64, cause_number(cause) as u64),
     }
 }
 
@@ -74,14 +76,14 @@ fn show_planned(planned: Planned) {
     let grants = planned.grants;
     match answer {
         PlanAnswer::Granted => line(b"granted", grants[0] as u64, grants[1] as u64),
-        PlanAnswer::Refused(cause) => line(b"refused", 0, cause_number(cause) as u64),
+        PlanAnswer::Refused(n, cause) => line(b"refused", n as u64, cause_number(cause) as u64),
     }
 }
 
 fn show_called(answer: CallAnswer) {
     match answer {
         CallAnswer::Taken(n) => line(b"taken", n as u64, 0),
-        CallAnswer::Refused(cause) => line(b"refused", 0, cause_number(cause) as u64),
+        CallAnswer::Refused(n, cause) => line(b"refused", n as u64, cause_number(cause) as u64),
     }
 }
 
@@ -92,13 +94,12 @@ fn show_outcome(outcome: Outcome) {
     match answer {
         Answer::Now(t) => line(b"now", t as u64, clock as u64),
         Answer::Taken(n) => line(b"taken", n as u64, clock as u64),
-        Answer::Refused(cause) => line(b"refused", 0, cause_number(cause) as u64),
+        Answer::Refused(n, cause) => line(b"refused", n as u64, cause_number(cause) as u64),
     }
 }
 
-// Writes the listing of a text that ran.
-fn show_run(run: TextAnswer, out: &[u8]) {
-    let ended = run.ended;
+// Writes the listing of a text that ran, or its answers.
+fn show_run(ended: Ended, out: &[u8]) {
     match ended {
         Ended::Ran(n) => write_first(out, n),
         Ended::Refused(n, cause) => line(b"refused", n as u64, cause_number(cause) as u64),
@@ -129,12 +130,27 @@ fn try_events(head: Head, records: [Preset; 32]) {
     show_outcome(lent_event(head, records, &mut table, 2, b"(call (11 1))\n"));
 }
 
+// Its plan again, then its events as a text without a head, and the line of its third slot.
+fn try_lines(head: Head, records: [Preset; 32]) {
+    let mut table = [0u16; 512];
+    let mut out = [0u8; 8192];
+    show_planned(lent_plan(head, records, &mut table));
+    let lines = b"(clock 2)\n(call (9 2))\n(call (10 1))\n(call (11 1))\n";
+    let run = lent_run_events(head, records, &mut table, 1, lines, &mut out);
+    let ended = run.ended;
+    show_run(ended, &out);
+    show_cells(&table);
+    let written = lent_write_slot(head, records, &table, 3, &mut out);
+    show_written(written, &out);
+}
+
 // The whole text, from records of zeros.
 fn try_text(text: &[u8]) {
     let mut table = [0u16; 512];
     let mut out = [0u8; 8192];
     let run = lent_run_text(text, NO_HEAD, NO_PRESETS, &mut table, 1, &mut out);
-    show_run(run, &out);
+    let ended = run.ended;
+    show_run(ended, &out);
 }
 
 // All of it.
@@ -145,5 +161,6 @@ pub fn try_lists() {
     try_head(text);
     let read = lent_read_head(text, NO_HEAD, NO_PRESETS);
     try_events(read.head, lent_records(text, NO_HEAD, NO_PRESETS));
+    try_lines(read.head, lent_records(text, NO_HEAD, NO_PRESETS));
     try_text(text);
 }

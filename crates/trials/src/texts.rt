@@ -43,7 +43,7 @@ fn show_head(head: Head, presets: [Preset; 32]) {
     let written = write_head_by_value(head, presets, &mut out);
     match written {
         Writing::Written(n) => write_first(&out, n),
-        Writing::Refused(cause) => line(b"not written", 0, cause_number(cause) as u64),
+        Writing::Refused(n, cause) => line(b"not written", n as u64, cause_number(cause) as u64),
     }
 }
 
@@ -70,7 +70,7 @@ fn run(text: &[u8]) {
     io::write_all(1, b"(listing)\n");
     match written {
         Writing::Written(n) => write_first(&out, n),
-        Writing::Refused(cause) => line(b"refused", 0, cause_number(cause) as u64),
+        Writing::Refused(n, cause) => line(b"refused", n as u64, cause_number(cause) as u64),
     }
 }
 

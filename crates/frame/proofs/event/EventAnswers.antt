@@ -18,8 +18,7 @@ use Rattle.laws.proofs.Comparisons.{gt-of, le-of, ge-of, ltb-yes, ltb-no}
 use Rattle.station.specs.Head.{Head, Job, within}
 use Rattle.station.specs.Refusal.{Refusal, outOfLimits, clockBack, firstOf}
 use Rattle.station.specs.Form.{Form, frameLine, busyLine, presetLine, clockLine, callLine, jobsOf, form}
-use Rattle.station.specs.method.Numeral.{seen}
-use Rattle.station.specs.Jobs.{padded}
+use Rattle.station.specs.Jobs.{padded, seen}
 use Rattle.station.specs.Event.{jobInLimits, jobsInLimits, callInLimits, eventIn}
 use Rattle.station.specs.Types.{headIn, validRecord, refusalIn}
 use Rattle.station.specs.declared.types.Preset as record-of-preset
@@ -27,7 +26,7 @@ use Rattle.station.specs.declared.types.Head as record-of-head
 use Rattle.station.specs.declared.types.Refusal as refusal
 use Rattle.station.specs.declared.types.Refusal.the-variants.{OutOfLimits, ClockBack}
 use Rattle.station.specs.declared.events.Event as read
-use Rattle.station.specs.declared.events.Event.the-variants.{SetClock, Place, Fault}
+use Rattle.station.specs.declared.events.Event.the-variants.{SetClock, PlaceJobs, Fault}
 use Rattle.station.specs.declared.events.EventRead.{EventRead}
 use Rattle.station.proofs.Theorems.{passed, first-of-none, first-none, append-none, append-some, append-left-none}
 use Rattle.station.proofs.Theorems.{within-high, of-within}
@@ -37,19 +36,19 @@ use Rattle.placing.specs.declared.call.CallAnswer as reply
 use Rattle.placing.specs.Table.{cell}
 use Rattle.placing.specs.State.{State, stateOf}
 use Rattle.placing.specs.Valid.{clockIn, jobAt}
-use Rattle.placing.specs.method.Limits.{inLimits}
+use Rattle.placing.specs.method.Limits.{sizesInLimits}
 use Rattle.placing.specs.Types.{jobsIn}
 use Rattle.placing.specs.Outcomes.{frameCauses, jobsOutside, callOf}
 use Rattle.placing.specs.Causes.{causesOf}
 use Rattle.placing.specs.Causes.{causeIn, frameCausesOf, callJobs}
-use Rattle.placing.specs.CallDone.{takenIn, callMeant, CallDone}
+use Rattle.placing.specs.CallDone.{callAnswerIn, callMeant, CallDone}
 use Rattle.placing.specs.Claims.{Running}
 use Rattle.placing.proofs.Theorems.{met, jobs-inside, record-valid, eleven, frame-known, same-frame, in-limits}
 use Rattle.placing.specs.method.Counts.{CountsOf, CapacitiesAt}
 use Rattle.placing.proofs.Theorems.{clock-late, call-jobs, counts-passed}
 use Rattle.frame.specs.declared.types.Answer.the-variants.{Now, Refused}
 use Rattle.frame.specs.declared.types.Outcome as result
-use Rattle.frame.specs.Event.{Event, line, clock, call, Asked, setClock, place, fault, askedByForm, asked, now, refused, Outcome}
+use Rattle.frame.specs.Event.{Event, line, clock, call, Asked, setClock, placeJobs, fault, askedByForm, asked, clockNow, refused, Outcome}
 use Rattle.frame.specs.Event.{ownCauses, carriedOut, comesTo, eventOf}
 use Rattle.frame.specs.Types.{answerIn}
 use Rattle.frame.specs.Event.{answerOf}
@@ -60,7 +59,7 @@ use Rattle.frame.proofs.OneEvent.{outcomeOf, event-call, call-clock, ev
 -- ---- what is asked for on a frame that meets no cause
 
 abbrev stoppedBy : Refusal → State → Outcome
-stoppedBy r st = record { answer = refused r; after = st }
+stoppedBy r st = record { answer = refused 0 r; after = st }
 
 module _ (h : Head) (st : State) (a : Asked) (free : firstOf (frameCauses h st) ≡ none) where
   own : firstOf (frameCauses h st ++ ownCauses h st a) ≡ firstOf (ownCauses h st a)
@@ -76,7 +75,7 @@ module _ (h : Head) (st : State) (a : Asked) (free : firstOf (frameCauses h st) 
 
 -- a refusal leaves the table and the clock
 refused-yields : {o : Outcome} (st : State) (q : refusal.Refusal) → o ≡ stoppedBy (refusalIn q) st
-    → Yields o (st .table) (record { answer = Refused q; clock = st .clock })
+    → Yields o (st .table) (record { answer = Refused 0 q; clock = st .clock })
 refused-yields st q e =
     record {
       answer = sym (ap (λ (o : Outcome). o .answer) e);
@@ -117,23 +116,23 @@ module _ (slots c t : ℕ) where
       passed outOfLimits (not (clockIn slots t)) _ (not-is-false _ e) ∙ passed clockBack (ltb t c) [] (ltb-no t c l) ∙ first-of-none
 
   -- the first cause is the answer, and the clock stays
-  clock-stopped : (r : Refusal) → firstOf (clockCauses slots c t) ≡ some r → (clockAnswer slots c t ≡ refused r) × (clockAfter slots c t ≡ c)
+  clock-stopped : (r : Refusal) → firstOf (clockCauses slots c t) ≡ some r → (clockAnswer slots c t ≡ refused 0 r) × (clockAfter slots c t ≡ c)
   unfolding clockAnswer clockAfter
   clock-stopped r e = (rw (e, clockAnswer) refl, rw (e, clockAfter) refl)
 
   -- without one it is the new clock
-  clock-moved : firstOf (clockCauses slots c t) ≡ none → (clockAnswer slots c t ≡ now t) × (clockAfter slots c t ≡ t)
+  clock-moved : firstOf (clockCauses slots c t) ≡ none → (clockAnswer slots c t ≡ clockNow t) × (clockAfter slots c t ≡ t)
   unfolding clockAnswer clockAfter
   clock-moved e = (rw (e, clockAnswer) refl, rw (e, clockAfter) refl)
 
-  clock-refused : (q : refusal.Refusal) → firstOf (clockCauses slots c t) ≡ some (refusalIn q) → ClockDone slots c t (record { answer = Refused q; clock = c })
+  clock-refused : (q : refusal.Refusal) → firstOf (clockCauses slots c t) ≡ some (refusalIn q) → ClockDone slots c t (record { answer = Refused 0 q; clock = c })
   clock-refused q e = let z = clock-stopped (refusalIn q) e in record { answer = sym (z .0); clock = sym (z .1) }
 
-  pub clock-out : clockIn slots t ≡ false → ClockDone slots c t (record { answer = Refused OutOfLimits; clock = c })
+  pub clock-out : clockIn slots t ≡ false → ClockDone slots c t (record { answer = Refused 0 OutOfLimits; clock = c })
   clock-out e = clock-refused OutOfLimits (clock-outside e)
 
   module _ (inside : clockIn slots t ≡ true) where
-    pub clock-below : t < c → ClockDone slots c t (record { answer = Refused ClockBack; clock = c })
+    pub clock-below : t < c → ClockDone slots c t (record { answer = Refused 0 ClockBack; clock = c })
     clock-below l = clock-refused ClockBack (clock-before inside l)
 
     pub clock-set : c ≤ t → ClockDone slots c t (record { answer = Now t; clock = t })
@@ -152,11 +151,11 @@ clock-within slots c t was = go (firstOf (clockCauses slots c t)) refl
     go (some r) e = let z = clock-stopped slots c t r e .1 in (ap (clockIn slots) z ∙ was, omega (arith, z))
 
 -- so the counts are those of the clock that is left, where its slots are taken off the capacities
-pub clock-counts : (head : record-of-head.Head) (ps : List record-of-preset.Preset) (n : ℕ) (st : State) {r : result.Outcome} {marks xs ys : List ℕ} {held : ℕ}
-    → ClockDone (head .slots) (st .clock) n r → validRecord head ps ≡ true → Running (headIn head ps) st → CountsOf (headIn head ps) (st .clock) (cell (headIn head ps) (st .table)) marks held xs
-    → (inLimits (head .slots) (head .bridges) 0 (length (st .table)) ≡ true → clockIn (head .slots) (st .clock) ≡ true → clockIn (head .slots) (r .clock) ≡ true → st .clock ≤ r .clock
+pub clock-counts : (head : record-of-head.Head) (ps : List record-of-preset.Preset) (n : ℕ) (st : State) {r : result.Outcome} {marks xs ys : List ℕ} {admitted : ℕ}
+    → ClockDone (head .slots) (st .clock) n r → validRecord head ps ≡ true → Running (headIn head ps) st → CountsOf (headIn head ps) (st .clock) (cell (headIn head ps) (st .table)) marks admitted xs
+    → (sizesInLimits (head .slots) (head .bridges) 0 (length (st .table)) ≡ true → clockIn (head .slots) (st .clock) ≡ true → clockIn (head .slots) (r .clock) ≡ true → st .clock ≤ r .clock
     → CapacitiesAt (st .table) (head .slots) (head .bridges) (st .clock) xs → CapacitiesAt (st .table) (head .slots) (head .bridges) (r .clock) ys)
-    → CountsOf (headIn head ps) (r .clock) (cell (headIn head ps) (st .table)) marks held ys
+    → CountsOf (headIn head ps) (r .clock) (cell (headIn head ps) (st .table)) marks admitted ys
 clock-counts head ps n st {r} d v run was passed =
     let valid = record-valid head ps v in
     let moved = clock-within (head .slots) (st .clock) n (run .wellFormed .clock) in
@@ -202,15 +201,15 @@ module _ (head : record-of-head.Head) (ps : List record-of-preset.Preset) (st : 
       go (some p) q = rw (q, callMeant) refl
 
   -- a call of the layer below, as an event
-  pub line-place : (l : List ℕ) {x : EventRead} {n : ℕ} {u : List ℕ} {a : reply.CallAnswer} {r : result.Outcome} → x ≡ eventIn (form l) → x .event ≡ Place n
-      → CallDone head ps (callJobs n (x .jobs)) st u a → answerIn (r .answer) ≡ answerOf (takenIn a) → r .clock ≡ st .clock
+  pub line-place : (l : List ℕ) {x : EventRead} {n : ℕ} {u : List ℕ} {a : reply.CallAnswer} {r : result.Outcome} → x ≡ eventIn (form l) → x .event ≡ PlaceJobs n
+      → CallDone head ps (callJobs n (x .jobs)) st u a → answerIn (r .answer) ≡ answerOf (callAnswerIn a) → r .clock ≡ st .clock
       → Yields (lineMeant head ps st l) u r
   unfolding lineOutcome
   line-place l {x} {n} e m d s k =
       line-yields l e m (record { answer = s ∙ ap answerOf (d .answer); table = d .table; clock = k ∙ sym (meant-clock (callJobs n (x .jobs))) })
 
   pub line-fault : (l : List ℕ) {x : EventRead} {q : refusal.Refusal} → x ≡ eventIn (form l) → x .event ≡ Fault q
-      → Yields (lineMeant head ps st l) (st .table) (record { answer = Refused q; clock = st .clock })
+      → Yields (lineMeant head ps st l) (st .table) (record { answer = Refused 0 q; clock = st .clock })
   unfolding lineOutcome
   line-fault l {x} {q} e m = line-yields l e m (refused-yields st q refl)
 
@@ -281,7 +280,7 @@ module _ (h : Head) (st : State) (free : firstOf (frameCauses h st) ≡ none) wh
   unfolding ownCauses
   fault-own r = met r true [] refl
 
-  place-outside : (jobs : List Job) → jobsOutside jobs ≡ true → firstOf (ownCauses h st (place jobs)) ≡ some outOfLimits
+  place-outside : (jobs : List Job) → jobsOutside jobs ≡ true → firstOf (ownCauses h st (placeJobs jobs)) ≡ some outOfLimits
   unfolding ownCauses
   place-outside jobs e = met outOfLimits (jobsOutside jobs) _ e
 
@@ -294,11 +293,11 @@ module _ (h : Head) (st : State) (free : firstOf (frameCauses h st) ≡ none) wh
   asked-read (some (clockLine t)) small = clock-seen t small
   asked-read (some (callLine p)) small = go (is (callInLimits (jobsOf p)))
     where
-      go : Is (callInLimits (jobsOf p)) → comesTo h st (place (jobsOf p)) ≡ comesTo h st (askedIn (eventIn (some (callLine p)) .event) (eventIn (some (callLine p)) .jobs))
-      go (is-true e) = rw e (ap (λ (jobs : List Job). comesTo h st (place jobs)) (sym (jobs-read (jobsOf p) e)))
+      go : Is (callInLimits (jobsOf p)) → comesTo h st (placeJobs (jobsOf p)) ≡ comesTo h st (askedIn (eventIn (some (callLine p)) .event) (eventIn (some (callLine p)) .jobs))
+      go (is-true e) = rw e (ap (λ (jobs : List Job). comesTo h st (placeJobs jobs)) (sym (jobs-read (jobsOf p) e)))
       go (is-false e) =
           rw e
-          (asked-stopped h st (place (jobsOf p)) free outOfLimits (place-outside (jobsOf p) (jobs-refused (jobsOf p) e))
+          (asked-stopped h st (placeJobs (jobsOf p)) free outOfLimits (place-outside (jobsOf p) (jobs-refused (jobsOf p) e))
           ∙ sym (asked-stopped h st (fault outOfLimits) free outOfLimits (fault-own outOfLimits)))
 
 -- ---- the causes of the frame
@@ -336,7 +335,7 @@ module _ (head : record-of-head.Head) (ps : List record-of-preset.Preset) (st : 
           rw (e, lineOutcome) (sym (asked-carried h st (setClock n) free (ap firstOf (own-clock h st n) ∙ e)))
       go (some r) e =
           rw (e, lineOutcome) (sym (asked-stopped h st (setClock n) free r (ap firstOf (own-clock h st n) ∙ e)))
-  outcome-asked (place jobs) =
+  outcome-asked (placeJobs jobs) =
       let same : callMeant head ps jobs st ≡ callOf h jobs st =
       (let z = record-passes head ps st none-met in rw (z, callMeant) refl) in
       ap outcomeOf same ∙ sym (event-call h st (call jobs) jobs refl)
@@ -361,7 +360,7 @@ module _ (head : record-of-head.Head) (ps : List record-of-preset.Preset) (st : 
   unfolding eventMeant
   meant-stopped r q = rw (q, eventMeant) refl
 
-  meant-event : firstOf (causesOf head ps (st .table)) ≡ none → eventMeant head ps st e ≡ eventOf (headIn head ps) st e
+  pub meant-event : firstOf (causesOf head ps (st .table)) ≡ none → eventMeant head ps st e ≡ eventOf (headIn head ps) st e
   unfolding eventMeant
   meant-event q = rw (q, eventMeant) refl
 
@@ -382,7 +381,7 @@ module _ (head : record-of-head.Head) (ps : List record-of-preset.Preset) (st : 
           meant-stopped r (q ∙ w)
 
   pub frame-refused : {w : cause.Cause} (q : refusal.Refusal) → causeIn w ≡ firstOf (frameCausesOf head ps st) → w ≡ Met q
-      → EventDone head ps st e (st .table) (record { answer = Refused q; clock = st .clock })
+      → EventDone head ps st e (st .table) (record { answer = Refused 0 q; clock = st .clock })
   frame-refused q f m = refused-yields st q (frame-stops (refusalIn q) (sym f ∙ ap causeIn m))
 
   -- none is

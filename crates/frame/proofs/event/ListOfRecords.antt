@@ -1,7 +1,7 @@
 -- An event where the preset records stand in a list, law by law.
 --
 -- In order: fewer than 32 records (`event-few`) and enough of them (`event-enough`); an event on the first 32 records by value is one on the list (`event-list`);
--- the frame afterwards (`event-running`); the entry `event` (`event-entry`).
+-- the frame afterwards (`event-running`); the entries `set_clock` and `event` (`event-entry`).
 -- Assumes nothing.
 use Prim.Native.Nat.{ℕ, _≤_, _<_}
 use mathlib.Core.Path.{_≡_, refl, sym, _∙_, ap, subst}
@@ -29,32 +29,32 @@ use Rattle.frame.specs.Event.{Event, refused, Outcome, eventOf}
 use Rattle.frame.specs.EventDone.{eventMeant, Yields, EventDone}
 use Rattle.frame.proofs.Demands.{demand-3}
 use Rattle.frame.proofs.event.EventAnswers.{done-running}
-use Rattle.frame.specs.EventEntry.{eventListed, EventListed, EventEntry}
+use Rattle.frame.specs.EventEntry.{eventOnSlice, EventOnSlice, EventEntry}
 
 -- ---- by the number of records
 
 module _ (n : ℕ) (head : record-of-head.Head) (ps : List record-of-preset.Preset) (st : State) (e : Event) where
-  listed-few : n < 32 → eventListed n head ps st e ≡ record { answer = refused tooShort; after = st }
-  unfolding eventListed firstOf
-  listed-few l = rw (ltb-yes n 32 l, eventListed) refl
+  listed-few : n < 32 → eventOnSlice n head ps st e ≡ record { answer = refused 0 tooShort; after = st }
+  unfolding eventOnSlice firstOf
+  listed-few l = rw (ltb-yes n 32 l, eventOnSlice) refl
 
-  listed-enough : 32 ≤ n → eventListed n head ps st e ≡ eventMeant head ps st e
-  unfolding eventListed firstOf
-  listed-enough l = rw (ltb-no n 32 l, eventListed) refl
+  pub listed-enough : 32 ≤ n → eventOnSlice n head ps st e ≡ eventMeant head ps st e
+  unfolding eventOnSlice firstOf
+  listed-enough l = rw (ltb-no n 32 l, eventOnSlice) refl
 
 module _ (n : ℕ) (head : record-of-head.Head) (ps : List record-of-preset.Preset) (st : State) (e : Event) where
-  pub event-few : n < 32 → EventListed n head ps st e (st .table) (record { answer = Refused TooShort; clock = st .clock })
+  pub event-few : n < 32 → EventOnSlice n head ps st e (st .table) (record { answer = Refused 0 TooShort; clock = st .clock })
   event-few l =
-      subst (λ (o : Outcome). Yields o (st .table) (record { answer = Refused TooShort; clock = st .clock })) (sym (listed-few n head ps st e l))
+      subst (λ (o : Outcome). Yields o (st .table) (record { answer = Refused 0 TooShort; clock = st .clock })) (sym (listed-few n head ps st e l))
       (record { answer = refl; table = refl; clock = refl })
 
-  pub event-enough : {u : List ℕ} {r : result.Outcome} → 32 ≤ n → EventDone head ps st e u r → EventListed n head ps st e u r
+  pub event-enough : {u : List ℕ} {r : result.Outcome} → 32 ≤ n → EventDone head ps st e u r → EventOnSlice n head ps st e u r
   event-enough {u} {r} l d = subst (λ (o : Outcome). Yields o u r) (sym (listed-enough n head ps st e l)) d
 
 -- ---- the first 32 records by value
 
 -- the head of a record with at most 32 presets is that of the list
-head-list : (head : record-of-head.Head) (ps : List record-of-preset.Preset) → head .count ≤ 32 → 32 ≤ length ps → headIn head (loaded ps) ≡ headIn head ps
+pub head-list : (head : record-of-head.Head) (ps : List record-of-preset.Preset) → head .count ≤ 32 → 32 ≤ length ps → headIn head (loaded ps) ≡ headIn head ps
 head-list head ps few long = rw (loaded-whole ps long, take-take (head .count) 32 ps few) refl
 
 module _ (head : record-of-head.Head) (st : State) (e : Event) where
@@ -64,7 +64,7 @@ module _ (head : record-of-head.Head) (st : State) (e : Event) where
   meant-head ps qs same =
       ap (λ (h : meant.Head). elim (firstOf (try tooShort (ltb (length (st .table)) 512) ∷ try outOfLimits (not (leb (head .count) 32 && meant.valid h)) ∷ [])) [
         | none ↦ eventOf h st e
-        | some r ↦ record { answer = refused r; after = st }
+        | some r ↦ record { answer = refused 0 r; after = st }
       ]) same
 
   -- a record that counts more than 32 presets is refused whatever they are
@@ -84,10 +84,10 @@ module _ (head : record-of-head.Head) (st : State) (e : Event) where
       go (is-false many) = meant-many (loaded ps) ps many
 
 module _ (head : record-of-head.Head) (ps : List record-of-preset.Preset) (st : State) (e : Event) where
-  listed-list : eventListed (length ps) head (loaded ps) st e ≡ eventListed (length ps) head ps st e
+  listed-list : eventOnSlice (length ps) head (loaded ps) st e ≡ eventOnSlice (length ps) head ps st e
   listed-list = go (is (ltb (length ps) 32))
     where
-      go : Is (ltb (length ps) 32) → eventListed (length ps) head (loaded ps) st e ≡ eventListed (length ps) head ps st e
+      go : Is (ltb (length ps) 32) → eventOnSlice (length ps) head (loaded ps) st e ≡ eventOnSlice (length ps) head ps st e
       go (is-true l) =
           let few = lt-of (length ps) 32 l in
           listed-few (length ps) head (loaded ps) st e few ∙ sym (listed-few (length ps) head ps st e few)
@@ -98,20 +98,20 @@ module _ (head : record-of-head.Head) (ps : List record-of-preset.Preset) (st : 
           ∙ sym (listed-enough (length ps) head ps st e long)
 
   module _ {u : List ℕ} {r : result.Outcome} where
-    pub event-list : EventListed (length ps) head (loaded ps) st e u r → EventListed (length ps) head ps st e u r
+    event-list : EventOnSlice (length ps) head (loaded ps) st e u r → EventOnSlice (length ps) head ps st e u r
     event-list d = subst (λ (o : Outcome). Yields o u r) listed-list d
 
     -- a frame that 11 lets pass is one afterwards
-    event-running : EventListed (length ps) head ps st e u r → Running (headIn head ps) st → Running (headIn head ps) (stateOf u (r .clock))
+    event-running : EventOnSlice (length ps) head ps st e u r → Running (headIn head ps) st → Running (headIn head ps) (stateOf u (r .clock))
     event-running d run = go (is (ltb (length ps) 32))
       where
         go : Is (ltb (length ps) 32) → Running (headIn head ps) (stateOf u (r .clock))
         go (is-true l) =
-            let y : Yields (record { answer = refused tooShort; after = st }) u r =
+            let y : Yields (record { answer = refused 0 tooShort; after = st }) u r =
             subst (λ (o : Outcome). Yields o u r) (listed-few (length ps) head ps st e (lt-of (length ps) 32 l)) d in
             rw (y .clock, y .table) run
         go (is-false l) =
             done-running head ps st e (subst (λ (o : Outcome). Yields o u r) (listed-enough (length ps) head ps st e (ge-of (length ps) 32 l)) d) run
 
-    pub event-entry : EventListed (length ps) head (loaded ps) st e u r → EventEntry head ps st e u r
+    pub event-entry : EventOnSlice (length ps) head (loaded ps) st e u r → EventEntry head ps st e u r
     event-entry d = let done = event-list d in record { done = done; kept = event-running done; claim = demand-3 (headIn head ps) st (e ∷ []) }

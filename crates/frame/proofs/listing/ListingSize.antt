@@ -23,11 +23,11 @@ use Rattle.station.specs.Decimal.{digits}
 use Rattle.station.proofs.Theorems.{number-small, digits-length}
 use Rattle.placing.specs.Table.{cell, kindOf, numberIn, isOptional}
 use Rattle.placing.specs.Valid.{optionalCount}
-use Rattle.placing.specs.Outcomes.{PlanAnswer, planOf}
+use Rattle.placing.specs.Outcomes.{Cost, PlanAnswer, planOf}
 use Rattle.placing.specs.State.{State}
 use Rattle.placing.specs.Claims.{Running}
 use Rattle.placing.proofs.Theorems.{clock-to, plan-claim}
-use Rattle.frame.specs.Event.{Event, Answer, now, taken, refused, Outcome, eventOf, runOf}
+use Rattle.frame.specs.Event.{Event, Answer, clockNow, taken, refused, Outcome, eventOf, runOf}
 use Rattle.frame.specs.Text.{Whole, notRead, notPlanned, ran, startOf, eventsOf, wholeOf}
 use Rattle.frame.specs.Demands.{Ends, EventIs, stopped, clockSet, placed, totalTaken}
 use Rattle.frame.specs.Demands.{too-short, head-refused, is-not-planned, is-planned}
@@ -49,17 +49,17 @@ refused-size n r l =
       digits-length 2 (numberOf r) (omega arith) (number-small r),
     )
 
-now-size : (n t : ℕ) → t < 100 → length (answerLine n (now t)) ≤ 19
+now-size : (n t : ℕ) → t < 100 → length (answerLine n (clockNow t)) ≤ 19
 unfolding answerLine bytes
 now-size n t l = omega (arith, length-append (digits t) (bytes ")\n"), digits-length 2 t (omega arith) l)
 
-taken-size : (n k : ℕ) → k < 1000 → length (answerLine n (taken k)) ≤ 19
+taken-size : (n : ℕ) (c : Cost) → c .count < 1000 → length (answerLine n (taken c)) ≤ 19
 unfolding answerLine bytes
-taken-size n k l = omega (arith, length-append (digits k) (bytes ")\n"), digits-length 3 k (omega arith) l)
+taken-size n c l = omega (arith, length-append (digits (c .count)) (bytes ")\n"), digits-length 3 (c .count) (omega arith) l)
 
-stopped-size : (n : ℕ) (r : Refusal) → n < 100000 → length (answerLine n (refused r)) ≤ 19
+stopped-size : (n k : ℕ) (r : Refusal) → n < 100000 → length (answerLine n (refused k r)) ≤ 19
 unfolding answerLine
-stopped-size n r l = refused-size n r l
+stopped-size n k r l = refused-size n r l
 
 granted-size : (n g : ℕ) → n < 1000 → g < 100 → length (grantedLine n g) ≤ 17
 unfolding grantedLine bytes
@@ -132,10 +132,10 @@ grants-size g i (p ∷ ps) f =
 -- ---- the answers
 
 -- a clock that is set is a running frame's, so at most S + 1
-now-small : (h : Head) (st : State) (e : Event) → Running h st → (t : ℕ) → eventOf h st e .answer ≡ now t → t < 100
+now-small : (h : Head) (st : State) (e : Event) → Running h st → (t : ℕ) → eventOf h st e .answer ≡ clockNow t → t < 100
 now-small h st e run t q = go (eventOf h st e) (event-is h st e) q (event-running h st e run)
   where
-    go : (o : Outcome) → EventIs h st e o → o .answer ≡ now t → Running h (o .after) → t < 100
+    go : (o : Outcome) → EventIs h st e o → o .answer ≡ clockNow t → Running h (o .after) → t < 100
     go _ (stopped r f) p w = absurd (let z : _≡_ {A = ℕ} 0 1 = cc in omega arith)
     go _ (clockSet c asks f) p w = let same : c ≡ t = cc in omega (arith, clock-to (h .slots) c (w .wellFormed .clock), w .valid .slots-high)
     go _ (placed jobs asks f) p w = absurd (let z : _≡_ {A = ℕ} 0 1 = cc in omega arith)
@@ -144,9 +144,9 @@ one-size : (h : Head) (st : State) (e : Event) (n : ℕ) (rest : List Answer) �
     → (a : Answer) → eventOf h st e .answer ≡ a → totalTaken (a ∷ rest) < 1000
     → (length (answerLine n a) ≤ 19) × (totalTaken rest < 1000)
 unfolding totalTaken
-one-size h st e n rest run l (now t) q m = (now-size n t (now-small h st e run t q), m)
-one-size h st e n rest run l (taken k) q m = (taken-size n k (omega arith), omega arith)
-one-size h st e n rest run l (refused r) q m = (stopped-size n r l, m)
+one-size h st e n rest run l (clockNow t) q m = (now-size n t (now-small h st e run t q), m)
+one-size h st e n rest run l (taken c) q m = (taken-size n c (omega arith), omega arith)
+one-size h st e n rest run l (refused k r) q m = (stopped-size n k r l, m)
 
 -- every answer has at most 19 bytes
 pub answers-size : (h : Head) (st : State) (es : List Event) (n : ℕ) → Running h st → n + length es < 100000

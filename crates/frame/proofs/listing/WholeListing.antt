@@ -41,7 +41,7 @@ module _ {head : record-of-head.Head} {ps : List record-of-preset.Preset} {t : L
   lists-ran (notPlanned h n c) {m} x e = absurd (let q = x .ended in let z : _≡_ {A = ℕ} 0 1 = cc (ap endIn e) in omega arith)
   lists-ran (ran h n g y) {m} x e =
       let q : End.listed m ≡ End.listed (moved (length out) 0 (length (listingOf (ran h n g y)))) = sym (ap endIn e) ∙ x .ended in
-      (x .table, record { output = x .output; place = cc })
+      (x .table, record { output = x .output; position = cc })
 
   -- the one line of a refusal
   pub lists-refused : (w : Whole) {n : ℕ} {c : cause.Refusal} {out₂ : List ℕ} {m : ℕ} → Leaves w head ps t clock out t₁ out₁ r → r .ended ≡ ends.Refused n c
@@ -98,10 +98,10 @@ module _ (text t out : List ℕ) where
 module _ (text t out : List ℕ) where
   -- a refusal leaves table and output
   pub listed-refused : (c : cause.Refusal) → listingCause text t out ≡ some (refusalIn c)
-      → Listed text t out t out (Refused c) × (655360 ≤ length out → ListedWhole text t out out (Refused c))
+      → Listed text t out t out (Refused 0 c) × (655360 ≤ length out → ListedWhole text t out out (Refused 0 c))
   unfolding listingMeant
   listed-refused c e =
-      let m : listingMeant text t out ≡ record { answer = refused (refusalIn c); table = t; output = out } = rw (e, listingMeant) refl in (
+      let m : listingMeant text t out ≡ record { answer = refused 0 (refusalIn c); table = t; output = out } = rw (e, listingMeant) refl in (
         record {
           answer = ap (λ (o : ListingOutcome). o .answer) (sym m);
           table = ap (λ (o : ListingOutcome). o .table) (sym m);
@@ -123,7 +123,7 @@ module _ (text t out : List ℕ) where
       let same = beside-whole text t out l s in
       let w : Wrote out 0 (listingOf (wholeOf text t)) out₁ n = subst (λ (v : Whole). Wrote out 0 (listingOf v) out₁ n) same (x .1) in (
         record {
-          answer = ap written (w .place) ∙ ap (λ (o : ListingOutcome). o .answer) (sym m);
+          answer = ap written (w .position) ∙ ap (λ (o : ListingOutcome). o .answer) (sym m);
           table = x .0 ∙ ap (λ (v : Whole). tableAfter v t) same ∙ ap (λ (o : ListingOutcome). o .table) (sym m);
           output = w .output ∙ ap (λ (o : ListingOutcome). o .output) (sym m);
         },

@@ -99,7 +99,7 @@ module _ (text : List ℕ) (h : Head) (n : ℕ) (reads : headOf text ≡ Reading
 
   -- what the text comes to, where its head is planned
   pub whole-ran : (t g : List ℕ) → planOf h t .answer ≡ PlanAnswer.granted g
-      → wholeOf text t ≡ ran h n g (linesRun h text (length (textOf h)) (planOf h t .table))
+      → wholeOf text t ≡ ran h n g (linesRun h text (length (textOf h)) (startOf (planOf h t .table)))
   unfolding wholeOf firstOf wholeWithHead wholeWithPlan
   whole-ran t g q =
       let short = ltb-no 32768 (length text) read-short in
@@ -113,7 +113,7 @@ module _ (text : List ℕ) (h : Head) (n : ℕ) (reads : headOf text ≡ Reading
 -- The loop starts from a head that was read, its n lines and its k bytes, and the table of its plan.
 pub lines-start : {text : List ℕ} {old : List record-of-preset.Preset} {r : HeadRead} {n k : ℕ} → ReadAccepted text old r n k
     → (t g : List ℕ) → planOf (headIn (r .head) (r .presets)) t .answer ≡ PlanAnswer.granted g
-    → LinesStart (r .head) (r .presets) text k n (planOf (headIn (r .head) (r .presets)) t .table)
+    → LinesStart (r .head) (r .presets) text k n (startOf (planOf (headIn (r .head) (r .presets)) t .table))
 lines-start {text} {old} {r} {n} {k} a t g q =
     let h = headIn (r .head) (r .presets) in
     let few = a .count in

@@ -23,47 +23,47 @@ use Rattle.frame.specs.Text.{Whole, notRead, notPlanned, ran, wholeOf}
 use Rattle.frame.specs.Demands.{Ends, too-long, too-short, head-refused, is-not-planned, is-planned}
 use Rattle.frame.proofs.Demands.{demand-1}
 use Rattle.frame.specs.declared.text.TextRun as run
-use Rattle.frame.specs.TextDone.{wholeBeside, presetsAfter, Leaves, TextDone, TextClaim}
+use Rattle.frame.specs.TextDone.{wholeWithOutput, presetsAfter, Leaves, TextDone, TextClaim}
 use Rattle.frame.specs.method.TextParts.{refusedRun}
 use Rattle.frame.proofs.text.WholeText.{beside-long, beside-short, beside-whole, text-claim, leaves-refused}
 use Rattle.frame.specs.declared.text.TextAnswer as answer
-use Rattle.frame.specs.TextEntry.{wholeListed, TextListed, answerOf, textLeft, ListClaim, TextEntry}
+use Rattle.frame.specs.TextEntry.{wholeOnSlice, TextOnSlice, answerOf, textLeft, SliceClaim, TextEntry}
 
 -- ---- by the causes 10 and 8 of the list
 
 module _ (n : ℕ) (text t out : List ℕ) where
-  listed-long : 32768 < length text → wholeListed n text t out ≡ notRead 0 textTooLong
-  unfolding wholeListed firstOf
-  listed-long l = rw (ltb-yes 32768 (length text) l, wholeListed) refl
+  listed-long : 32768 < length text → wholeOnSlice n text t out ≡ notRead 0 textTooLong
+  unfolding wholeOnSlice firstOf
+  listed-long l = rw (ltb-yes 32768 (length text) l, wholeOnSlice) refl
 
-  listed-few : length text ≤ 32768 → n < 32 → wholeListed n text t out ≡ notRead 0 tooShort
-  unfolding wholeListed firstOf
-  listed-few l k = rw (ltb-no 32768 (length text) l, ltb-yes n 32 k, wholeListed) refl
+  listed-few : length text ≤ 32768 → n < 32 → wholeOnSlice n text t out ≡ notRead 0 tooShort
+  unfolding wholeOnSlice firstOf
+  listed-few l k = rw (ltb-no 32768 (length text) l, ltb-yes n 32 k, wholeOnSlice) refl
 
-  listed-enough : length text ≤ 32768 → 32 ≤ n → wholeListed n text t out ≡ wholeBeside text t out
-  unfolding wholeListed firstOf
-  listed-enough l k = rw (ltb-no 32768 (length text) l, ltb-no n 32 k, wholeListed) refl
+  listed-enough : length text ≤ 32768 → 32 ≤ n → wholeOnSlice n text t out ≡ wholeWithOutput text t out
+  unfolding wholeOnSlice firstOf
+  listed-enough l k = rw (ltb-no 32768 (length text) l, ltb-no n 32 k, wholeOnSlice) refl
 
   -- a list that is long enough does not matter
-  listed-other : 32 ≤ n → wholeListed n text t out ≡ wholeBeside text t out
+  listed-other : 32 ≤ n → wholeOnSlice n text t out ≡ wholeWithOutput text t out
   listed-other k = go (is (ltb 32768 (length text)))
     where
-      go : Is (ltb 32768 (length text)) → wholeListed n text t out ≡ wholeBeside text t out
+      go : Is (ltb 32768 (length text)) → wholeOnSlice n text t out ≡ wholeWithOutput text t out
       go (is-true l) = let m = lt-of 32768 (length text) l in listed-long m ∙ sym (beside-long text t out m)
       go (is-false l) = listed-enough (ge-of 32768 (length text) l) k
 
-  list-claim : ListClaim n text t out
+  list-claim : SliceClaim n text t out
   list-claim = record { short-list = listed-few; other-list = listed-other; claim = text-claim text t out }
 
   module _ (head : record-of-head.Head) (ps : List record-of-preset.Preset) (clock : ℕ) {r : run.TextRun} where
-    pub text-long : 32768 < length text → r ≡ refusedRun 0 TextTooLong head ps clock → TextListed n text head ps t clock out t out r
+    pub text-long : 32768 < length text → r ≡ refusedRun 0 TextTooLong head ps clock → TextOnSlice n text head ps t clock out t out r
     text-long l e = leaves-refused head ps t clock out 0 TextTooLong (listed-long l) e
 
-    pub text-few : length text ≤ 32768 → n < 32 → r ≡ refusedRun 0 TooShort head ps clock → TextListed n text head ps t clock out t out r
+    pub text-few : length text ≤ 32768 → n < 32 → r ≡ refusedRun 0 TooShort head ps clock → TextOnSlice n text head ps t clock out t out r
     text-few l k e = leaves-refused head ps t clock out 0 TooShort (listed-few l k) e
 
     module _ {t₁ out₁ : List ℕ} where
-      pub text-enough : 32 ≤ n → TextDone text head ps t clock out t₁ out₁ r → TextListed n text head ps t clock out t₁ out₁ r
+      pub text-enough : 32 ≤ n → TextDone text head ps t clock out t₁ out₁ r → TextOnSlice n text head ps t clock out t₁ out₁ r
       text-enough k d = subst (λ (w : Whole). Leaves w head ps t clock out t₁ out₁ r) (sym (listed-other k)) d
 
 -- ---- the records written back
@@ -81,10 +81,10 @@ ends-fits records text t _ (head-refused p s m) k = tt
 ends-fits records text t _ (is-not-planned {h} {n} s m f) k = (read-valid text h n (means-headOf m) .number-of-presets, k)
 ends-fits records text t _ (is-planned {h} {n} s m a v) k = (read-valid text h n (means-headOf m) .number-of-presets, k)
 
-listed-fits : (n : ℕ) (text t out : List ℕ) → Fits n (wholeListed n text t out)
+listed-fits : (n : ℕ) (text t out : List ℕ) → Fits n (wholeOnSlice n text t out)
 listed-fits n text t out = go (is (ltb 32768 (length text))) (is (ltb n 32)) (is (ltb (length out) 8192))
   where
-    go : Is (ltb 32768 (length text)) → Is (ltb n 32) → Is (ltb (length out) 8192) → Fits n (wholeListed n text t out)
+    go : Is (ltb 32768 (length text)) → Is (ltb n 32) → Is (ltb (length out) 8192) → Fits n (wholeOnSlice n text t out)
     go (is-true l) a b = subst (Fits n) (sym (listed-long n text t out (lt-of 32768 (length text) l))) tt
     go (is-false l) (is-true a) b = subst (Fits n) (sym (listed-few n text t out (ge-of 32768 (length text) l) (lt-of n 32 a))) tt
     go (is-false l) (is-false a) (is-true b) =
@@ -110,23 +110,23 @@ module _ (ps : List record-of-preset.Preset) where
 
   -- what a text leaves of the first 32 records by value, written back, is what it leaves of the list
   text-list : (text t out : List ℕ) (head : record-of-head.Head) (clock : ℕ) {t₁ out₁ : List ℕ} {zs : List record-of-preset.Preset} {r : run.TextRun}
-      → TextListed (length ps) text head (loaded ps) t clock out t₁ out₁ r → zs ≡ saved ps (r .presets) 32
-      → TextListed (length ps) text head ps t clock out t₁ out₁ (textLeft (answerOf r) zs)
+      → TextOnSlice (length ps) text head (loaded ps) t clock out t₁ out₁ r → zs ≡ saved ps (r .presets) 32
+      → TextOnSlice (length ps) text head ps t clock out t₁ out₁ (textLeft (answerOf r) zs)
   text-list text t out head clock x e = record {
     ended = x .ended;
     head = x .head;
     presets =
         e
         ∙ ap (λ (l : List record-of-preset.Preset). saved ps l 32) (x .presets)
-        ∙ left-list (wholeListed (length ps) text t out) (listed-fits (length ps) text t out);
+        ∙ left-list (wholeOnSlice (length ps) text t out) (listed-fits (length ps) text t out);
     table = x .table;
     clock = x .clock;
     output = x .output;
   }
 
   pub text-entry : (text t out : List ℕ) (head : record-of-head.Head) (clock : ℕ) {t₁ out₁ : List ℕ} {zs : List record-of-preset.Preset} {r : run.TextRun} {y : answer.TextAnswer}
-      → TextListed (length ps) text head (loaded ps) t clock out t₁ out₁ r → zs ≡ saved ps (r .presets) 32 → y ≡ answerOf r → TextEntry text head ps t clock out zs t₁ out₁ y
+      → TextOnSlice (length ps) text head (loaded ps) t clock out t₁ out₁ r → zs ≡ saved ps (r .presets) 32 → y ≡ answerOf r → TextEntry text head ps t clock out zs t₁ out₁ y
   text-entry text t out head clock {t₁} {out₁} {zs} {r} {y} x e a = record {
-    done = subst (λ (b : answer.TextAnswer). TextListed (length ps) text head ps t clock out t₁ out₁ (textLeft b zs)) (sym a) (text-list text t out head clock x e);
+    done = subst (λ (b : answer.TextAnswer). TextOnSlice (length ps) text head ps t clock out t₁ out₁ (textLeft b zs)) (sym a) (text-list text t out head clock x e);
     claim = list-claim (length ps) text t out;
   }

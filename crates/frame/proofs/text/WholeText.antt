@@ -36,11 +36,11 @@ use Rattle.frame.specs.declared.text.Ended.the-variants as ends
 use Rattle.frame.specs.declared.text.TextRun as result
 use Rattle.frame.specs.declared.text.lines.Lines as lines-result
 use Rattle.frame.specs.Event.{Run}
-use Rattle.frame.specs.Text.{Whole, notRead, notPlanned, ran, eventsOf, wholeWithPlan, wholeWithHead, wholeOf}
+use Rattle.frame.specs.Text.{Whole, notRead, notPlanned, ran, startOf, eventsOf, wholeWithPlan, wholeWithHead, wholeOf}
 use Rattle.frame.specs.Listing.{grantedLines, slotLines, listingOf}
 use Rattle.frame.specs.method.SlotLines.{linesOfSlots}
 use Rattle.frame.specs.method.TextLines.{LinesStart, linesRun, RanLines}
-use Rattle.frame.specs.TextDone.{wholeBeside, End, endOf, headAfter, presetsAfter, tableAfter, clockAfter, outputAfter, Leaves, TextClaim}
+use Rattle.frame.specs.TextDone.{wholeWithOutput, End, endOf, headAfter, presetsAfter, tableAfter, clockAfter, outputAfter, Leaves, TextClaim}
 use Rattle.frame.specs.method.TextParts.{refusedRun, HeadStart}
 use Rattle.frame.proofs.listing.bytes.SlotLines.{slot-lines-head}
 use Rattle.frame.proofs.text.AfterHead.{read-short, whole-ran, lines-start}
@@ -49,17 +49,17 @@ use Rattle.frame.proofs.Demands.{demand-1, demand-2, demand-3-planned, 
 -- ---- the outcome by the causes 10 and 8
 
 module _ (text t out : List ℕ) where
-  pub beside-long : 32768 < length text → wholeBeside text t out ≡ notRead 0 textTooLong
-  unfolding wholeBeside firstOf
-  beside-long l = rw (ltb-yes 32768 (length text) l, wholeBeside) refl
+  pub beside-long : 32768 < length text → wholeWithOutput text t out ≡ notRead 0 textTooLong
+  unfolding wholeWithOutput firstOf
+  beside-long l = rw (ltb-yes 32768 (length text) l, wholeWithOutput) refl
 
-  pub beside-short : length text ≤ 32768 → length out < 8192 → wholeBeside text t out ≡ notRead 0 tooShort
-  unfolding wholeBeside firstOf
-  beside-short l s = rw (ltb-no 32768 (length text) l, ltb-yes (length out) 8192 s, wholeBeside) refl
+  pub beside-short : length text ≤ 32768 → length out < 8192 → wholeWithOutput text t out ≡ notRead 0 tooShort
+  unfolding wholeWithOutput firstOf
+  beside-short l s = rw (ltb-no 32768 (length text) l, ltb-yes (length out) 8192 s, wholeWithOutput) refl
 
-  pub beside-whole : length text ≤ 32768 → 8192 ≤ length out → wholeBeside text t out ≡ wholeOf text t
-  unfolding wholeBeside firstOf
-  beside-whole l s = rw (ltb-no 32768 (length text) l, ltb-no (length out) 8192 s, wholeBeside) refl
+  pub beside-whole : length text ≤ 32768 → 8192 ≤ length out → wholeWithOutput text t out ≡ wholeOf text t
+  unfolding wholeWithOutput firstOf
+  beside-whole l s = rw (ltb-no 32768 (length text) l, ltb-no (length out) 8192 s, wholeWithOutput) refl
 
 module _ (text t : List ℕ) where
   pub whole-long : 32768 < length text → wholeOf text t ≡ notRead 0 textTooLong
@@ -84,7 +84,7 @@ module _ (text t : List ℕ) where
   whole-planned {h} {n} s e = whole-head (read-short text h n e) s ∙ ap (λ (x : Reading). wholeWithHead text x t) e
 
 -- a text that ran beside some output ran
-beside-ran : (text t out : List ℕ) {h : Head} {n : ℕ} {g : List ℕ} {r : Run} → wholeBeside text t out ≡ ran h n g r → wholeOf text t ≡ ran h n g r
+beside-ran : (text t out : List ℕ) {h : Head} {n : ℕ} {g : List ℕ} {r : Run} → wholeWithOutput text t out ≡ ran h n g r → wholeOf text t ≡ ran h n g r
 beside-ran text t out {h} {n} {g} {r} e = go (is (ltb 32768 (length text))) (is (ltb (length out) 8192))
   where
     go : Is (ltb 32768 (length text)) → Is (ltb (length out) 8192) → wholeOf text t ≡ ran h n g r
@@ -93,10 +93,10 @@ beside-ran text t out {h} {n} {g} {r} e = go (is (ltb 32768 (length text))) (is 
     go (is-false l) (is-false s) = sym (beside-whole text t out (ge-of 32768 (length text) l) (ge-of (length out) 8192 s)) ∙ e
 
 -- an output that is long enough does not matter
-beside-other : (text t out : List ℕ) → 8192 ≤ length out → wholeBeside text t out ≡ wholeOf text t
+beside-other : (text t out : List ℕ) → 8192 ≤ length out → wholeWithOutput text t out ≡ wholeOf text t
 beside-other text t out s = go (is (ltb 32768 (length text)))
   where
-    go : Is (ltb 32768 (length text)) → wholeBeside text t out ≡ wholeOf text t
+    go : Is (ltb 32768 (length text)) → wholeWithOutput text t out ≡ wholeOf text t
     go (is-true l) = let m = lt-of 32768 (length text) l in beside-long text t out m ∙ sym (whole-long text t m)
     go (is-false l) = beside-whole text t out (ge-of 32768 (length text) l) s
 
@@ -107,7 +107,7 @@ text-claim text t out = record {
   other-output = beside-other text t out;
   demand1 = demand-1 text t;
   events = λ h n g r e. ran-is text t h n g r (beside-ran text t out e);
-  demand2 = λ h n g r e. demand-2 h t;
+  demand2 = λ h n g r e. demand-2 h;
   demand3 = λ h n g r e. demand-3-planned h t g (ran-granted text t h n g r (beside-ran text t out e)) (eventsOf text n);
   plan = λ h n g r e. plan-claim h t;
 }
@@ -132,16 +132,16 @@ module _ {w : Whole} (head : record-of-head.Head) (ps : List record-of-preset.Pr
       → r ≡ record { ended = ends.Ran end; head = head; presets = ps; clock = x .after .clock } → Leaves w head ps t clock out (x .after .table) out₁ r
   unfolding endOf headAfter presetsAfter tableAfter clockAfter outputAfter
   leaves-ran h n g x {out₁} {end} e a b m s =
-      rw (e, s) (record { ended = ap End.listed (m .place); head = a; presets = b; table = refl; clock = refl; output = m .output })
+      rw (e, s) (record { ended = ap End.listed (m .position); head = a; presets = b; table = refl; clock = refl; output = m .output })
 
 -- ---- a head that was read, and its plan
 
 -- a refused plan leaves the table
-plan-unchanged : (h : Head) (t : List ℕ) (r : Refusal) → planOf h t .answer ≡ PlanAnswer.refused r → planOf h t .table ≡ t
+plan-unchanged : (h : Head) (t : List ℕ) {n : ℕ} (r : Refusal) → planOf h t .answer ≡ PlanAnswer.refused n r → planOf h t .table ≡ t
 unfolding planOf
-plan-unchanged h t r = go (firstOf (planCauses h t)) refl
+plan-unchanged h t {n} r = go (firstOf (planCauses h t)) refl
   where
-    go : (x : Option Refusal) → firstOf (planCauses h t) ≡ x → planOf h t .answer ≡ PlanAnswer.refused r → planOf h t .table ≡ t
+    go : (x : Option Refusal) → firstOf (planCauses h t) ≡ x → planOf h t .answer ≡ PlanAnswer.refused n r → planOf h t .table ≡ t
     go none e = rw (e, planOf) (λ q. absurd (let z : _≡_ {A = ℕ} 0 1 = cc in omega arith))
     go (some c) e = rw (e, planOf) (λ q. refl)
 
@@ -187,11 +187,11 @@ module _ {head : record-of-head.Head} {ps : List record-of-preset.Preset} {text 
     answer-is = d .answer ∙ ap (λ (o : PlanOutcome). o .answer) meant-plan
 
     -- the plan is refused
-    pub run-refused : (clock : ℕ) (out : List ℕ) {c : cause.Refusal} {r : result.TextRun} → p .answer ≡ Refused c → r ≡ refusedRun n c head ps clock
+    pub run-refused : (clock : ℕ) (out : List ℕ) {k : ℕ} {c : cause.Refusal} {r : result.TextRun} → p .answer ≡ Refused k c → r ≡ refusedRun n c head ps clock
         → Leaves (wholeOf text t) head ps t clock out u out r
     unfolding wholeWithPlan
-    run-refused clock out {c} {r} a e =
-        let q : planOf h t .answer ≡ PlanAnswer.refused (refusalIn c) = sym answer-is ∙ ap (repliedIn (take (head .count) (p .grants))) a in
+    run-refused clock out {k} {c} {r} a e =
+        let q : planOf h t .answer ≡ PlanAnswer.refused k (refusalIn c) = sym answer-is ∙ ap (repliedIn (take (head .count) (p .grants))) a in
         let w : wholeOf text t ≡ notPlanned h n (refusalIn c) =
         whole-planned text t (s .long) (s .reads) ∙ ap (λ (x : PlanAnswer). wholeWithPlan text h n x (planOf h t .table)) q in
         let same : u ≡ t = table-is ∙ plan-unchanged h t (refusalIn c) q in
@@ -208,22 +208,22 @@ module _ {head : record-of-head.Head} {ps : List record-of-preset.Preset} {text 
       handed : ReadAccepted text ps (record { answer = Accepted n k; head = head; presets = ps }) n k
       handed = record { reads = s .reads; bytes = s .bytes; valid = ok; count = s .count; past = refl }
 
-      pub lines-may-start : LinesStart head ps text k n u
+      pub lines-may-start : LinesStart head ps text k n (startOf u)
       lines-may-start = rw table-is (lines-start handed t g granted)
 
       abbrev x : Run
-      x = linesRun h text k u
+      x = linesRun h text k (startOf u)
 
       whole-is : wholeOf text t ≡ ran h n g x
       whole-is =
           whole-ran text h n (s .reads) t g granted
-          ∙ ap (λ (m : ℕ). ran h n g (linesRun h text m (planOf h t .table))) (sym (s .bytes))
-          ∙ ap (λ (v : List ℕ). ran h n g (linesRun h text k v)) (sym table-is)
+          ∙ ap (λ (m : ℕ). ran h n g (linesRun h text m (startOf (planOf h t .table)))) (sym (s .bytes))
+          ∙ ap (λ (v : List ℕ). ran h n g (linesRun h text k (startOf v))) (sym table-is)
 
       -- granted lines, answers and slots make the listing
-      listing-wrote : {out l₁ l₂ l₃ v : List ℕ} {place end : ℕ} {r : lines-result.Lines}
-          → Wrote out 0 (grantedLines (p .grants) 0 (presetsIn (head .count) ps)) l₁ place → RanLines h text k n u l₁ place v l₂ r
-          → Wrote l₂ (r .place) (linesOfSlots (head .slots) (head .bridges) v) l₃ end → Wrote out 0 (listingOf (ran h n g x)) l₃ end
+      listing-wrote : {out l₁ l₂ l₃ v : List ℕ} {position end : ℕ} {r : lines-result.Lines}
+          → Wrote out 0 (grantedLines (p .grants) 0 (presetsIn (head .count) ps)) l₁ position → RanLines h text k n (startOf u) l₁ position v l₂ r
+          → Wrote l₂ (r .position) (linesOfSlots (head .slots) (head .bridges) v) l₃ end → Wrote out 0 (listingOf (ran h n g x)) l₃ end
       unfolding listingOf
       listing-wrote {l₂} {l₃} {v} {end} {r} w₁ y w₃ =
           let first : grantedLines (p .grants) 0 (h .presets) ≡ grantedLines g 0 (h .presets) =
@@ -232,11 +232,11 @@ module _ {head : record-of-head.Head} {ps : List record-of-preset.Preset} {text 
           slot-lines-head h v (ok .slots-high) (ok .bridges-high) ∙ ap (λ (m : List ℕ). slotLines h m 0 (h .slots)) (y .table) in
           wrote-then (rw first at w₁) (wrote-then (y .output) (rw last at w₃))
 
-      pub run-done : (clock : ℕ) {out l₁ l₂ l₃ v : List ℕ} {place end : ℕ} {r : lines-result.Lines} {o : result.TextRun}
-          → Wrote out 0 (grantedLines (p .grants) 0 (presetsIn (head .count) ps)) l₁ place → RanLines h text k n u l₁ place v l₂ r
-          → Wrote l₂ (r .place) (linesOfSlots (head .slots) (head .bridges) v) l₃ end
+      pub run-done : (clock : ℕ) {out l₁ l₂ l₃ v : List ℕ} {position end : ℕ} {r : lines-result.Lines} {o : result.TextRun}
+          → Wrote out 0 (grantedLines (p .grants) 0 (presetsIn (head .count) ps)) l₁ position → RanLines h text k n (startOf u) l₁ position v l₂ r
+          → Wrote l₂ (r .position) (linesOfSlots (head .slots) (head .bridges) v) l₃ end
           → o ≡ record { ended = ends.Ran end; head = head; presets = ps; clock = r .clock } → Leaves (wholeOf text t) head ps t clock out v l₃ o
-      run-done clock {out} {l₁} {l₂} {l₃} {v} {place} {end} {r} {o} w₁ y w₃ e =
+      run-done clock {out} {l₁} {l₂} {l₃} {v} {position} {end} {r} {o} w₁ y w₃ e =
           let q : o ≡ record { ended = ends.Ran end; head = head; presets = ps; clock = x .after .clock } =
           e ∙ ap (λ (c : ℕ). record { ended = ends.Ran end; head = head; presets = ps; clock = c }) (y .clock) in
           rw (y .table) (leaves-ran head ps t clock out h n g x whole-is own-head own-presets (listing-wrote w₁ y w₃) q)
@@ -246,7 +246,7 @@ module _ {head : record-of-head.Head} {ps : List record-of-preset.Preset} {text 
 -- a head that was refused
 pub run-unread : {text t out : List ℕ} {head : record-of-head.Head} {old : List record-of-preset.Preset} {r : HeadRead} {n : ℕ} {c : cause.Refusal} {clock : ℕ}
     {o : result.TextRun} → ReadRefused text head old r n c → length text ≤ 32768 → 512 ≤ length t → 8192 ≤ length out
-    → o ≡ refusedRun n c (r .head) (r .presets) clock → Leaves (wholeBeside text t out) head old t clock out t out o
+    → o ≡ refusedRun n c (r .head) (r .presets) clock → Leaves (wholeWithOutput text t out) head old t clock out t out o
 run-unread {text} {t} {out} {head} {old} {r} {n} {c} {clock} {o} a short long m e =
     leaves-refused head old t clock out n c (beside-whole text t out short m ∙ whole-refused text t short long (a .reads))
     (e
@@ -263,17 +263,17 @@ head-read : (text : List ℕ) (h : Head) (n : ℕ) (y : PlanAnswer) (v : List �
     → headAfter (wholeWithPlan text h n y v) a ≡ headAfter (wholeWithPlan text h n y v) b
 unfolding wholeWithPlan headAfter
 head-read text h n (PlanAnswer.granted g) v a b = refl
-head-read text h n (PlanAnswer.refused c) v a b = refl
+head-read text h n (PlanAnswer.refused _ c) v a b = refl
 
 presets-read : (text : List ℕ) (h : Head) (n : ℕ) (y : PlanAnswer) (v : List ℕ) (a b : List record-of-preset.Preset)
     → drop (length (h .presets)) a ≡ drop (length (h .presets)) b → presetsAfter (wholeWithPlan text h n y v) a ≡ presetsAfter (wholeWithPlan text h n y v) b
 unfolding wholeWithPlan presetsAfter
 presets-read text h n (PlanAnswer.granted g) v a b e = ap (λ (l : List record-of-preset.Preset). map recordOf (h .presets) ++ l) e
-presets-read text h n (PlanAnswer.refused c) v a b e = ap (λ (l : List record-of-preset.Preset). map recordOf (h .presets) ++ l) e
+presets-read text h n (PlanAnswer.refused _ c) v a b e = ap (λ (l : List record-of-preset.Preset). map recordOf (h .presets) ++ l) e
 
 pub run-accepted : {text t out : List ℕ} (head : record-of-head.Head) {old : List record-of-preset.Preset} {r : HeadRead} {n k clock : ℕ} {t₁ out₁ : List ℕ}
     {o : result.TextRun} → ReadAccepted text old r n k → 512 ≤ length t → 8192 ≤ length out
-    → Leaves (wholeOf text t) (r .head) (r .presets) t clock out t₁ out₁ o → Leaves (wholeBeside text t out) head old t clock out t₁ out₁ o
+    → Leaves (wholeOf text t) (r .head) (r .presets) t clock out t₁ out₁ o → Leaves (wholeWithOutput text t out) head old t clock out t₁ out₁ o
 run-accepted {text} {t} {out} head {old} {r} {n} {k} {clock} {t₁} {out₁} {o} a l m x =
     let h = headIn (r .head) (r .presets) in
     let v = planOf h t .table in

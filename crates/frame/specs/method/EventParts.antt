@@ -16,13 +16,13 @@ use Rattle.station.specs.declared.types.Preset as record-of-preset
 use Rattle.station.specs.declared.types.Head as record-of-head
 use Rattle.station.specs.Event.{eventIn}
 use Rattle.station.specs.declared.events.Event as read
-use Rattle.station.specs.declared.events.Event.the-variants.{SetClock, Place, Fault}
+use Rattle.station.specs.declared.events.Event.the-variants.{SetClock, PlaceJobs, Fault}
 use Rattle.placing.specs.Valid.{clockIn}
 use Rattle.placing.specs.State.{State}
 use Rattle.placing.specs.Causes.{callJobs}
 use Rattle.placing.specs.CallDone.{callMeant}
 use Rattle.frame.specs.declared.types.Outcome as result
-use Rattle.frame.specs.Event.{Event, Asked, setClock, place, fault, Answer, now, refused, answerOf, Outcome, clockState}
+use Rattle.frame.specs.Event.{Event, Asked, setClock, placeJobs, fault, Answer, clockNow, refused, answerOf, Outcome, clockState}
 use Rattle.frame.specs.Types.{answerIn}
 
 -- The causes of a clock itself, on a frame of so many slots at the clock c: "t below 1 or above S + 1" and "a clock below the present one".
@@ -31,7 +31,7 @@ clockCauses slots c t = try outOfLimits (not (clockIn slots t)) ∷ try clockBac
 
 -- what a clock that is asked for answers: the first of them, or the new clock
 unfoldable pub clockAnswer : ℕ → ℕ → ℕ → Answer
-clockAnswer slots c t = elim (firstOf (clockCauses slots c t)) [ none ↦ now t | some r ↦ refused r ]
+clockAnswer slots c t = elim (firstOf (clockCauses slots c t)) [ none ↦ clockNow t | some r ↦ refused 0 r ]
 
 -- and the clock that it leaves: a refusal changes nothing
 unfoldable pub clockAfter : ℕ → ℕ → ℕ → ℕ
@@ -45,7 +45,7 @@ pub record ClockDone (slots c t : ℕ) (r : result.Outcome) : Type 0 where
 -- What an event line asks for, as it was read: a clock that stops at 65,535, the jobs that were kept, or the fault.
 abbrev pub askedIn : read.Event → List record-of-job.Job → Asked
 askedIn (SetClock t) js = setClock t
-askedIn (Place n) js = place (callJobs n js)
+askedIn (PlaceJobs n) js = placeJobs (callJobs n js)
 askedIn (Fault r) js = fault (refusalIn r)
 
 -- What that comes to: a clock is refused by its own causes alone or set, and the table stays; a call is what `callMeant` says, which tries the causes of the
@@ -53,11 +53,11 @@ askedIn (Fault r) js = fault (refusalIn r)
 unfoldable pub lineOutcome : record-of-head.Head → List record-of-preset.Preset → State → Asked → Outcome
 lineOutcome head ps st (setClock t) =
     elim (firstOf (clockCauses (head .slots) (st .clock) t)) [
-      | none ↦ record { answer = now t; after = clockState (headIn head ps) t st }
-      | some r ↦ record { answer = refused r; after = st }
+      | none ↦ record { answer = clockNow t; after = clockState (headIn head ps) t st }
+      | some r ↦ record { answer = refused 0 r; after = st }
     ]
-lineOutcome head ps st (place jobs) = record { answer = answerOf (callMeant head ps jobs st .answer); after = callMeant head ps jobs st .after }
-lineOutcome head ps st (fault r) = record { answer = refused r; after = st }
+lineOutcome head ps st (placeJobs jobs) = record { answer = answerOf (callMeant head ps jobs st .answer); after = callMeant head ps jobs st .after }
+lineOutcome head ps st (fault r) = record { answer = refused 0 r; after = st }
 
 -- An event line, by what was read of it. On a frame that meets none of its own causes this is `eventOf` of the line: `line-event` of proofs/Running.
 abbrev pub lineMeant : record-of-head.Head → List record-of-preset.Preset → State → List ℕ → Outcome

@@ -4,6 +4,7 @@ use Prim.Native.Nat.{ℕ}
 use mathlib.Core.Bool.{cond, _&&_}
 use mathlib.Core.List.{List, []}
 use lib.Dec.{eqb, ltb, leb}
+use Rattle.station.specs.Limits.{mostSlots, mostBridges}
 use Rattle.station.specs.Head.{Head}
 use Rattle.frame.specs.Listing.{slotLine, slotLines}
 
@@ -17,8 +18,8 @@ letterOf k = cond (eqb k 2) 109 (cond (eqb k 3) 111 99)
 
 -- the line of slot s, counted from 0; no byte for a slot or a number of bridges that no frame has
 unfoldable pub lineOfSlot : ℕ → List ℕ → ℕ → List ℕ
-lineOfSlot n t s = cond (ltb s 64 && leb n 8) (slotLine (ofBridges n) t s) []
+lineOfSlot n t s = cond (ltb s mostSlots && leb n mostBridges) (slotLine (ofBridges n) t s) []
 
 -- the lines of k slots; no byte for a number of slots or bridges that no frame has
 unfoldable pub linesOfSlots : ℕ → ℕ → List ℕ → List ℕ
-linesOfSlots k n t = cond (leb k 64 && leb n 8) (slotLines (ofBridges n) t 0 k) []
+linesOfSlots k n t = cond (leb k mostSlots && leb n mostBridges) (slotLines (ofBridges n) t 0 k) []

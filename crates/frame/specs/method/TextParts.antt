@@ -6,6 +6,7 @@ use Prim.Native.Nat.{ℕ, _≤_}
 use mathlib.Core.Path.{_≡_}
 use mathlib.Core.List.{List}
 use lib.ListN.{length}
+use Rattle.station.specs.Limits.{leastCells}
 use Rattle.station.specs.Head.{Head}
 use Rattle.station.specs.Refusal.{Refusal}
 use Rattle.station.specs.Types.{headIn}
@@ -28,4 +29,4 @@ pub record HeadStart (head : record-of-head.Head) (ps : List record-of-preset.Pr
   pub reads : headOf text ≡ Reading.accepted (headIn head ps) n
   pub bytes : k ≡ length (textOf (headIn head ps))
   pub count : head .count ≡ length (headIn head ps .presets)
-  pub long : 512 ≤ length t
+  pub long : leastCells ≤ length t

@@ -3,10 +3,13 @@ use crate::types::Answer;
 use crate::types::Outcome;
 use placing::call::CallAnswer;
 use placing::call::call_by_counts;
+use placing::cells::Cell;
 use placing::check::clock_in;
 use placing::counts::usable::pass_slots;
+use placing::limits::CAPACITY_COUNT;
 use station::events::Event;
 use station::events::read_event;
+use station::limits::MOST_PRESETS;
 use station::types::Head;
 use station::types::Preset;
 use station::types::Refusal;
@@ -17,7 +20,7 @@ ghost use Rattle.station.specs.Types.{headIn, validRecord};
 ghost use Rattle.placing.specs.Table.{cell};
 ghost use Rattle.placing.specs.Claims.{Running};
 ghost use Rattle.placing.specs.method.Counts.{CountsOf};
-ghost use Rattle.placing.specs.CallDone.{takenIn};
+ghost use Rattle.placing.specs.CallDone.{callAnswerIn};
 ghost use Rattle.frame.specs.Types.{answerIn};
 ghost use Rattle.frame.specs.Event.{answerOf};
 ghost use Rattle.frame.specs.EventDone.{Yields};
@@ -29,13 +32,13 @@ pub(crate) fn asked_clock(slots: usize, clock: usize, to: usize) -> Outcome
 {
     if !clock_in(slots, to) {
         return Outcome {
-            answer: Answer::Refused(Refusal::OutOfLimits),
+            answer: Answer::Refused(0, Refusal::OutOfLimits),
             clock,
         };
     }
     if to < clock {
         return Outcome {
-            answer: Answer::Refused(Refusal::ClockBack),
+            answer: Answer::Refused(0, Refusal::ClockBack),
             clock,
         };
     }
@@ -47,15 +50,15 @@ pub(crate) fn asked_clock(slots: usize, clock: usize, to: usize) -> Outcome
 
 // The outcome of a call: its answer, and the clock as it is.
 fn call_outcome(answer: CallAnswer, clock: usize) -> Outcome
-    ensures { λ r. ⌜ (answerIn (r .answer) ≡ answerOf (takenIn answer)) × (r .clock ≡ clock) ⌝ }
+    ensures { λ r. ⌜ (answerIn (r .answer) ≡ answerOf (callAnswerIn answer)) × (r .clock ≡ clock) ⌝ }
 {
     match answer {
         CallAnswer::Taken(n) => Outcome {
             answer: Answer::Taken(n),
             clock,
         },
-        CallAnswer::Refused(r) => Outcome {
-            answer: Answer::Refused(r),
+        CallAnswer::Refused(line, r) => Outcome {
+            answer: Answer::Refused(line, r),
             clock,
         },
     }
@@ -66,18 +69,18 @@ fn call_outcome(answer: CallAnswer, clock: usize) -> Outcome
 // keeps the counts between events.
 pub(crate) fn event_by_counts(
     head: Head,
-    presets: [Preset; 32],
-    table: &mut [u16],
+    presets: [Preset; MOST_PRESETS],
+    table: &mut [Cell],
     clock: usize,
     used: &mut [u8; 256],
-    held: &mut usize,
-    capacities: &mut [usize; 9],
+    admitted: &mut usize,
+    capacities: &mut [usize; CAPACITY_COUNT],
     line: &[u8],
 ) -> Outcome
     ensures { λ r. ⌜ (validRecord head presets ≡ true → Running (headIn head presets) (stateOf (now (table .entry)) clock)
-        → CountsOf (headIn head presets) clock (cell (headIn head presets) (now (table .entry))) (now (used .entry)) (now (held .entry)) (now (capacities .entry))
+        → CountsOf (headIn head presets) clock (cell (headIn head presets) (now (table .entry))) (now (used .entry)) (now (admitted .entry)) (now (capacities .entry))
         → Yields (lineMeant head presets (stateOf (now (table .entry)) clock) (now (line .entry))) (now (table .exit)) r
-        × CountsOf (headIn head presets) (r .clock) (cell (headIn head presets) (now (table .exit))) (now (used .exit)) (now (held .exit)) (now (capacities .exit))) ⌝ }
+        × CountsOf (headIn head presets) (r .clock) (cell (headIn head presets) (now (table .exit))) (now (used .exit)) (now (admitted .exit)) (now (capacities .exit))) ⌝ }
 {
     let read = read_event(line);
     let event = read.event;
@@ -95,7 +98,7 @@ pub(crate) fn event_by_counts(
             );
             done
         }
-        Event::Place(n) => {
+        Event::PlaceJobs(n) => {
             let answer = call_by_counts(
                 head,
                 presets,
@@ -104,13 +107,13 @@ pub(crate) fn event_by_counts(
                 jobs,
                 n,
                 used,
-                held,
+                admitted,
                 capacities,
             );
             call_outcome(answer, clock)
         }
         Event::Fault(cause) => Outcome {
-            answer: Answer::Refused(cause),
+            answer: Answer::Refused(0, cause),
             clock,
         },
     }

@@ -3,49 +3,52 @@ use crate::event::event_by_value;
 use crate::event::set_clock_by_value;
 use crate::types::Answer;
 use crate::types::Outcome;
+use placing::cells::Cell;
+use station::limits::LEAST_RECORDS;
+use station::limits::MOST_PRESETS;
 use station::types::Head;
 use station::types::Preset;
 use station::types::Refusal;
 ghost use Rattle.placing.specs.State.{stateOf};
 ghost use Rattle.frame.specs.Event.{Event};
-ghost use Rattle.frame.specs.EventEntry.{EventListed};
+ghost use Rattle.frame.specs.EventEntry.{EventOnSlice};
 
 // Sets the clock; refused with 8 for fewer than 32 records.
 pub(crate) fn clock_counted(
     records: usize,
     head: Head,
-    bank: [Preset; 32],
-    table: &[u16],
+    copied: [Preset; MOST_PRESETS],
+    table: &[Cell],
     clock: usize,
     t: usize,
 ) -> Outcome
-    ensures { λ r. ⌜ EventListed records head bank (stateOf (now (table .entry)) clock) (Event.clock t) (now (table .entry)) r ⌝ }
+    ensures { λ r. ⌜ EventOnSlice records head copied (stateOf (now (table .entry)) clock) (Event.clock t) (now (table .entry)) r ⌝ }
 {
-    if records < 32 {
+    if records < LEAST_RECORDS {
         return Outcome {
-            answer: Answer::Refused(Refusal::TooShort),
+            answer: Answer::Refused(0, Refusal::TooShort),
             clock,
         };
     }
-    set_clock_by_value(head, bank, table, clock, t)
+    set_clock_by_value(head, copied, table, clock, t)
 }
 
 // One event line; refused with 8 for fewer than 32 records.
 pub(crate) fn event_counted(
     records: usize,
     head: Head,
-    bank: [Preset; 32],
-    table: &mut [u16],
+    copied: [Preset; MOST_PRESETS],
+    table: &mut [Cell],
     clock: usize,
     line: &[u8],
 ) -> Outcome
-    ensures { λ r. ⌜ EventListed records head bank (stateOf (now (table .entry)) clock) (Event.line (now (line .entry))) (now (table .exit)) r ⌝ }
+    ensures { λ r. ⌜ EventOnSlice records head copied (stateOf (now (table .entry)) clock) (Event.line (now (line .entry))) (now (table .exit)) r ⌝ }
 {
-    if records < 32 {
+    if records < LEAST_RECORDS {
         return Outcome {
-            answer: Answer::Refused(Refusal::TooShort),
+            answer: Answer::Refused(0, Refusal::TooShort),
             clock,
         };
     }
-    event_by_value(head, bank, table, clock, line)
+    event_by_value(head, copied, table, clock, line)
 }

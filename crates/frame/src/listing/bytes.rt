@@ -4,11 +4,15 @@
 // output are left out.
 use crate::types::Answer;
 use placing::cells::BUSY;
+use placing::cells::Cell;
 use placing::cells::MANDATORY;
 use placing::cells::OPTIONAL;
 use placing::cells::kind_of;
 use placing::cells::number_in;
 use station::causes::cause_number;
+use station::limits::MOST_BRIDGES;
+use station::limits::MOST_PRESETS;
+use station::limits::MOST_SLOTS;
 use station::output::lettered;
 use station::output::number;
 use station::output::numbers_end;
@@ -18,6 +22,7 @@ use station::types::Refusal;
 ghost use mathlib.Core.Path.{_≡_};
 ghost use Prim.Native.Nat.{_≤_, _<_};
 ghost use lib.ListN.{getD};
+ghost use Rattle.station.specs.Limits.{mostSlots, mostBridges, mostPresets};
 ghost use Rattle.station.specs.Types.{refusalIn, presetsIn};
 ghost use Rattle.station.specs.Text.{bytes, _then_};
 ghost use Rattle.station.specs.Decimal.{digits};
@@ -52,7 +57,7 @@ pub(crate) fn answer_line(out: &mut [u8], at: usize, line: usize, answer: Answer
     match answer {
         Answer::Now(t) => number_line(out, at, b"(now ", t),
         Answer::Taken(n) => number_line(out, at, b"(taken ", n),
-        Answer::Refused(r) => refused_line(out, at, line, r),
+        Answer::Refused(_, r) => refused_line(out, at, line, r),
     }
 }
 
@@ -68,36 +73,36 @@ pub(crate) fn granted_line(out: &mut [u8], at: usize, preset: usize, slots: usiz
 fn first_granted(
     out: &mut [u8],
     at: usize,
-    presets: [Preset; 32],
-    grants: [u8; 32],
+    presets: [Preset; MOST_PRESETS],
+    grants: [u8; MOST_PRESETS],
     count: usize,
 ) -> usize
-    requires { ⌜ count ≤ 32 ⌝ }
+    requires { ⌜ count ≤ mostPresets ⌝ }
     ensures { λ r. ⌜ Wrote (now (out .entry)) at (grantedLines grants 0 (presetsIn count presets)) (now (out .exit)) r ⌝ }
 {
-    let mut place = at;
+    let mut position = at;
     let mut i = 0;
     while i < count {
         let preset = presets[i];
         let slots = grants[i];
-        place = granted_line(out, place, preset.number as usize, slots as usize);
+        position = granted_line(out, position, preset.number as usize, slots as usize);
         i += 1;
     }
-    place
+    position
 }
 
 // Writes the granted lines of the first `count` presets, in file order; a count above 32 is as 32. Answers the next place.
 pub(crate) fn granted_lines(
     out: &mut [u8],
     at: usize,
-    presets: [Preset; 32],
-    grants: [u8; 32],
+    presets: [Preset; MOST_PRESETS],
+    grants: [u8; MOST_PRESETS],
     count: usize,
 ) -> usize
     ensures { λ r. ⌜ Wrote (now (out .entry)) at (grantedLines grants 0 (presetsIn count presets)) (now (out .exit)) r ⌝ }
 {
-    if 32 < count {
-        return first_granted(out, at, presets, grants, 32);
+    if MOST_PRESETS < count {
+        return first_granted(out, at, presets, grants, MOST_PRESETS);
     }
     first_granted(out, at, presets, grants, count)
 }
@@ -116,17 +121,17 @@ fn letter(kind: u16) -> u8
 }
 
 // The cell of the table at a place; 0, an empty one, past its end.
-fn cell_at(table: &[u16], place: usize) -> u16
-    ensures { λ r. ⌜ r ≡ getD (now (table .entry)) place 0 ⌝ }
+fn cell_at(table: &[Cell], position: usize) -> u16
+    ensures { λ r. ⌜ r ≡ getD (now (table .entry)) position 0 ⌝ }
 {
-    if place < table.len() {
-        return table[place];
+    if position < table.len() {
+        return table[position];
     }
     0
 }
 
 // Writes a blank and a cell: `0` empty, `-` busy, else the kind's letter and the number. Answers the next place.
-fn next_cell(out: &mut [u8], at: usize, value: u16) -> usize
+fn next_cell(out: &mut [u8], at: usize, value: Cell) -> usize
     ensures { λ r. ⌜ Wrote (now (out .entry)) at (bytes " " then cellText (kindOf value) (numberIn value)) (now (out .exit)) r ⌝ }
 {
     let kind = kind_of(value);
@@ -141,19 +146,19 @@ fn next_cell(out: &mut [u8], at: usize, value: u16) -> usize
 }
 
 // Writes the cells of a slot, counted from 0, each after a blank. Answers the next place: the end of the line is left to write.
-fn slot_cells(out: &mut [u8], at: usize, bridges: usize, table: &[u16], slot: usize) -> usize
-    requires { ⌜ (slot < 64) × (bridges ≤ 8) ⌝ }
+fn slot_cells(out: &mut [u8], at: usize, bridges: usize, table: &[Cell], slot: usize) -> usize
+    requires { ⌜ (slot < mostSlots) × (bridges ≤ mostBridges) ⌝ }
     ensures { λ r. ⌜ Left (now (out .entry)) at (cellTexts (ofBridges bridges) (now (table .entry)) slot 0 bridges) (now (out .exit)) r (bytes ")\n") ⌝ }
 {
     let start = slot * bridges;
-    let mut place = at;
+    let mut position = at;
     let mut b = 0;
     while b < bridges {
         let value = cell_at(table, start + b);
-        place = next_cell(out, place, value);
+        position = next_cell(out, position, value);
         b += 1;
     }
-    place
+    position
 }
 
 // Writes the line of a slot, counted from 0: `(slot N` and its cells. Writes nothing for a slot from 64 on or above 8 bridges, which no frame has.
@@ -162,15 +167,15 @@ pub(crate) fn slot_line(
     out: &mut [u8],
     at: usize,
     bridges: usize,
-    table: &[u16],
+    table: &[Cell],
     slot: usize,
 ) -> usize
     ensures { λ r. ⌜ Wrote (now (out .entry)) at (lineOfSlot bridges (now (table .entry)) slot) (now (out .exit)) r ⌝ }
 {
-    if 64 <= slot {
+    if MOST_SLOTS <= slot {
         return at;
     }
-    if 8 < bridges {
+    if MOST_BRIDGES < bridges {
         return at;
     }
     let first = word(out, at, b"(slot ");
@@ -180,17 +185,17 @@ pub(crate) fn slot_line(
 }
 
 // Writes the lines of the first `slots` slots. Answers the next place.
-fn first_slots(out: &mut [u8], at: usize, slots: usize, bridges: usize, table: &[u16]) -> usize
-    requires { ⌜ (slots ≤ 64) × (bridges ≤ 8) ⌝ }
+fn first_slots(out: &mut [u8], at: usize, slots: usize, bridges: usize, table: &[Cell]) -> usize
+    requires { ⌜ (slots ≤ mostSlots) × (bridges ≤ mostBridges) ⌝ }
     ensures { λ r. ⌜ Wrote (now (out .entry)) at (slotLines (ofBridges bridges) (now (table .entry)) 0 slots) (now (out .exit)) r ⌝ }
 {
-    let mut place = at;
+    let mut position = at;
     let mut s = 0;
     while s < slots {
-        place = slot_line(out, place, bridges, table, s);
+        position = slot_line(out, position, bridges, table, s);
         s += 1;
     }
-    place
+    position
 }
 
 // Writes the lines of all slots. Writes nothing for more than 64 slots or 8 bridges, which no frame has. Answers the next place.
@@ -199,14 +204,14 @@ pub(crate) fn slot_lines(
     at: usize,
     slots: usize,
     bridges: usize,
-    table: &[u16],
+    table: &[Cell],
 ) -> usize
     ensures { λ r. ⌜ Wrote (now (out .entry)) at (linesOfSlots slots bridges (now (table .entry))) (now (out .exit)) r ⌝ }
 {
-    if 64 < slots {
+    if MOST_SLOTS < slots {
         return at;
     }
-    if 8 < bridges {
+    if MOST_BRIDGES < bridges {
         return at;
     }
     first_slots(out, at, slots, bridges, table)

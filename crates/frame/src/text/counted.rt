@@ -3,21 +3,30 @@ use crate::text::Ended;
 use crate::text::TextAnswer;
 use crate::text::TextRun;
 use crate::text::run_text_by_value;
+use placing::cells::Cell;
+use station::limits::LEAST_RECORDS;
+use station::limits::MOST_BYTES;
+use station::limits::MOST_PRESETS;
 use station::types::Head;
 use station::types::Preset;
 use station::types::Refusal;
 ghost use mathlib.Core.Path.{_≡_};
 ghost use Rattle.frame.specs.method.TextParts.{refusedRun};
-ghost use Rattle.frame.specs.TextEntry.{TextListed, answerOf};
+ghost use Rattle.frame.specs.TextEntry.{TextOnSlice, answerOf};
 
 // A refusal at line 0, which leaves the head, the records and the clock as they were handed in.
-fn refused_at_start(cause: Refusal, head: Head, bank: [Preset; 32], clock: usize) -> TextRun
-    ensures { λ r. ⌜ r ≡ refusedRun 0 cause head bank clock ⌝ }
+fn refused_at_start(
+    cause: Refusal,
+    head: Head,
+    copied: [Preset; MOST_PRESETS],
+    clock: usize,
+) -> TextRun
+    ensures { λ r. ⌜ r ≡ refusedRun 0 cause head copied clock ⌝ }
 {
     TextRun {
         ended: Ended::Refused(0, cause),
         head,
-        presets: bank,
+        presets: copied,
         clock,
     }
 }
@@ -27,24 +36,24 @@ pub(crate) fn text_counted(
     records: usize,
     text: &[u8],
     head: Head,
-    bank: [Preset; 32],
-    table: &mut [u16],
+    copied: [Preset; MOST_PRESETS],
+    table: &mut [Cell],
     clock: usize,
     out: &mut [u8],
 ) -> TextRun
-    ensures { λ r. ⌜ TextListed records (now (text .entry)) head bank (now (table .entry)) clock (now (out .entry)) (now (table .exit)) (now (out .exit)) r ⌝ }
+    ensures { λ r. ⌜ TextOnSlice records (now (text .entry)) head copied (now (table .entry)) clock (now (out .entry)) (now (table .exit)) (now (out .exit)) r ⌝ }
 {
-    if 32768 < text.len() {
-        return refused_at_start(Refusal::TextTooLong, head, bank, clock);
+    if MOST_BYTES < text.len() {
+        return refused_at_start(Refusal::TextTooLong, head, copied, clock);
     }
-    if records < 32 {
-        return refused_at_start(Refusal::TooShort, head, bank, clock);
+    if records < LEAST_RECORDS {
+        return refused_at_start(Refusal::TooShort, head, copied, clock);
     }
-    run_text_by_value(text, head, bank, table, clock, out)
+    run_text_by_value(text, head, copied, table, clock, out)
 }
 
 // The records that a text leaves.
-pub(crate) fn bank_of(run: TextRun) -> [Preset; 32]
+pub(crate) fn presets_of(run: TextRun) -> [Preset; MOST_PRESETS]
     ensures { λ r. ⌜ r ≡ run .presets ⌝ }
 {
     run.presets

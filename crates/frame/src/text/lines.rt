@@ -1,43 +1,45 @@
-// The lines of a text after its head: each is one event, and has one line of answer.
+// The lines of a text, or those after its head: each is one event, and has one line of answer.
 use crate::event::asked::event_by_counts;
 use crate::listing::bytes::answer_line;
-use placing::check::FIRST_CLOCK;
+use placing::cells::Cell;
 use placing::counts::counts_of;
+use station::limits::MOST_PRESETS;
 use station::lines::line_at;
 use station::types::Head;
 use station::types::Preset;
 ghost use Rattle.station.specs.Types.{headIn};
+ghost use Rattle.placing.specs.State.{stateOf};
 ghost use Rattle.frame.specs.method.TextLines.{LinesStart, RanLines};
 
 // What the lines leave beside the table and the output: the clock, and the place after the last answer.
 pub(crate) struct Lines {
     pub clock: usize,
-    pub place: usize,
+    pub position: usize,
 }
 
-// Runs the lines of a text from byte `from` on, `first` lines having gone before: each is an event on what the last one left, from the first clock on, and its answer is
-// written at once. The frame meets none of its own causes at the start and so at no line: they are not tried again. What a call's causes are decided by is counted
+// Runs the lines of a text from byte `from` on, `first` lines having gone before: each is an event on what the last one left, and its answer is written at once. The frame meets none of its own causes at the start and so at no line: they are not tried again. What a call's causes are decided by is counted
 // once, and each event brings it up to what it leaves.
 pub(crate) fn run_lines(
     text: &[u8],
     from: usize,
     first: usize,
     head: Head,
-    presets: [Preset; 32],
-    table: &mut [u16],
+    presets: [Preset; MOST_PRESETS],
+    table: &mut [Cell],
+    start: usize,
     out: &mut [u8],
-    place: usize,
+    position: usize,
 ) -> Lines
-    requires { ⌜ LinesStart head presets (now text) from first (now table) ⌝ }
-    ensures { λ r. ⌜ RanLines (headIn head presets) (now (text .entry)) from first (now (table .entry)) (now (out .entry)) place (now (table .exit)) (now (out .exit)) r ⌝ }
+    requires { ⌜ LinesStart head presets (now text) from first (stateOf (now table) start) ⌝ }
+    ensures { λ r. ⌜ RanLines (headIn head presets) (now (text .entry)) from first (stateOf (now (table .entry)) start) (now (out .entry)) position (now (table .exit)) (now (out .exit)) r ⌝ }
 {
     let mut at = from;
     let mut n = first;
-    let mut clock = FIRST_CLOCK;
-    let mut next = place;
+    let mut clock = start;
+    let mut next = position;
     let counts = counts_of(head, presets, table, clock);
     let mut used = counts.used;
-    let mut held = counts.jobs;
+    let mut admitted = counts.jobs;
     let mut capacities = counts.capacities;
     while at < text.len() {
         let line = line_at(text, at);
@@ -47,7 +49,7 @@ pub(crate) fn run_lines(
             table,
             clock,
             &mut used,
-            &mut held,
+            &mut admitted,
             &mut capacities,
             line,
         );
@@ -57,5 +59,8 @@ pub(crate) fn run_lines(
         clock = done.clock;
         at += line.len();
     }
-    Lines { clock, place: next }
+    Lines {
+        clock,
+        position: next,
+    }
 }

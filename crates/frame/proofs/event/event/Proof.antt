@@ -46,7 +46,7 @@ use Rattle.frame.proofs.types.Outcome as Oc
 use Rattle.frame.proofs.types.Outcome.Laws as Oc′
 use Rattle.frame.specs.Event.{Event}
 use Rattle.station.specs.Records.{loaded}
-use Rattle.station.proofs.Walks.{Bank, bank-val, bank-tells, bank-makes, bank-typed, head-val, head-tells, head-makes, head-typed}
+use Rattle.station.proofs.Walks.{Bank, copied-val, copied-tells, copied-makes, copied-typed, head-val, head-tells, head-makes, head-typed}
 use Rattle.station.proofs.Walks.{Counts, Loads, to-count, goes-count, to-load, goes-load}
 use Rattle.station.proofs.Walks.{asks, full, _&_, none, leaves-fn, meets-by, hands-two}
 use Rattle.station.proofs.records.record_count as record-count
@@ -57,7 +57,7 @@ use Rattle.station.proofs.records.load as load
 use Rattle.station.proofs.records.load.Symbol as load-def
 use Rattle.station.proofs.records.load.Symbol.{name as #load}
 use Rattle.station.proofs.records.load.Met as load-thm
-use Rattle.frame.specs.EventEntry.{EventListed, EventEntry}
+use Rattle.frame.specs.EventEntry.{EventOnSlice, EventEntry}
 use Rattle.frame.proofs.event.ListOfRecords.{event-entry}
 use Rattle.frame.proofs.event.counted.event_counted as event-counted
 use Rattle.frame.proofs.event.counted.event_counted.Symbol as event-counted-def
@@ -133,14 +133,14 @@ module _ {M : Type 1} (𝓤 : URA M) (H : Heap 𝓤) (A : Atoms 𝓤) (W : Given
 
   -- what each callee's triple binds outside
   abbrev to-event : List Preset → EventCounted 𝓤 H A mem run .Ghost
-  to-event bank =
-      (((κ′, (κ″, tt)), (q′, (q″, tt)), tt, (length ys, (h, (bank, (x, (c, (y, tt)))))), (vint w64 (length ys) ∷ [], (head-val h ∷ [], (bank-val bank ∷ [], (w ∷ [], (vint w64 c ∷ [], (u ∷ [], tt))))))), tt)
+  to-event copied =
+      (((κ′, (κ″, tt)), (q′, (q″, tt)), tt, (length ys, (h, (copied, (x, (c, (y, tt)))))), (vint w64 (length ys) ∷ [], (head-val h ∷ [], (copied-val copied ∷ [], (w ∷ [], (vint w64 c ∷ [], (u ∷ [], tt))))))), tt)
 
-  goes-event : (bank : List Preset) → length ys < 2 ^ 64 → Is Bank bank (bank-val bank ∷ [])
-      → ent 𝓤 (sep 𝓤 (sep 𝓤 (A .lft κ′ q′) (A .lft κ″ q″)) (sep 𝓤 (sem 𝓤 H A OwnTable) (sem 𝓤 H A OwnLine))) (EventCounted 𝓤 H A mem run .pre (to-event bank))
-  goes-event bank fits is =
+  goes-event : (copied : List Preset) → length ys < 2 ^ 64 → Is Bank copied (copied-val copied ∷ [])
+      → ent 𝓤 (sep 𝓤 (sep 𝓤 (A .lft κ′ q′) (A .lft κ″ q″)) (sep 𝓤 (sem 𝓤 H A OwnTable) (sem 𝓤 H A OwnLine))) (EventCounted 𝓤 H A mem run .pre (to-event copied))
+  goes-event copied fits is =
       qed W ((‵ (flft κ′ q′) ⊛ ‵ (flft κ″ q″)) ∷ ‵ OwnTable ∷ ‵ OwnLine ∷ []) ∵ split ! $ nothing ! $ move ! (4 ∷ 0 ∷ []) $ fjoin ! $ owned ! usize (Is usize) (uint-makes 𝓤 H A W w64) c _ (refl, c-fits) $ fjoin ! $
-      move ! (3 ∷ 0 ∷ []) $ fjoin ! $ owned ! Bank (Is Bank) (bank-makes 𝓤 H A W) bank _ is $ fjoin ! $ owned ! Hd.the-row (Is Hd.the-row) (head-makes 𝓤 H A) h _ is-head $ fjoin ! $
+      move ! (3 ∷ 0 ∷ []) $ fjoin ! $ owned ! Bank (Is Bank) (copied-makes 𝓤 H A W) copied _ is $ fjoin ! $ owned ! Hd.the-row (Is Hd.the-row) (head-makes 𝓤 H A) h _ is-head $ fjoin ! $
       owned ! usize (Is usize) (uint-makes 𝓤 H A W w64) (length ys) _ (refl, fits) $ fjoin ! $ hands-two !
 
   module _ (𝓣 : Tables 𝓤 H) (known-count : Triple 𝓤 (𝓣 .C #record-count) (Counts 𝓤 H A mem run)) (known-load : Triple 𝓤 (𝓣 .C #load) (Loads 𝓤 H A mem run)) (known-event : Triple 𝓤 (𝓣 .C #event-counted) (EventCounted 𝓤 H A mem run)) where
@@ -166,22 +166,22 @@ module _ {M : Type 1} (𝓤 : URA M) (H : Heap 𝓤) (A : Atoms 𝓤) (W : Given
         rewrite ! 15 (λ (k : ℕ). ‵ (fat fullShare (tyInt w64) l₆ 0 (vint w64 k))) e-m refl $
         -- `load`
         split ! $ move ! (0 ∷ 9 ∷ []) $ use2 W (raw (Loads 𝓤 H A mem run .pre (to-load 𝓤 H A W mem run κ q s))) (goes-load 𝓤 H A W mem run κ q s) $
-        asks ! fm load.ended (load.clauses 𝓤 H A mem run) known-load (to-load 𝓤 H A W mem run κ q s) (‵ (flft κ q) ⊛ ‵ ftrue) refl (λ r ws. r ≡ loaded ys) (λ r ws. refl) bank-val bank-tells
-        (and-then ! (reads ! (from ! (stop !)) (look ! 23 refl)) (no-more !)) (λ bank _ is-bank e-bank. land ! (from ! (stop !)) (init ! 14 refl (bank-typed 𝓤 H A W bank is-bank)) $
+        asks ! fm load.ended (load.clauses 𝓤 H A mem run) known-load (to-load 𝓤 H A W mem run κ q s) (‵ (flft κ q) ⊛ ‵ ftrue) refl (λ r ws. r ≡ loaded ys) (λ r ws. refl) copied-val copied-tells
+        (and-then ! (reads ! (from ! (stop !)) (look ! 23 refl)) (no-more !)) (λ copied _ is-copied e-copied. land ! (from ! (stop !)) (init ! 14 refl (copied-typed 𝓤 H A W copied is-copied)) $
         -- [the list's token; nothing said; true; nothing said; the line's token; true; the table's token; what the line owns; true; what the table owns; _9; …; _0; …]
         assigns ! (addr ! (from ! (fld ! refl (hop ! (look-in ! 22 (sub ! 0 refl (whole !))) (stop !))))) (from ! (stop !)) (init ! 12 refl (tt, tt)) $
         assigns ! (agg ! (and-then ! (reads ! (from ! (stop !)) (look ! 12 refl)) (and-then ! (reads ! (from ! (fld ! refl (stop !))) (look-in ! 22 (sub ! 1 refl (whole !)))) (no-more !)))) (from ! (stop !)) (init ! 10 refl (tt, (tt, (record { fits = fit .0 }, tt)))) $
         -- `event_counted`
-        move ! (6 ∷ 4 ∷ 9 ∷ 7 ∷ []) $ join ! $ use3 W (raw (EventCounted 𝓤 H A mem run .pre (to-event bank))) (goes-event bank g is-bank) $
+        move ! (6 ∷ 4 ∷ 9 ∷ 7 ∷ []) $ join ! $ use3 W (raw (EventCounted 𝓤 H A mem run .pre (to-event copied))) (goes-event copied g is-copied) $
         -- [what it asks; the list's token; nothing said; true; nothing said; true; true; _9; …; _0; …]
-        asks ! fm event-counted.ended (event-counted.clauses 𝓤 H A mem run) known-event (to-event bank) (‵ (flft κ′ q′) ⊛ (‵ (flft κ″ q″) ⊛ ‵ ftrue)) refl (λ r zs. EventListed (length ys) h bank (stateOf t c) e (zs .1 .1 .1 .0) r) (λ r zs. refl) Oc′.lowered (Oc′.lowers .val-is)
+        asks ! fm event-counted.ended (event-counted.clauses 𝓤 H A mem run) known-event (to-event copied) (‵ (flft κ′ q′) ⊛ (‵ (flft κ″ q″) ⊛ ‵ ftrue)) refl (λ r zs. EventOnSlice (length ys) h copied (stateOf t c) e (zs .1 .1 .1 .0) r) (λ r zs. refl) Oc′.lowered (Oc′.lowers .val-is)
         (and-then ! (reads ! (from ! (stop !)) (look ! 13 refl)) (and-then ! (reads ! (from ! (stop !)) (look ! 23 refl)) (and-then ! (reads ! (from ! (stop !)) (look ! 11 refl)) (and-then ! (reads ! (from ! (stop !)) (look ! 7 refl))
         (and-then ! (reads ! (from ! (stop !)) (look ! 17 refl)) (and-then ! (reads ! (from ! (stop !)) (look ! 15 refl)) (no-more !))))))) (λ r zs is d.
         land ! (from ! (stop !)) (init ! 26 refl (SL.lawful Oc.the-type Oc′.the-laws 𝓤 H A W .typed r _ is .0)) $
         returns ! (look ! 26 refl) $ leaves-fn ! 8 (full refl refl & full refl refl & full refl refl & full refl refl & full refl refl & full refl refl & full refl refl & full refl refl & full refl refl & full refl refl & none) $
         -- [the tokens of the table and the line; what is said of the table's last list; the list's token; …]
         split ! $ move ! (1 ∷ []) $ split ! $ move ! (3 ∷ []) $ fsplit ! $ drop ! $ fsplit ! $ drop ! $ fsplit ! $ drop ! $ fsplit ! $ fsplit ! $ move ! (1 ∷ []) $ feqL ! (λ l. move ! (5 ∷ []) $ split ! $ keep ! (0 ∷ 6 ∷ 4 ∷ 2 ∷ []) $
-        by ! (exits r (zs .1 .1 .1 .0) is (event-entry h ys (stateOf t c) e (subst (λ (ps : List Preset). EventListed (length ys) h ps (stateOf t c) e (zs .1 .1 .1 .0) r) e-bank d)) l)))))))))))))))
+        by ! (exits r (zs .1 .1 .1 .0) is (event-entry h ys (stateOf t c) e (subst (λ (ps : List Preset). EventOnSlice (length ys) h ps (stateOf t c) e (zs .1 .1 .1 .0) r) e-copied d)) l)))))))))))))))
 
 meets : {M : Type 1} (𝓤 : URA M) (H : Heap 𝓤) (A : Atoms 𝓤) → Given 𝓤 H A → (mem : Memory → SProp 𝓤) (run : Routine → Fun 𝓤) (𝓣 : Tables 𝓤 H)
     → Triple 𝓤 (𝓣 .C #record-count) (Counts 𝓤 H A mem run) → Triple 𝓤 (𝓣 .C #load) (Loads 𝓤 H A mem run) → Triple 𝓤 (𝓣 .C #event-counted) (EventCounted 𝓤 H A mem run)

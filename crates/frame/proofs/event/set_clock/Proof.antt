@@ -45,7 +45,7 @@ use Rattle.frame.proofs.types.Outcome as Oc
 use Rattle.frame.proofs.types.Outcome.Laws as Oc′
 use Rattle.frame.specs.Event.{Event}
 use Rattle.station.specs.Records.{loaded}
-use Rattle.station.proofs.Walks.{Bank, bank-val, bank-tells, bank-makes, bank-typed, head-val, head-tells, head-makes, head-typed}
+use Rattle.station.proofs.Walks.{Bank, copied-val, copied-tells, copied-makes, copied-typed, head-val, head-tells, head-makes, head-typed}
 use Rattle.station.proofs.Walks.{Counts, Loads, to-count, goes-count, to-load, goes-load}
 use Rattle.station.proofs.Walks.{asks, hands-one, full, _&_, none, leaves-fn, meets-by}
 use Rattle.station.proofs.records.record_count as record-count
@@ -56,8 +56,8 @@ use Rattle.station.proofs.records.load as load
 use Rattle.station.proofs.records.load.Symbol as load-def
 use Rattle.station.proofs.records.load.Symbol.{name as #load}
 use Rattle.station.proofs.records.load.Met as load-thm
-use Rattle.frame.specs.EventEntry.{EventListed}
-use Rattle.frame.proofs.event.ListOfRecords.{event-list}
+use Rattle.frame.specs.EventEntry.{EventOnSlice, EventEntry}
+use Rattle.frame.proofs.event.ListOfRecords.{event-entry}
 use Rattle.frame.proofs.event.counted.clock_counted as clock-counted
 use Rattle.frame.proofs.event.counted.clock_counted.Symbol as clock-counted-def
 use Rattle.frame.proofs.event.counted.clock_counted.Symbol.{name as #clock-counted}
@@ -113,7 +113,7 @@ module _ {M : Type 1} (𝓤 : URA M) (H : Heap 𝓤) (A : Atoms 𝓤) (W : Given
   abbrev OwnTable : Fml
   OwnTable = ShrSlice (named 0) κ′ u16 .own x (w ∷ [])
 
-  exits : (r : Outcome) → Is Oc.the-row r (Oc′.lowered r ∷ []) → EventListed (length ys) h ys (stateOf t c) (Event.clock n) t r → ent 𝓤 (sep 𝓤 (A .lft κ q) (A .lft κ′ q′)) (Post (Oc′.lowered r))
+  exits : (r : Outcome) → Is Oc.the-row r (Oc′.lowered r ∷ []) → EventEntry h ys (stateOf t c) (Event.clock n) t r → ent 𝓤 (sep 𝓤 (A .lft κ q) (A .lft κ′ q′)) (Post (Oc′.lowered r))
   exits r is e =
       qed W (‵ (flft κ q) ∷ ‵ (flft κ′ q′) ∷ []) ∵
       suffices ! _ (ends-at 𝓤 H A set-clock.ended stayed (set-clock.clauses 𝓤 H A mem run) W bound (Oc′.lowered r) r (tt, (tt, (tt, (tt, (tt, tt))))) (tt, (tt, (tt, (tt, (tt, tt)))))) $ says ! e $
@@ -122,13 +122,13 @@ module _ {M : Type 1} (𝓤 : URA M) (H : Heap 𝓤) (A : Atoms 𝓤) (W : Given
 
   -- what each callee's triple binds outside
   abbrev to-clock : List Preset → ClockCounted 𝓤 H A mem run .Ghost
-  to-clock bank =
-      (((κ′, tt), (q′, tt), tt, (length ys, (h, (bank, (x, (c, (n, tt)))))), (vint w64 (length ys) ∷ [], (head-val h ∷ [], (bank-val bank ∷ [], (w ∷ [], (vint w64 c ∷ [], (vint w64 n ∷ [], tt))))))), tt)
+  to-clock copied =
+      (((κ′, tt), (q′, tt), tt, (length ys, (h, (copied, (x, (c, (n, tt)))))), (vint w64 (length ys) ∷ [], (head-val h ∷ [], (copied-val copied ∷ [], (w ∷ [], (vint w64 c ∷ [], (vint w64 n ∷ [], tt))))))), tt)
 
-  goes-clock : (bank : List Preset) → length ys < 2 ^ 64 → Is Bank bank (bank-val bank ∷ []) → ent 𝓤 (sep 𝓤 (A .lft κ′ q′) (sem 𝓤 H A OwnTable)) (ClockCounted 𝓤 H A mem run .pre (to-clock bank))
-  goes-clock bank fits is =
+  goes-clock : (copied : List Preset) → length ys < 2 ^ 64 → Is Bank copied (copied-val copied ∷ []) → ent 𝓤 (sep 𝓤 (A .lft κ′ q′) (sem 𝓤 H A OwnTable)) (ClockCounted 𝓤 H A mem run .pre (to-clock copied))
+  goes-clock copied fits is =
       qed W (‵ (flft κ′ q′) ∷ ‵ OwnTable ∷ []) ∵ nothing ! $ owned ! usize (Is usize) (uint-makes 𝓤 H A W w64) n _ (refl, n-fits) $ fjoin ! $ owned ! usize (Is usize) (uint-makes 𝓤 H A W w64) c _ (refl, c-fits) $ fjoin ! $
-      move ! (2 ∷ 0 ∷ []) $ fjoin ! $ owned ! Bank (Is Bank) (bank-makes 𝓤 H A W) bank _ is $ fjoin ! $ owned ! Hd.the-row (Is Hd.the-row) (head-makes 𝓤 H A) h _ is-head $ fjoin ! $
+      move ! (2 ∷ 0 ∷ []) $ fjoin ! $ owned ! Bank (Is Bank) (copied-makes 𝓤 H A W) copied _ is $ fjoin ! $ owned ! Hd.the-row (Is Hd.the-row) (head-makes 𝓤 H A) h _ is-head $ fjoin ! $
       owned ! usize (Is usize) (uint-makes 𝓤 H A W w64) (length ys) _ (refl, fits) $ fjoin ! $ hands-one !
 
   module _ (𝓣 : Tables 𝓤 H) (known-count : Triple 𝓤 (𝓣 .C #record-count) (Counts 𝓤 H A mem run)) (known-load : Triple 𝓤 (𝓣 .C #load) (Loads 𝓤 H A mem run)) (known-clock : Triple 𝓤 (𝓣 .C #clock-counted) (ClockCounted 𝓤 H A mem run)) where
@@ -152,19 +152,19 @@ module _ {M : Type 1} (𝓤 : URA M) (H : Heap 𝓤) (A : Atoms 𝓤) (W : Given
         -- `load`
         split ! $ move ! (0 ∷ 7 ∷ []) $ use2 W (raw (Loads 𝓤 H A mem run .pre (to-load 𝓤 H A W mem run κ q s))) (goes-load 𝓤 H A W mem run κ q s) $
         -- [what it asks; true; nothing said; the table's token; true; what the table owns; the rest; _7; …; _6; …; _5; …; _4; …; _3; …; _2; …; _1; …; _0; …]
-        asks ! fm load.ended (load.clauses 𝓤 H A mem run) known-load (to-load 𝓤 H A W mem run κ q s) (‵ (flft κ q) ⊛ ‵ ftrue) refl (λ r ws. r ≡ loaded ys) (λ r ws. refl) bank-val bank-tells
-        (and-then ! (reads ! (from ! (stop !)) (look ! 17 refl)) (no-more !)) (λ bank _ is-bank e-bank. land ! (from ! (stop !)) (init ! 8 refl (bank-typed 𝓤 H A W bank is-bank)) $
+        asks ! fm load.ended (load.clauses 𝓤 H A mem run) known-load (to-load 𝓤 H A W mem run κ q s) (‵ (flft κ q) ⊛ ‵ ftrue) refl (λ r ws. r ≡ loaded ys) (λ r ws. refl) copied-val copied-tells
+        (and-then ! (reads ! (from ! (stop !)) (look ! 17 refl)) (no-more !)) (λ copied _ is-copied e-copied. land ! (from ! (stop !)) (init ! 8 refl (copied-typed 𝓤 H A W copied is-copied)) $
         -- `clock_counted`
-        move ! (4 ∷ 6 ∷ []) $ use2 W (raw (ClockCounted 𝓤 H A mem run .pre (to-clock bank))) (goes-clock bank g is-bank) $
+        move ! (4 ∷ 6 ∷ []) $ use2 W (raw (ClockCounted 𝓤 H A mem run .pre (to-clock copied))) (goes-clock copied g is-copied) $
         -- [what it asks; the list's token; nothing said; true; nothing said; true; the rest; _7; …; _6; …; _5; …; _4; …; _3; …; _2; …; _1; …; _0; …]
-        asks ! fm clock-counted.ended (clock-counted.clauses 𝓤 H A mem run) known-clock (to-clock bank) (‵ (flft κ′ q′) ⊛ ‵ ftrue) refl (λ r ws. EventListed (length ys) h bank (stateOf t c) (Event.clock n) t r) (λ r ws. refl) Oc′.lowered (Oc′.lowers .val-is)
+        asks ! fm clock-counted.ended (clock-counted.clauses 𝓤 H A mem run) known-clock (to-clock copied) (‵ (flft κ′ q′) ⊛ ‵ ftrue) refl (λ r ws. EventOnSlice (length ys) h copied (stateOf t c) (Event.clock n) t r) (λ r ws. refl) Oc′.lowered (Oc′.lowers .val-is)
         (and-then ! (reads ! (from ! (stop !)) (look ! 9 refl)) (and-then ! (reads ! (from ! (stop !)) (look ! 19 refl)) (and-then ! (reads ! (from ! (stop !)) (look ! 7 refl)) (and-then ! (reads ! (from ! (stop !)) (look ! 15 refl))
         (and-then ! (reads ! (from ! (stop !)) (look ! 13 refl)) (and-then ! (reads ! (from ! (stop !)) (look ! 11 refl)) (no-more !))))))) (λ r _ is e.
         land ! (from ! (stop !)) (init ! 22 refl (SL.lawful Oc.the-type Oc′.the-laws 𝓤 H A W .typed r _ is .0)) $
         returns ! (look ! 22 refl) $ leaves-fn ! 8 (full refl refl & full refl refl & full refl refl & full refl refl & full refl refl & full refl refl & full refl refl & full refl refl & none) $
         -- [the table's token; nothing said; the list's token; …]
         split ! $ move ! (3 ∷ []) $ split ! $ keep ! (0 ∷ 2 ∷ []) $
-        by ! (exits r is (event-list h ys (stateOf t c) (Event.clock n) (subst (λ (ps : List Preset). EventListed (length ys) h ps (stateOf t c) (Event.clock n) t r) e-bank e))))))))))))))
+        by ! (exits r is (event-entry h ys (stateOf t c) (Event.clock n) (subst (λ (ps : List Preset). EventOnSlice (length ys) h ps (stateOf t c) (Event.clock n) t r) e-copied e))))))))))))))
 
 meets : {M : Type 1} (𝓤 : URA M) (H : Heap 𝓤) (A : Atoms 𝓤) → Given 𝓤 H A → (mem : Memory → SProp 𝓤) (run : Routine → Fun 𝓤) (𝓣 : Tables 𝓤 H)
     → Triple 𝓤 (𝓣 .C #record-count) (Counts 𝓤 H A mem run) → Triple 𝓤 (𝓣 .C #load) (Loads 𝓤 H A mem run) → Triple 𝓤 (𝓣 .C #clock-counted) (ClockCounted 𝓤 H A mem run)

@@ -1,8 +1,11 @@
--- `event::set_clock_by_value` meets its contract: a law for each answer. Assumes nothing.
+-- `event::set_clock_by_value` meets its contract: a law for each answer, the frame afterwards by `done-running`, and the claim by `demand-3`. Assumes nothing.
+use mathlib.Core.List.{[], _∷_}
 use borrow.Author.Needs.{needs}
+use Rattle.station.specs.Types.{headIn}
 use Rattle.placing.specs.State.{stateOf}
 use Rattle.frame.specs.Event.{Event}
-use Rattle.frame.proofs.event.EventAnswers.{frame-free, clock-done, frame-refused, event-done}
+use Rattle.frame.proofs.Demands.{demand-3}
+use Rattle.frame.proofs.event.EventAnswers.{frame-free, clock-done, frame-refused, event-done, done-running}
 use Rattle.frame.proofs.event.set_clock_by_value.Statement.{statement}
 use Rattle.frame.proofs.event.set_clock_by_value.Tie as tie
 
@@ -16,7 +19,10 @@ returns : tie.Need-returns
 returns c =
     let f = c .before .before .before in
     let a = f .before .before .args in
-    frame-refused (a .head) (a .presets) (stateOf (a .table .now) (a .clock)) (Event.clock (a .t)) (c .before .r .given .0 .0) (f .frame-cause .ensures) (c .before .r .given .1)
+    let st = stateOf (a .table .now) (a .clock) in
+    let e = Event.clock (a .t) in
+    let done = frame-refused (a .head) (a .presets) st e (c .before .r .given .0 .0) (f .frame-cause .ensures) (c .before .r .given .1) in
+    (done, (done-running (a .head) (a .presets) st e done, demand-3 (headIn (a .head) (a .presets)) st (e ∷ [])))
 
 enum-told : tie.Need-enum-told
 enum-told c = search needs
@@ -28,9 +34,11 @@ returns-2 : tie.Need-returns-2
 returns-2 c =
     let f = c .before .before .before in
     let a = f .before .before .args in
-    let free = frame-free (a .head) (a .presets) (stateOf (a .table .now) (a .clock)) (f .frame-cause .ensures) (c .before .enum-told .given .1) in
-    event-done (a .head) (a .presets) (stateOf (a .table .now) (a .clock)) (Event.clock (a .t)) free
-    (clock-done (a .head) (a .presets) (stateOf (a .table .now) (a .clock)) free (a .t) (c .asked-clock .ensures))
+    let st = stateOf (a .table .now) (a .clock) in
+    let e = Event.clock (a .t) in
+    let free = frame-free (a .head) (a .presets) st (f .frame-cause .ensures) (c .before .enum-told .given .1) in
+    let done = event-done (a .head) (a .presets) st e free (clock-done (a .head) (a .presets) st free (a .t) (c .asked-clock .ensures)) in
+    (done, (done-running (a .head) (a .presets) st e done, demand-3 (headIn (a .head) (a .presets)) st (e ∷ [])))
 
 pub set-clock-by-value-spec : {M : Type 1} → statement M
 set-clock-by-value-spec =

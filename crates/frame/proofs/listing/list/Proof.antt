@@ -1,6 +1,6 @@
 -- `listing::list` meets its contract: the listing of a text that ran stands there already, and the one line of a refusal is written. Assumes nothing.
 use borrow.Author.Needs.{needs}
-use Rattle.frame.specs.TextDone.{wholeBeside}
+use Rattle.frame.specs.TextDone.{wholeWithOutput}
 use Rattle.frame.proofs.listing.WholeListing.{lists-ran, lists-refused}
 use Rattle.frame.proofs.listing.list.Statement.{statement}
 use Rattle.frame.proofs.listing.list.Tie as tie
@@ -28,7 +28,7 @@ returns c =
     let e = c .before in
     let t = e .before .before .before .before .before .before in
     let a = t .before .before .before .before .before .before .args in
-    lists-ran (wholeBeside (a .text .now) (a .table .now) (a .out .now)) (t .run-text-by-value .ensures .0) (e .ended .given .1)
+    lists-ran (wholeWithOutput (a .text .now) (a .table .now) (a .out .now)) (t .run-text-by-value .ensures .0) (e .ended .given .1)
 
 same-length-3 : tie.Need-same-length-3
 same-length-3 c = search needs
@@ -42,7 +42,7 @@ returns-2 c =
     let e = l .before .before .before in
     let t = e .before .before .before .before .before .before in
     let a = t .before .before .before .before .before .before .args in
-    lists-refused (wholeBeside (a .text .now) (a .table .now) (a .out .now)) (t .run-text-by-value .ensures .0) (e .ended2 .given .1) (l .refused-line .ensures)
+    lists-refused (wholeWithOutput (a .text .now) (a .table .now) (a .out .now)) (t .run-text-by-value .ensures .0) (e .ended2 .given .1) (l .refused-line .ensures)
 
 pub list-spec : {M : Type 1} → statement M
 list-spec =

@@ -1,4 +1,4 @@
--- The loop over the lines of a text after its head: what holds between two lines, and at the end.
+-- The loop over the lines of a text, or those after its head: what holds between two lines, and at the end.
 --
 -- In order: between two lines (`AtEvent`, `at-first`); at a line (`line-inside`, `line-bytes`), and after it (`at-next`); no line is left (`at-end`).
 -- Assumes nothing.
@@ -20,7 +20,6 @@ use Rattle.station.specs.declared.types.Head as record-of-head
 use Rattle.station.proofs.Theorems.{line-some, line-within, lines-at, lines-past, left-all, left-wrote, left-none}
 use Rattle.placing.specs.Causes.{frameCausesOf}
 use Rattle.placing.specs.Table.{cell}
-use Rattle.placing.specs.Valid.{firstClock}
 use Rattle.placing.specs.State.{State, stateOf}
 use Rattle.placing.specs.Claims.{Running}
 use Rattle.placing.specs.method.Counts.{CountsOf}
@@ -62,26 +61,26 @@ event-size h st e run = run-kept h st (e ∷ []) run .past .long
 
 -- ---- between two lines
 
--- The lines of a text from the byte `from` on are run on the table t, `first` lines having gone before, and the answers go into the output l from `place` on.
+-- The lines of a text from the byte `from` on are run on the state `start`, `first` lines having gone before, and the answers go into the output l from `position` on.
 -- So far n lines of the text were read, to the byte at; they left the table u, the clock c and the output l₁, whose next place is r. The counts are those of u and c.
-pub record AtEvent (head : record-of-head.Head) (ps : List record-of-preset.Preset) (text : List ℕ) (from first : ℕ) (t l : List ℕ) (place at n c r : ℕ) (u l₁ marks : List ℕ) (held : ℕ) (xs : List ℕ) : Type 0 where
+pub record AtEvent (head : record-of-head.Head) (ps : List record-of-preset.Preset) (text : List ℕ) (from first : ℕ) (start : State) (l : List ℕ) (position at n c r : ℕ) (u l₁ marks : List ℕ) (admitted : ℕ) (xs : List ℕ) : Type 0 where
   pub valid : validRecord head ps ≡ true
   pub running : Running (headIn head ps) (stateOf u c)
-  pub counted : CountsOf (headIn head ps) c (cell (headIn head ps) u) marks held xs
-  pub size : length u ≡ length t
+  pub counted : CountsOf (headIn head ps) c (cell (headIn head ps) u) marks admitted xs
+  pub size : length u ≡ length (start .table)
   pub inside : at ≤ length text
   pub few : n ≤ at
   pub short : length text ≤ 32768
-  pub after : runOf (headIn head ps) (stateOf u c) (eventsFrom text at) .after ≡ linesRun (headIn head ps) text from t .after
+  pub after : runOf (headIn head ps) (stateOf u c) (eventsFrom text at) .after ≡ linesRun (headIn head ps) text from start .after
   pub output :
-      Left l place (answerLines first (linesRun (headIn head ps) text from t .answers)) l₁ r
+      Left l position (answerLines first (linesRun (headIn head ps) text from start .answers)) l₁ r
       (answerLines n (runOf (headIn head ps) (stateOf u c) (eventsFrom text at) .answers))
 
-pub at-first : (head : record-of-head.Head) (ps : List record-of-preset.Preset) (text : List ℕ) (from first : ℕ) (t l : List ℕ) (place : ℕ)
-    {marks xs : List ℕ} {held : ℕ} → LinesStart head ps text from first t
-    → (validRecord head ps ≡ true → 512 ≤ length t → CountsOf (headIn head ps) firstClock (cell (headIn head ps) t) marks held xs)
-    → AtEvent head ps text from first t l place from first firstClock place t l marks held xs
-at-first head ps text from first t l place s k = record {
+pub at-first : (head : record-of-head.Head) (ps : List record-of-preset.Preset) (text : List ℕ) (from first : ℕ) (t : List ℕ) (c : ℕ) (l : List ℕ) (position : ℕ)
+    {marks xs : List ℕ} {admitted : ℕ} → LinesStart head ps text from first (stateOf t c)
+    → (validRecord head ps ≡ true → 512 ≤ length t → CountsOf (headIn head ps) c (cell (headIn head ps) t) marks admitted xs)
+    → AtEvent head ps text from first (stateOf t c) l position from first c position t l marks admitted xs
+at-first head ps text from first t c l position s k = record {
   valid = s .valid;
   running = s .running;
   counted = k (s .valid) (s .running .long);
@@ -90,11 +89,11 @@ at-first head ps text from first t l place s k = record {
   few = s .few;
   short = s .short;
   after = refl;
-  output = left-all l place (answerLines first (linesRun (headIn head ps) text from t .answers));
+  output = left-all l position (answerLines first (linesRun (headIn head ps) text from (stateOf t c) .answers));
 }
 
-module _ {head : record-of-head.Head} {ps : List record-of-preset.Preset} {text : List ℕ} {from first : ℕ} {t l : List ℕ} {place at n c r : ℕ} {u l₁ marks : List ℕ} {held : ℕ} {xs : List ℕ}
-    (a : AtEvent head ps text from first t l place at n c r u l₁ marks held xs) where
+module _ {head : record-of-head.Head} {ps : List record-of-preset.Preset} {text : List ℕ} {from first : ℕ} {start : State} {l : List ℕ} {position at n c r : ℕ} {u l₁ marks : List ℕ} {admitted : ℕ} {xs : List ℕ}
+    (a : AtEvent head ps text from first start l position at n c r u l₁ marks admitted xs) where
   abbrev h : Head
   h = headIn head ps
 
@@ -103,7 +102,7 @@ module _ {head : record-of-head.Head} {ps : List record-of-preset.Preset} {text 
 
   -- what is to be written for the whole run
   abbrev all : List ℕ
-  all = answerLines first (linesRun h text from t .answers)
+  all = answerLines first (linesRun h text from start .answers)
 
   -- the frame meets no cause
   at-free : firstOf (frameCausesOf head ps st) ≡ none
@@ -139,11 +138,11 @@ module _ {head : record-of-head.Head} {ps : List record-of-preset.Preset} {text 
         ∙ answers-cons n (done .answer) (runOf h (done .after) rest .answers)
 
     -- the event was answered, and its answer written
-    pub at-next : {u₁ l₂ : List ℕ} {o : result.Outcome} {r₁ : ℕ} {marks₁ xs₁ : List ℕ} {held₁ : ℕ}
-        → (validRecord head ps ≡ true → Running h st → CountsOf h c (cell h u) marks held xs
-        → Yields (lineMeant head ps st x) u₁ o × CountsOf h (o .clock) (cell h u₁) marks₁ held₁ xs₁)
+    pub at-next : {u₁ l₂ : List ℕ} {o : result.Outcome} {r₁ : ℕ} {marks₁ xs₁ : List ℕ} {admitted₁ : ℕ}
+        → (validRecord head ps ≡ true → Running h st → CountsOf h c (cell h u) marks admitted xs
+        → Yields (lineMeant head ps st x) u₁ o × CountsOf h (o .clock) (cell h u₁) marks₁ admitted₁ xs₁)
         → Wrote l₁ r (answerLine (n + 1) (answerIn (o .answer))) l₂ r₁
-        → AtEvent head ps text from first t l place (at + length x) (n + 1) (o .clock) r₁ u₁ l₂ marks₁ held₁ xs₁
+        → AtEvent head ps text from first start l position (at + length x) (n + 1) (o .clock) r₁ u₁ l₂ marks₁ admitted₁ xs₁
     at-next {u₁} {l₂} {o} {r₁} d w =
         let left-by = d (a .valid) (a .running) (a .counted) in
         let y = line-done head ps st at-free x (left-by .0) in
@@ -165,24 +164,24 @@ module _ {head : record-of-head.Head} {ps : List record-of-preset.Preset} {text 
           short = a .short;
           after = ap (λ (v : State). runOf h v rest .after) left ∙ sym after-here ∙ a .after;
           output =
-              subst (λ (v : State). Left l place all l₂ r₁ (answerLines (suc n) (runOf h v rest .answers))) (sym left)
+              subst (λ (v : State). Left l position all l₂ r₁ (answerLines (suc n) (runOf h v rest .answers))) (sym left)
               (left-wrote (answerLine (suc n) (done .answer)) (answerLines (suc n) (runOf h (done .after) rest .answers))
-              (subst (Left l place all l₁ r) output-here (a .output)) wrote);
+              (subst (Left l position all l₁ r) output-here (a .output)) wrote);
         })
 
   -- ---- no line is left
 
-  pub at-end : length text ≤ at → RanLines h text from first t l place u l₁ (record { clock = c; place = r })
+  pub at-end : length text ≤ at → RanLines h text from first start l position u l₁ (record { clock = c; position = r })
   at-end past =
       let none-left : eventsFrom text at ≡ [] = ap (map line) (lines-past text at past) in
       let z = run-none h st in
-      let left : st ≡ linesRun h text from t .after = sym (z .0) ∙ ap (λ (es : List Event). runOf h st es .after) (sym none-left) ∙ a .after in
+      let left : st ≡ linesRun h text from start .after = sym (z .0) ∙ ap (λ (es : List Event). runOf h st es .after) (sym none-left) ∙ a .after in
       record {
         table = ap (λ (s : State). s .table) left;
         clock = ap (λ (s : State). s .clock) left;
         output =
             left-none
-            (subst (Left l place all l₁ r)
+            (subst (Left l position all l₁ r)
             (ap (λ (es : List Event). answerLines n (runOf h st es .answers)) none-left ∙ ap (answerLines n) (z .1) ∙ answers-none n)
             (a .output));
       }

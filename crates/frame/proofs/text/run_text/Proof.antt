@@ -49,7 +49,7 @@ use Rattle.frame.specs.declared.text.TextAnswer.{TextAnswer}
 use Rattle.frame.proofs.text.TextAnswer as Ta
 use Rattle.frame.proofs.text.TextAnswer.Laws as Ta′
 use Rattle.station.specs.Records.{loaded, saved}
-use Rattle.station.proofs.Walks.{Bank, bank-val, bank-tells, bank-makes, bank-typed, head-val, head-tells, head-makes, head-typed}
+use Rattle.station.proofs.Walks.{Bank, copied-val, copied-tells, copied-makes, copied-typed, head-val, head-tells, head-makes, head-typed}
 use Rattle.station.proofs.Walks.{Reshared, reshares, is-back}
 use Rattle.station.proofs.Walks.{Counts, Loads, to-count, goes-count, to-load, goes-load}
 use Rattle.station.proofs.Walks.{asks, hands, hands-one, full, _&_, none, leaves-fn, meets-by, hands-three}
@@ -65,16 +65,16 @@ use Rattle.station.proofs.records.save as save
 use Rattle.station.proofs.records.save.Symbol as save-def
 use Rattle.station.proofs.records.save.Symbol.{name as #save}
 use Rattle.station.proofs.records.save.Met as save-thm
-use Rattle.frame.specs.TextEntry.{TextListed, TextEntry, answerOf}
+use Rattle.frame.specs.TextEntry.{TextOnSlice, TextEntry, answerOf}
 use Rattle.frame.proofs.text.ListOfRecords.{text-entry}
 use Rattle.frame.proofs.text.counted.text_counted as text-counted
 use Rattle.frame.proofs.text.counted.text_counted.Symbol as text-counted-def
 use Rattle.frame.proofs.text.counted.text_counted.Symbol.{name as #text-counted}
 use Rattle.frame.proofs.text.counted.text_counted.Met as text-counted-thm
-use Rattle.frame.proofs.text.counted.bank_of as bank-of
-use Rattle.frame.proofs.text.counted.bank_of.Symbol as bank-of-def
-use Rattle.frame.proofs.text.counted.bank_of.Symbol.{name as #bank-of}
-use Rattle.frame.proofs.text.counted.bank_of.Met as bank-of-thm
+use Rattle.frame.proofs.text.counted.presets_of as presets-of
+use Rattle.frame.proofs.text.counted.presets_of.Symbol as presets-of-def
+use Rattle.frame.proofs.text.counted.presets_of.Symbol.{name as #presets-of}
+use Rattle.frame.proofs.text.counted.presets_of.Met as presets-of-thm
 use Rattle.frame.proofs.text.counted.answer_of as answer-of
 use Rattle.frame.proofs.text.counted.answer_of.Symbol as answer-of-def
 use Rattle.frame.proofs.text.counted.answer_of.Symbol.{name as #answer-of}
@@ -99,7 +99,7 @@ module _ {M : Type 1} (𝓤 : URA M) (H : Heap 𝓤) (A : Atoms 𝓤) (mem : Mem
   TextCounted = tripleOf 𝓤 H A text-counted.signature (text-counted.spec 𝓤 H A mem run)
 
   abbrev BankOf : Contract 𝓤
-  BankOf = tripleOf 𝓤 H A bank-of.signature (bank-of.spec 𝓤 H A mem run)
+  BankOf = tripleOf 𝓤 H A presets-of.signature (presets-of.spec 𝓤 H A mem run)
 
   abbrev AnswerOf : Contract 𝓤
   AnswerOf = tripleOf 𝓤 H A answer-of.signature (answer-of.spec 𝓤 H A mem run)
@@ -170,41 +170,41 @@ module _ {M : Type 1} (𝓤 : URA M) (H : Heap 𝓤) (A : Atoms 𝓤) (W : Given
 
   -- what each callee's triple binds outside
   abbrev to-text : List Preset → TextCounted 𝓤 H A mem run .Ghost
-  to-text bank = (
+  to-text copied = (
     (
       (κ₀, (κ₂, (κ₃, tt))),
       (q₀, (q₂, (q₃, tt))),
       tt,
-      (length ys, (y, (h, (bank, (x₂, (c, (x₃, tt))))))),
-      (vint w64 (length ys) ∷ [], (v₀ ∷ [], (head-val h ∷ [], (bank-val bank ∷ [], (v₂ ∷ [], (vint w64 c ∷ [], (v₃ ∷ [], tt))))))),
+      (length ys, (y, (h, (copied, (x₂, (c, (x₃, tt))))))),
+      (vint w64 (length ys) ∷ [], (v₀ ∷ [], (head-val h ∷ [], (copied-val copied ∷ [], (v₂ ∷ [], (vint w64 c ∷ [], (v₃ ∷ [], tt))))))),
     ),
     tt,
   )
 
-  abbrev to-bank : TextRun → BankOf 𝓤 H A mem run .Ghost
-  to-bank r = ((tt, tt, tt, (r, tt), (Tr′.lowered r ∷ [], tt)), tt)
+  abbrev to-copied : TextRun → BankOf 𝓤 H A mem run .Ghost
+  to-copied r = ((tt, tt, tt, (r, tt), (Tr′.lowered r ∷ [], tt)), tt)
 
   abbrev to-save : List Preset → Save 𝓤 H A mem run .Ghost
-  to-save bank = (((κ₁, tt), (q₁, tt), tt, (s γ, (bank, (32, tt))), (v₁ ∷ [], (bank-val bank ∷ [], (vint w64 32 ∷ [], tt)))), tt)
+  to-save copied = (((κ₁, tt), (q₁, tt), tt, (s γ, (copied, (32, tt))), (v₁ ∷ [], (copied-val copied ∷ [], (vint w64 32 ∷ [], tt)))), tt)
 
   abbrev to-answer : TextRun → AnswerOf 𝓤 H A mem run .Ghost
   to-answer r = ((tt, tt, tt, (r, tt), (Tr′.lowered r ∷ [], tt)), tt)
 
-  goes-text : (bank : List Preset) → length ys < 2 ^ 64 → Is Bank bank (bank-val bank ∷ [])
-      → ent 𝓤 (sep 𝓤 (sep 𝓤 (sep 𝓤 (sep 𝓤 (sep 𝓤 (A .lft κ₀ q₀) (A .lft κ₂ q₂)) (A .lft κ₃ q₃)) (sem 𝓤 H A OwnText)) (sem 𝓤 H A OwnTable)) (sem 𝓤 H A OwnOut)) (TextCounted 𝓤 H A mem run .pre (to-text bank))
-  goes-text bank fits is =
+  goes-text : (copied : List Preset) → length ys < 2 ^ 64 → Is Bank copied (copied-val copied ∷ [])
+      → ent 𝓤 (sep 𝓤 (sep 𝓤 (sep 𝓤 (sep 𝓤 (sep 𝓤 (A .lft κ₀ q₀) (A .lft κ₂ q₂)) (A .lft κ₃ q₃)) (sem 𝓤 H A OwnText)) (sem 𝓤 H A OwnTable)) (sem 𝓤 H A OwnOut)) (TextCounted 𝓤 H A mem run .pre (to-text copied))
+  goes-text copied fits is =
       qed W ((((((‵ (flft κ₀ q₀) ⊛ ‵ (flft κ₂ q₂)) ⊛ ‵ (flft κ₃ q₃)) ⊛ ‵ OwnText) ⊛ ‵ OwnTable) ⊛ ‵ OwnOut) ∷ []) ∵ split ! $ split ! $ split ! $ split ! $ split ! $
       -- [the three tokens; what the text owns, the table and the output]
       nothing ! $ move ! (6 ∷ 0 ∷ []) $ fjoin ! $ owned ! usize (Is usize) (uint-makes 𝓤 H A W w64) c _ (refl, c-fits) $ fjoin ! $ move ! (5 ∷ 0 ∷ []) $ fjoin ! $
-      owned ! Bank (Is Bank) (bank-makes 𝓤 H A W) bank _ is $ fjoin ! $ owned ! Hd.the-row (Is Hd.the-row) (head-makes 𝓤 H A) h _ is-head $ fjoin ! $ move ! (4 ∷ 0 ∷ []) $ fjoin ! $
+      owned ! Bank (Is Bank) (copied-makes 𝓤 H A W) copied _ is $ fjoin ! $ owned ! Hd.the-row (Is Hd.the-row) (head-makes 𝓤 H A) h _ is-head $ fjoin ! $ move ! (4 ∷ 0 ∷ []) $ fjoin ! $
       owned ! usize (Is usize) (uint-makes 𝓤 H A W w64) (length ys) _ (refl, fits) $ fjoin ! $ hands-three !
 
-  goes-save : (bank : List Preset) → Is Bank bank (bank-val bank ∷ []) → ent 𝓤 (sep 𝓤 (A .lft κ₁ q₁) (sem 𝓤 H A Own)) (Save 𝓤 H A mem run .pre (to-save bank))
-  goes-save bank is =
-      qed W (‵ (flft κ₁ q₁) ∷ ‵ Own ∷ []) ∵ nothing ! $ owned ! usize (Is usize) (uint-makes 𝓤 H A W w64) 32 _ (refl, lit< tt) $ fjoin ! $ owned ! Bank (Is Bank) (bank-makes 𝓤 H A W) bank _ is $ fjoin ! $ move ! (2 ∷ 0 ∷ []) $ fjoin ! $ hands-one !
+  goes-save : (copied : List Preset) → Is Bank copied (copied-val copied ∷ []) → ent 𝓤 (sep 𝓤 (A .lft κ₁ q₁) (sem 𝓤 H A Own)) (Save 𝓤 H A mem run .pre (to-save copied))
+  goes-save copied is =
+      qed W (‵ (flft κ₁ q₁) ∷ ‵ Own ∷ []) ∵ nothing ! $ owned ! usize (Is usize) (uint-makes 𝓤 H A W w64) 32 _ (refl, lit< tt) $ fjoin ! $ owned ! Bank (Is Bank) (copied-makes 𝓤 H A W) copied _ is $ fjoin ! $ move ! (2 ∷ 0 ∷ []) $ fjoin ! $ hands-one !
 
   module _ (𝓣 : Tables 𝓤 H) (known-count : Triple 𝓤 (𝓣 .C #record-count) (Counts 𝓤 H A mem run)) (known-load : Triple 𝓤 (𝓣 .C #load) (Loads 𝓤 H A mem run)) (known-text : Triple 𝓤 (𝓣 .C #text-counted) (TextCounted 𝓤 H A mem run))
-      (known-bank : Triple 𝓤 (𝓣 .C #bank-of) (BankOf 𝓤 H A mem run)) (known-save : Triple 𝓤 (𝓣 .C #save) (Save 𝓤 H A mem run)) (known-answer : Triple 𝓤 (𝓣 .C #answer-of) (AnswerOf 𝓤 H A mem run)) where
+      (known-copied : Triple 𝓤 (𝓣 .C #presets-of) (BankOf 𝓤 H A mem run)) (known-save : Triple 𝓤 (𝓣 .C #save) (Save 𝓤 H A mem run)) (known-answer : Triple 𝓤 (𝓣 .C #answer-of) (AnswerOf 𝓤 H A mem run)) where
     fm : FmC 𝓤 H (W .laws) (𝓣 .C)
     fm = fmOf 𝓤 H (W .laws) 𝓣
 
@@ -237,8 +237,8 @@ module _ {M : Type 1} (𝓤 : URA M) (H : Heap 𝓤) (A : Atoms 𝓤) (W : Given
         assigns ! (agg ! (and-then ! (reads ! (from ! (stop !)) (look ! 30 refl)) (and-then ! (reads ! (from ! (fld ! refl (stop !))) (look-in ! 48 (sub ! 1 refl (whole !)))) (no-more !)))) (from ! (stop !)) (init ! 28 refl (tt, (tt, (record { fits = fit₁ .0 }, tt)))) $
         -- `load`
         split ! $ move ! (0 ∷ 3 ∷ []) $ use2 W (raw (Loads 𝓤 H A mem run .pre (to-load 𝓤 H A W mem run (ν ∷ []) fullShare (s δ)))) (goes-load 𝓤 H A W mem run (ν ∷ []) fullShare (s δ)) $
-        asks ! fm load.ended (load.clauses 𝓤 H A mem run) known-load (to-load 𝓤 H A W mem run (ν ∷ []) fullShare (s δ)) (‵ (flft (ν ∷ []) fullShare) ⊛ ‵ ftrue) refl (λ r ws. r ≡ loaded ys) (λ r ws. refl) bank-val bank-tells
-        (and-then ! (reads ! (from ! (stop !)) (look ! 28 refl)) (no-more !)) (λ bank _ is-bank e-bank. land ! (from ! (stop !)) (init ! 39 refl (bank-typed 𝓤 H A W bank is-bank)) $
+        asks ! fm load.ended (load.clauses 𝓤 H A mem run) known-load (to-load 𝓤 H A W mem run (ν ∷ []) fullShare (s δ)) (‵ (flft (ν ∷ []) fullShare) ⊛ ‵ ftrue) refl (λ r ws. r ≡ loaded ys) (λ r ws. refl) copied-val copied-tells
+        (and-then ! (reads ! (from ! (stop !)) (look ! 28 refl)) (no-more !)) (λ copied _ is-copied e-copied. land ! (from ! (stop !)) (init ! 39 refl (copied-typed 𝓤 H A W copied is-copied)) $
         -- the lifetime is ended, and the list is back
         split ! $ lft-end ! tt $ move ! (0 ∷ 5 ∷ []) $ use2 W (later (‵ Own ⊛ ‵ (flft κ₁ q₁))) (is-back T.the-row κ₁ (ν ∷ []) q₁ γ b o 𝓤 H A W (named 0) (named 0) ys v₁ refl fit₁) $ await ! tt $ split ! $
         -- [the list; κ₁; true; nothing said; true; nothing said; κ₃; true; κ₂; κ₀; the output; true; the table; the text; _21; …; _0; …]
@@ -247,20 +247,20 @@ module _ {M : Type 1} (𝓤 : URA M) (H : Heap 𝓤) (A : Atoms 𝓤) (W : Given
         assigns ! (addr ! (from ! (fld ! refl (hop ! (look-in ! 44 (sub ! 0 refl (whole !))) (stop !))))) (from ! (stop !)) (init ! 24 refl (tt, tt)) $
         assigns ! (agg ! (and-then ! (reads ! (from ! (stop !)) (look ! 24 refl)) (and-then ! (reads ! (from ! (fld ! refl (stop !))) (look-in ! 44 (sub ! 1 refl (whole !)))) (no-more !)))) (from ! (stop !)) (init ! 22 refl (tt, (tt, (record { fits = fit₃ .0 }, tt)))) $
         -- `text_counted`
-        move ! (9 ∷ 8 ∷ 6 ∷ 13 ∷ 12 ∷ 10 ∷ []) $ join ! $ join ! $ join ! $ join ! $ join ! $ use1 W (raw (TextCounted 𝓤 H A mem run .pre (to-text bank))) (goes-text bank (fit₁ .0) is-bank) $
+        move ! (9 ∷ 8 ∷ 6 ∷ 13 ∷ 12 ∷ 10 ∷ []) $ join ! $ join ! $ join ! $ join ! $ join ! $ use1 W (raw (TextCounted 𝓤 H A mem run .pre (to-text copied))) (goes-text copied (fit₁ .0) is-copied) $
         -- [what it asks; the list; κ₁; true; nothing said; true; nothing said; true; true; _21; …; _0; …]
-        asks ! fm text-counted.ended (text-counted.clauses 𝓤 H A mem run) known-text (to-text bank) (‵ (flft κ₀ q₀) ⊛ (‵ (flft κ₂ q₂) ⊛ (‵ (flft κ₃ q₃) ⊛ ‵ ftrue))) refl
-        (λ r ws. TextListed (length ys) (y .now) h bank t c out (ws .1 .1 .1 .1 .0) (ws .1 .1 .1 .1 .1 .1 .0) r) (λ r ws. refl) Tr′.lowered (Tr′.lowers .val-is)
+        asks ! fm text-counted.ended (text-counted.clauses 𝓤 H A mem run) known-text (to-text copied) (‵ (flft κ₀ q₀) ⊛ (‵ (flft κ₂ q₂) ⊛ (‵ (flft κ₃ q₃) ⊛ ‵ ftrue))) refl
+        (λ r ws. TextOnSlice (length ys) (y .now) h copied t c out (ws .1 .1 .1 .1 .0) (ws .1 .1 .1 .1 .1 .1 .0) r) (λ r ws. refl) Tr′.lowered (Tr′.lowers .val-is)
         (and-then ! (reads ! (from ! (stop !)) (look ! 37 refl)) (and-then ! (reads ! (from ! (stop !)) (look ! 49 refl)) (and-then ! (reads ! (from ! (stop !)) (look ! 47 refl)) (and-then ! (reads ! (from ! (stop !)) (look ! 35 refl))
         (and-then ! (reads ! (from ! (stop !)) (look ! 21 refl)) (and-then ! (reads ! (from ! (stop !)) (look ! 41 refl)) (and-then ! (reads ! (from ! (stop !)) (look ! 17 refl)) (no-more !)))))))) (λ r ws is-r d.
         land ! (from ! (stop !)) (init ! 34 refl (SL.lawful Tr.the-type Tr′.the-laws 𝓤 H A W .typed r _ is-r .0)) $
         -- [κ₀, κ₂ and κ₃; the last table and output; the list; κ₁; true; nothing said; true; nothing said; true; true; _21; …; _0; …]
         assigns ! (addr ! (from ! (fld ! refl (hop ! (look-in ! 46 (sub ! 0 refl (whole !))) (stop !))))) (from ! (stop !)) (init ! 14 refl (tt, tt)) $
         assigns ! (agg ! (and-then ! (reads ! (from ! (stop !)) (look ! 14 refl)) (and-then ! (reads ! (from ! (fld ! refl (stop !))) (look-in ! 46 (sub ! 1 refl (whole !)))) (no-more !)))) (from ! (stop !)) (init ! 12 refl (tt, (tt, (record { fits = fit₁ .0 }, tt)))) $
-        -- `bank_of`
-        use0 W (raw (BankOf 𝓤 H A mem run .pre (to-bank r))) (hands 𝓤 H A bank-of.ended (bank-of.clauses 𝓤 H A mem run) (to-bank r) refl (SL.makes Tr.the-type Tr′.the-plain 𝓤 H A, tt) (is-r, tt)) $
-        asks ! fm bank-of.ended (bank-of.clauses 𝓤 H A mem run) known-bank (to-bank r) (‵ ftrue) refl (λ k _. k ≡ r .presets) (λ k _. refl) bank-val bank-tells
-        (and-then ! (reads ! (from ! (stop !)) (look ! 35 refl)) (no-more !)) (λ k _ is-k e-k. land ! (from ! (stop !)) (init ! 12 refl (bank-typed 𝓤 H A W k is-k)) $
+        -- `presets_of`
+        use0 W (raw (BankOf 𝓤 H A mem run .pre (to-copied r))) (hands 𝓤 H A presets-of.ended (presets-of.clauses 𝓤 H A mem run) (to-copied r) refl (SL.makes Tr.the-type Tr′.the-plain 𝓤 H A, tt) (is-r, tt)) $
+        asks ! fm presets-of.ended (presets-of.clauses 𝓤 H A mem run) known-copied (to-copied r) (‵ ftrue) refl (λ k _. k ≡ r .presets) (λ k _. refl) copied-val copied-tells
+        (and-then ! (reads ! (from ! (stop !)) (look ! 35 refl)) (no-more !)) (λ k _ is-k e-k. land ! (from ! (stop !)) (init ! 12 refl (copied-typed 𝓤 H A W k is-k)) $
         -- `save`
         move ! (5 ∷ 4 ∷ []) $ use2 W (raw (Save 𝓤 H A mem run .pre (to-save k))) (goes-save k is-k) $
         -- [what it asks; true; nothing said; κ₀, κ₂ and κ₃; the last table and output; true; nothing said; true; nothing said; true; true; _21; …; _0; …]
@@ -279,13 +279,13 @@ module _ {M : Type 1} (𝓤 : URA M) (H : Heap 𝓤) (A : Atoms 𝓤) (W : Given
         -- [the last output; true; the last table; the last list; …; true; nothing said; κ₁; true; nothing said; κ₀, κ₂ and κ₃; …]
         move ! (10 ∷ []) $ split ! $ move ! (1 ∷ []) $ split ! $ move ! (1 ∷ []) $ split ! $ move ! (11 ∷ []) $ split ! $ keep ! (5 ∷ 0 ∷ 4 ∷ 2 ∷ 9 ∷ 8 ∷ 6 ∷ []) $
         by ! (exits p (zs .0) (ws .1 .1 .1 .1 .0) (ws .1 .1 .1 .1 .1 .1 .0) is-p
-        (text-entry ys (y .now) t out h c (subst (λ (ps : List Preset). TextListed (length ys) (y .now) h ps t c out (ws .1 .1 .1 .1 .0) (ws .1 .1 .1 .1 .1 .1 .0) r) e-bank d) (e-zs ∙ ap (λ (ps : List Preset). saved ys ps 32) e-k) e-p) f₁ f₂ f₃))))))))))))))))))))))))))))))))))
+        (text-entry ys (y .now) t out h c (subst (λ (ps : List Preset). TextOnSlice (length ys) (y .now) h ps t c out (ws .1 .1 .1 .1 .0) (ws .1 .1 .1 .1 .1 .1 .0) r) e-copied d) (e-zs ∙ ap (λ (ps : List Preset). saved ys ps 32) e-k) e-p) f₁ f₂ f₃))))))))))))))))))))))))))))))))))
 
 meets : {M : Type 1} (𝓤 : URA M) (H : Heap 𝓤) (A : Atoms 𝓤) → Given 𝓤 H A → (mem : Memory → SProp 𝓤) (run : Routine → Fun 𝓤) (𝓣 : Tables 𝓤 H)
     → Triple 𝓤 (𝓣 .C #record-count) (Counts 𝓤 H A mem run) → Triple 𝓤 (𝓣 .C #load) (Loads 𝓤 H A mem run) → Triple 𝓤 (𝓣 .C #text-counted) (TextCounted 𝓤 H A mem run)
-    → Triple 𝓤 (𝓣 .C #bank-of) (BankOf 𝓤 H A mem run) → Triple 𝓤 (𝓣 .C #save) (Save 𝓤 H A mem run) → Triple 𝓤 (𝓣 .C #answer-of) (AnswerOf 𝓤 H A mem run)
+    → Triple 𝓤 (𝓣 .C #presets-of) (BankOf 𝓤 H A mem run) → Triple 𝓤 (𝓣 .C #save) (Save 𝓤 H A mem run) → Triple 𝓤 (𝓣 .C #answer-of) (AnswerOf 𝓤 H A mem run)
     → Meets 𝓤 H A run-text.signature (WpFn 𝓤 H (𝓣 .C) (𝓣 .Λ) code.function) (run-text.spec 𝓤 H A mem run)
-meets 𝓤 H A W mem run 𝓣 known-count known-load known-text known-bank known-save known-answer =
+meets 𝓤 H A W mem run 𝓣 known-count known-load known-text known-copied known-save known-answer =
     meets-by 𝓤 H A W run-text.ended stayed (
       goes-dropped 𝓤 H A W 4 (shrSliceOf (0 ∷ []) tt (plain (λ _. u8))) yes (λ κs x f. refl),
       (
@@ -302,7 +302,7 @@ meets 𝓤 H A W mem run 𝓣 known-count known-load known-text known-bank known
     (λ κs qs bounds a g are. walk 𝓤 H A W mem run (κs .0) (κs .1 .0) (κs .1 .1 .0) (κs .1 .1 .1 .0) (qs .0) (qs .1 .0) (qs .1 .1 .0) (qs .1 .1 .1 .0) (a .0) (a .1 .0)
     (a .1 .1 .0 .ptr .0) (a .1 .1 .0 .ptr .1) (a .1 .1 .0 .name) (a .1 .1 .0 .now) (a .1 .1 .1 .0 .ptr .0) (a .1 .1 .1 .0 .ptr .1) (a .1 .1 .1 .0 .name) (a .1 .1 .1 .0 .now) (a .1 .1 .1 .1 .0)
     (a .1 .1 .1 .1 .1 .0 .ptr .0) (a .1 .1 .1 .1 .1 .0 .ptr .1) (a .1 .1 .1 .1 .1 .0 .name) (a .1 .1 .1 .1 .1 .0 .now) (are .1 .0) (are .1 .1 .1 .1 .0 .1)
-    𝓣 known-count known-load known-text known-bank known-save known-answer (are .0 .0 .1 .0) (are .1 .1 .0 .0 .1) (are .1 .1 .1 .0 .0 .1) (are .1 .1 .1 .1 .1 .0 .0 .1))
+    𝓣 known-count known-load known-text known-copied known-save known-answer (are .0 .0 .1 .0) (are .1 .1 .0 .0 .1) (are .1 .1 .1 .0 .0 .1) (are .1 .1 .1 .1 .1 .0 .0 .1))
 
 pub run-text-spec : {M : Type 1} → stated.statement M
 unfolding code.routine tablesOf
@@ -313,6 +313,6 @@ run-text-spec 𝓤 H 𝓜 𝓖 𝓡 =
     (cited 𝓤 H (Counts 𝓤 H (𝓖 .A) (𝓜 .mem) (𝓡 .run)) 𝓜 𝓡 code.env #record-count record-count-def.routine code.calls-station·records·record-count (record-count-thm.met 𝓤 H 𝓜 𝓖 𝓡))
     (cited 𝓤 H (Loads 𝓤 H (𝓖 .A) (𝓜 .mem) (𝓡 .run)) 𝓜 𝓡 code.env #load load-def.routine code.calls-station·records·load (load-thm.met 𝓤 H 𝓜 𝓖 𝓡))
     (cited 𝓤 H (TextCounted 𝓤 H (𝓖 .A) (𝓜 .mem) (𝓡 .run)) 𝓜 𝓡 code.env #text-counted text-counted-def.routine code.calls-frame·text·counted·text-counted (text-counted-thm.met 𝓤 H 𝓜 𝓖 𝓡))
-    (cited 𝓤 H (BankOf 𝓤 H (𝓖 .A) (𝓜 .mem) (𝓡 .run)) 𝓜 𝓡 code.env #bank-of bank-of-def.routine code.calls-frame·text·counted·bank-of (bank-of-thm.met 𝓤 H 𝓜 𝓖 𝓡))
+    (cited 𝓤 H (BankOf 𝓤 H (𝓖 .A) (𝓜 .mem) (𝓡 .run)) 𝓜 𝓡 code.env #presets-of presets-of-def.routine code.calls-frame·text·counted·presets-of (presets-of-thm.met 𝓤 H 𝓜 𝓖 𝓡))
     (cited 𝓤 H (Save 𝓤 H (𝓖 .A) (𝓜 .mem) (𝓡 .run)) 𝓜 𝓡 code.env #save save-def.routine code.calls-station·records·save (save-thm.met 𝓤 H 𝓜 𝓖 𝓡))
     (cited 𝓤 H (AnswerOf 𝓤 H (𝓖 .A) (𝓜 .mem) (𝓡 .run)) 𝓜 𝓡 code.env #answer-of answer-of-def.routine code.calls-frame·text·counted·answer-of (answer-of-thm.met 𝓤 H 𝓜 𝓖 𝓡)))

@@ -44,7 +44,7 @@ use Rattle.station.proofs.types.Head as Hd
 use Rattle.frame.specs.declared.types.Outcome.{Outcome}
 use Rattle.frame.proofs.types.Outcome as Rs
 use Rattle.frame.proofs.types.Outcome.Laws as Rs′
-use Rattle.station.proofs.Walks.{Bank, bank-val, bank-tells, bank-typed, head-val, head-tells, head-makes, head-typed}
+use Rattle.station.proofs.Walks.{Bank, copied-val, copied-tells, copied-typed, head-val, head-tells, head-makes, head-typed}
 use Rattle.station.proofs.Walks.{hands-three, full, _&_, none, leaves-fn, meets-by}
 use Rattle.frame.proofs.event.event as callee
 use Rattle.frame.proofs.event.event.Symbol as callee-def
@@ -64,7 +64,7 @@ abbrev Callee : {M : Type 1} (𝓤 : URA M) (H : Heap 𝓤) (A : Atoms 𝓤) (me
 Callee 𝓤 H A mem run = tripleOf 𝓤 H A callee.signature (callee.spec 𝓤 H A mem run)
 
 module _ {M : Type 1} (𝓤 : URA M) (H : Heap 𝓤) (A : Atoms 𝓤) (W : Given 𝓤 H A) (mem : Memory → SProp 𝓤) (run : Routine → Fun 𝓤) (κ₀ κ₁ : Lft) (q₀ q₁ : Share) (h : Head) (ps : List Preset) (bx ox : ℕ) (γx : GName) (lx : List ℕ) (c : ℕ) (t : RefT (List ℕ))
-    (is-h : Is Hd.the-row h (head-val h ∷ [])) (is-ps : Is Bank ps (bank-val ps ∷ [])) (is-c : Is usize c (vint w64 c ∷ [])) where
+    (is-h : Is Hd.the-row h (head-val h ∷ [])) (is-ps : Is Bank ps (copied-val ps ∷ [])) (is-c : Is usize c (vint w64 c ∷ [])) where
   -- the machine values of the slices
   abbrev x : RefT (List ℕ)
   x = record { ptr = (bx, ox); name = γx; now = lx }
@@ -79,7 +79,7 @@ module _ {M : Type 1} (𝓤 : URA M) (H : Heap 𝓤) (A : Atoms 𝓤) (W : Given
   a = (h, (ps, (x, (c, (t, tt)))))
 
   abbrev at : Vals own.signature (κ₀, (κ₁, tt))
-  at = (head-val h ∷ [], (bank-val ps ∷ [], (vx ∷ [], (vint w64 c ∷ [], (vt ∷ [], tt)))))
+  at = (head-val h ∷ [], (copied-val ps ∷ [], (vx ∷ [], (vint w64 c ∷ [], (vt ∷ [], tt)))))
 
   -- what the triple binds outside
   abbrev bound : walkOf 𝓤 H A own.ended stayed (own.clauses 𝓤 H A mem run) .Ghost
@@ -112,15 +112,15 @@ module _ {M : Type 1} (𝓤 : URA M) (H : Heap 𝓤) (A : Atoms 𝓤) (W : Given
     fm : FmC 𝓤 H (W .laws) (𝓣 .C)
     fm = fmOf 𝓤 H (W .laws) 𝓣
 
-    walk : Room u16 (length lx) → length (t .now) < 2 ^ 64 → ent 𝓤 (onEntry 𝓤 H A own.signature (κ₀, (κ₁, tt)) (q₀, (q₁, tt)) a at) (WpFn 𝓤 H (𝓣 .C) (𝓣 .Λ) code.function (head-val h ∷ bank-val ps ∷ vx ∷ vint w64 c ∷ vt ∷ []) After)
+    walk : Room u16 (length lx) → length (t .now) < 2 ^ 64 → ent 𝓤 (onEntry 𝓤 H A own.signature (κ₀, (κ₁, tt)) (q₀, (q₁, tt)) a at) (WpFn 𝓤 H (𝓣 .C) (𝓣 .Λ) code.function (head-val h ∷ copied-val ps ∷ vx ∷ vint w64 c ∷ vt ∷ []) After)
     walk g-x g-t =
-        qed W ((‵ (flft κ₀ q₀) ⊛ (‵ (flft κ₁ q₁) ⊛ ‵ ftrue)) ∷ ‵ (owns (Hd.the-row ∷ Bank ∷ MutSlice (named 0) κ₀ u16 ∷ usize ∷ ShrSlice (named 1) κ₁ u8 ∷ []) a at) ∷ []) ∵ enter ! (𝓣 .C) (𝓣 .Λ) code.function (head-val h ∷ bank-val ps ∷ vx ∷ vint w64 c ∷ vt ∷ []) _ $
+        qed W ((‵ (flft κ₀ q₀) ⊛ (‵ (flft κ₁ q₁) ⊛ ‵ ftrue)) ∷ ‵ (owns (Hd.the-row ∷ Bank ∷ MutSlice (named 0) κ₀ u16 ∷ usize ∷ ShrSlice (named 1) κ₁ u8 ∷ []) a at) ∷ []) ∵ enter ! (𝓣 .C) (𝓣 .Λ) code.function (head-val h ∷ copied-val ps ∷ vx ∷ vint w64 c ∷ vt ∷ []) _ $
         alloc1 ! (λ l₀. alloc1 ! (λ l₁. alloc1 ! (λ l₂. alloc1 ! (λ l₃. alloc1 ! (λ l₄. alloc1 ! (λ l₅. alloc1 ! (λ l₆. alloc1 ! (λ l₇. alloc1 ! (λ l₈. alloc1 ! (λ l₉. alloc1 ! (λ l₁₀. alloc0 ! $ params1 ! $
-        pass1 ! (init ! 18 refl (head-typed 𝓤 H A W h is-h)) $ pass1 ! (init ! 16 refl (bank-typed 𝓤 H A W ps is-ps)) $ pass1 ! (init ! 14 refl (tt, (tt, (record { fits = g-x .0 }, tt)))) $ pass1 ! (init ! 12 refl (tt, record { fits = is-c .1 })) $ pass1 ! (init ! 10 refl (tt, (tt, (record { fits = g-t }, tt)))) $ pass0 ! $
+        pass1 ! (init ! 18 refl (head-typed 𝓤 H A W h is-h)) $ pass1 ! (init ! 16 refl (copied-typed 𝓤 H A W ps is-ps)) $ pass1 ! (init ! 14 refl (tt, (tt, (record { fits = g-x .0 }, tt)))) $ pass1 ! (init ! 12 refl (tt, record { fits = is-c .1 })) $ pass1 ! (init ! 10 refl (tt, (tt, (record { fits = g-t }, tt)))) $ pass0 ! $
         -- [the locals, the last one first; the tokens; what the parameters own]
         move ! (23 ∷ []) $ fsplit ! $ drop ! $ fsplit ! $ drop ! $ fsplit ! $ move ! (1 ∷ []) $ fsplit ! $ drop ! $ fsplit ! $ move ! (1 ∷ []) $ drop ! $ move ! (24 ∷ []) $ split ! $ move ! (1 ∷ []) $ split ! $ move ! (1 ∷ []) $ drop ! $
         -- [the tokens and what the slices own, the last first; the locals]
-        assigns ! (of-opd ! (reads ! (from ! (stop !)) (look ! 20 refl))) (from ! (stop !)) (init ! 12 refl (bank-typed 𝓤 H A W ps is-ps)) $
+        assigns ! (of-opd ! (reads ! (from ! (stop !)) (look ! 20 refl))) (from ! (stop !)) (init ! 12 refl (copied-typed 𝓤 H A W ps is-ps)) $
         assigns ! (addr ! (from ! (stop !))) (from ! (stop !)) (init ! 10 refl (tt, tt)) $
         assigns ! (agg ! (and-then ! (reads ! (from ! (stop !)) (look ! 10 refl)) (and-then ! (lit ! tt) (no-more !)))) (from ! (stop !)) (init ! 8 refl (tt, (tt, (record { fits = lit< tt }, tt)))) $
         assigns ! (addr ! (from ! (fld ! refl (hop ! (look-in ! 18 (sub ! 0 refl (whole !))) (stop !))))) (from ! (stop !)) (init ! 6 refl (tt, tt)) $
@@ -143,7 +143,7 @@ meets : {M : Type 1} (𝓤 : URA M) (H : Heap 𝓤) (A : Atoms 𝓤) → Given �
 meets 𝓤 H A W mem run 𝓣 known =
     meets-by 𝓤 H A W own.ended stayed (goes-dropped 𝓤 H A W 2 (plain (λ _. Hd.the-row)) yes (λ κs x f. refl), (goes-dropped 𝓤 H A W 2 (plain (λ _. Bank)) yes (λ κs x f. refl), (goes-gave-slice 𝓤 H A W 2 0 tt (plain (λ _. u16)), (goes-dropped 𝓤 H A W 2 (plain (λ _. usize)) yes (λ κs x f. refl), (goes-dropped 𝓤 H A W 2 (shrSliceOf (1 ∷ []) tt (plain (λ _. u8))) yes (λ κs x f. refl), tt)))))
     (own.clauses 𝓤 H A mem run) code.function 𝓣
-    (λ κs. ((λ h. head-val h ∷ []), ((λ ps. bank-val ps ∷ []), (slice-vals, (uint-vals w64, (slice-vals, tt)))))) (λ κs. (head-tells, (bank-tells, (mut-slice-tells (named 0) (κs .0) u16, (uint-tells w64, (shr-slice-tells (named 1) (κs .1 .0) u8, tt))))))
+    (λ κs. ((λ h. head-val h ∷ []), ((λ ps. copied-val ps ∷ []), (slice-vals, (uint-vals w64, (slice-vals, tt)))))) (λ κs. (head-tells, (copied-tells, (mut-slice-tells (named 0) (κs .0) u16, (uint-tells w64, (shr-slice-tells (named 1) (κs .1 .0) u8, tt))))))
     (λ κs qs bounds a g are. walk 𝓤 H A W mem run (κs .0) (κs .1 .0) (qs .0) (qs .1 .0) (a .0) (a .1 .0) (a .1 .1 .0 .ptr .0) (a .1 .1 .0 .ptr .1) (a .1 .1 .0 .name) (a .1 .1 .0 .now) (a .1 .1 .1 .0) (a .1 .1 .1 .1 .0) (are .0) (are .1 .0) (are .1 .1 .1 .0) 𝓣 known (are .1 .1 .0 .0 .1) (are .1 .1 .1 .1 .0 .0 .1 .0))
 
 pub lent-event-spec : {M : Type 1} → stated.statement M

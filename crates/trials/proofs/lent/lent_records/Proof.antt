@@ -42,7 +42,7 @@ use Rattle.station.specs.declared.types.Preset.{Preset}
 use Rattle.station.proofs.types.Head as Hd
 use Rattle.station.proofs.entries.HeadAnswer as Rs
 use Rattle.station.proofs.entries.HeadAnswer.Laws as Rs′
-use Rattle.station.proofs.Walks.{Bank, bank-val, bank-tells, bank-makes, bank-typed, head-val, head-tells, head-makes, head-typed}
+use Rattle.station.proofs.Walks.{Bank, copied-val, copied-tells, copied-makes, copied-typed, head-val, head-tells, head-makes, head-typed}
 use Rattle.station.proofs.Walks.{hands-two, full, _&_, none, leaves-fn, meets-by}
 use Rattle.station.proofs.entries.read_head as callee
 use Rattle.station.proofs.entries.read_head.Symbol as callee-def
@@ -62,7 +62,7 @@ abbrev Callee : {M : Type 1} (𝓤 : URA M) (H : Heap 𝓤) (A : Atoms 𝓤) (me
 Callee 𝓤 H A mem run = tripleOf 𝓤 H A callee.signature (callee.spec 𝓤 H A mem run)
 
 module _ {M : Type 1} (𝓤 : URA M) (H : Heap 𝓤) (A : Atoms 𝓤) (W : Given 𝓤 H A) (mem : Memory → SProp 𝓤) (run : Routine → Fun 𝓤) (κ₀ : Lft) (q₀ : Share) (t : RefT (List ℕ)) (h : Head) (ps : List Preset)
-    (is-h : Is Hd.the-row h (head-val h ∷ [])) (is-ps : Is Bank ps (bank-val ps ∷ [])) where
+    (is-h : Is Hd.the-row h (head-val h ∷ [])) (is-ps : Is Bank ps (copied-val ps ∷ [])) where
   -- the machine values of the slices
   abbrev vt : Val
   vt = sliceVal (t .ptr) (length (t .now))
@@ -71,7 +71,7 @@ module _ {M : Type 1} (𝓤 : URA M) (H : Heap 𝓤) (A : Atoms 𝓤) (W : Given
   a = (t, (h, (ps, tt)))
 
   abbrev at : Vals own.signature (κ₀, tt)
-  at = (vt ∷ [], (head-val h ∷ [], (bank-val ps ∷ [], tt)))
+  at = (vt ∷ [], (head-val h ∷ [], (copied-val ps ∷ [], tt)))
 
   -- what the triple binds outside
   abbrev bound : walkOf 𝓤 H A own.ended stayed (own.clauses 𝓤 H A mem run) .Ghost
@@ -84,10 +84,10 @@ module _ {M : Type 1} (𝓤 : URA M) (H : Heap 𝓤) (A : Atoms 𝓤) (W : Given
   abbrev Own-t : Fml
   Own-t = ShrSlice (named 0) κ₀ u8 .own t (vt ∷ [])
 
-  exits : (r : List Preset) → Is Bank r (bank-val r ∷ []) → ent 𝓤 (A .lft κ₀ q₀) (After (bank-val r))
+  exits : (r : List Preset) → Is Bank r (copied-val r ∷ []) → ent 𝓤 (A .lft κ₀ q₀) (After (copied-val r))
   exits r is =
-      qed W (‵ (flft κ₀ q₀) ∷ []) ∵ suffices ! _ (ends-at 𝓤 H A own.ended stayed (own.clauses 𝓤 H A mem run) W bound (bank-val r) r (tt, (tt, (tt, tt))) (tt, (tt, (tt, tt)))) $ suffices ! _ (∗emp 𝓤 _) $
-      nothing ! $ move ! (1 ∷ 0 ∷ []) $ join ! $ frame ! $ nothing ! $ nothing ! $ fjoin ! $ nothing ! $ fjoin ! $ nothing ! $ fjoin ! $ frame ! $ owned ! Bank (Is Bank) (bank-makes 𝓤 H A W) r _ is $ done !
+      qed W (‵ (flft κ₀ q₀) ∷ []) ∵ suffices ! _ (ends-at 𝓤 H A own.ended stayed (own.clauses 𝓤 H A mem run) W bound (copied-val r) r (tt, (tt, (tt, tt))) (tt, (tt, (tt, tt)))) $ suffices ! _ (∗emp 𝓤 _) $
+      nothing ! $ move ! (1 ∷ 0 ∷ []) $ join ! $ frame ! $ nothing ! $ nothing ! $ fjoin ! $ nothing ! $ fjoin ! $ nothing ! $ fjoin ! $ frame ! $ owned ! Bank (Is Bank) (copied-makes 𝓤 H A W) r _ is $ done !
 
   -- what the callee's triple binds outside, and that the caller has what it asks, the records lying in the local b and lent for ν under the name δ
   abbrev to-callee : ℕ → ℕ → GName → Callee 𝓤 H A mem run .Ghost
@@ -101,15 +101,15 @@ module _ {M : Type 1} (𝓤 : URA M) (H : Heap 𝓤) (A : Atoms 𝓤) (W : Given
     fm : FmC 𝓤 H (W .laws) (𝓣 .C)
     fm = fmOf 𝓤 H (W .laws) 𝓣
 
-    walk : length (t .now) < 2 ^ 64 → ent 𝓤 (onEntry 𝓤 H A own.signature (κ₀, tt) (q₀, tt) a at) (WpFn 𝓤 H (𝓣 .C) (𝓣 .Λ) code.function (vt ∷ head-val h ∷ bank-val ps ∷ []) After)
+    walk : length (t .now) < 2 ^ 64 → ent 𝓤 (onEntry 𝓤 H A own.signature (κ₀, tt) (q₀, tt) a at) (WpFn 𝓤 H (𝓣 .C) (𝓣 .Λ) code.function (vt ∷ head-val h ∷ copied-val ps ∷ []) After)
     walk g-t =
-        qed W ((‵ (flft κ₀ q₀) ⊛ ‵ ftrue) ∷ ‵ (owns (ShrSlice (named 0) κ₀ u8 ∷ Hd.the-row ∷ Bank ∷ []) a at) ∷ []) ∵ enter ! (𝓣 .C) (𝓣 .Λ) code.function (vt ∷ head-val h ∷ bank-val ps ∷ []) _ $
+        qed W ((‵ (flft κ₀ q₀) ⊛ ‵ ftrue) ∷ ‵ (owns (ShrSlice (named 0) κ₀ u8 ∷ Hd.the-row ∷ Bank ∷ []) a at) ∷ []) ∵ enter ! (𝓣 .C) (𝓣 .Λ) code.function (vt ∷ head-val h ∷ copied-val ps ∷ []) _ $
         alloc1 ! (λ l₀. alloc1 ! (λ l₁. alloc1 ! (λ l₂. alloc1 ! (λ l₃. alloc1 ! (λ l₄. alloc1 ! (λ l₅. alloc1 ! (λ l₆. alloc1 ! (λ l₇. alloc0 ! $ params1 ! $
-        pass1 ! (init ! 12 refl (tt, (tt, (record { fits = g-t }, tt)))) $ pass1 ! (init ! 10 refl (head-typed 𝓤 H A W h is-h)) $ pass1 ! (init ! 8 refl (bank-typed 𝓤 H A W ps is-ps)) $ pass0 ! $
+        pass1 ! (init ! 12 refl (tt, (tt, (record { fits = g-t }, tt)))) $ pass1 ! (init ! 10 refl (head-typed 𝓤 H A W h is-h)) $ pass1 ! (init ! 8 refl (copied-typed 𝓤 H A W ps is-ps)) $ pass0 ! $
         -- [the locals, the last one first; the tokens; what the parameters own]
         move ! (17 ∷ []) $ fsplit ! $ move ! (1 ∷ []) $ fsplit ! $ drop ! $ fsplit ! $ drop ! $ drop ! $ move ! (17 ∷ []) $ split ! $ move ! (1 ∷ []) $ drop ! $
         -- [the tokens and what the slices own, the last first; the locals]
-        assigns ! (of-opd ! (reads ! (from ! (stop !)) (look ! 10 refl))) (from ! (stop !)) (init ! 8 refl (bank-typed 𝓤 H A W ps is-ps)) $
+        assigns ! (of-opd ! (reads ! (from ! (stop !)) (look ! 10 refl))) (from ! (stop !)) (init ! 8 refl (copied-typed 𝓤 H A W ps is-ps)) $
         assigns ! (addr ! (from ! (stop !))) (from ! (stop !)) (init ! 4 refl (tt, tt)) $
         assigns ! (agg ! (and-then ! (reads ! (from ! (stop !)) (look ! 4 refl)) (and-then ! (lit ! tt) (no-more !)))) (from ! (stop !)) (init ! 2 refl (tt, (tt, (record { fits = lit< tt }, tt)))) $
         -- the records are lent for a lifetime ν
@@ -121,8 +121,8 @@ module _ {M : Type 1} (𝓤 : URA M) (H : Heap 𝓤) (A : Atoms 𝓤) (W : Given
         (λ r ws is. land ! (from ! (stop !)) (init ! 7 refl (LL.lawful Rs.the-type Rs′.the-laws 𝓤 H A W .typed r _ is .0)) $
         move ! (1 ∷ []) $ fsplit ! $ drop ! $ fsplit ! $ drop ! $ fsplit ! $ fsplit ! $ move ! (1 ∷ []) $ feqL ! (λ eps. move ! (1 ∷ []) $ drop ! $ move ! (1 ∷ []) $ split ! $ move ! (1 ∷ []) $ split ! $ move ! (1 ∷ []) $ drop ! $
         -- ν is ended, and the records lie in the local again
-        move ! (0 ∷ []) $ lft-end ! tt $ move ! (0 ∷ 3 ∷ 2 ∷ []) $ use3 W (later (given (Is Bank (ws .1 .1 .0) (bank-val (ws .1 .1 .0) ∷ [])) (‵ (Local 𝓤 H A W l₄ (ws .1 .1 .0))))) (mut-back 𝓤 H A W l₄ (ws .1 .1 .0) (ν ∷ []) (length ps) δ (is-ps .1 .0 .1)) $ await ! tt $ learn ! (λ is-z.
-        assigns ! (of-opd ! (reads ! (from ! (stop !)) (look ! 0 refl))) (from ! (stop !)) (init ! 15 refl (bank-typed 𝓤 H A W (ws .1 .1 .0) is-z)) $
+        move ! (0 ∷ []) $ lft-end ! tt $ move ! (0 ∷ 3 ∷ 2 ∷ []) $ use3 W (later (given (Is Bank (ws .1 .1 .0) (copied-val (ws .1 .1 .0) ∷ [])) (‵ (Local 𝓤 H A W l₄ (ws .1 .1 .0))))) (mut-back 𝓤 H A W l₄ (ws .1 .1 .0) (ν ∷ []) (length ps) δ (is-ps .1 .0 .1)) $ await ! tt $ learn ! (λ is-z.
+        assigns ! (of-opd ! (reads ! (from ! (stop !)) (look ! 0 refl))) (from ! (stop !)) (init ! 15 refl (copied-typed 𝓤 H A W (ws .1 .1 .0) is-z)) $
         returns ! (look ! 15 refl) $ move ! (1 ∷ 2 ∷ 3 ∷ 4 ∷ 5 ∷ 6 ∷ 7 ∷ 0 ∷ []) $ leaves-fn ! 1 (full refl refl & full refl refl & full refl refl & full refl refl & full refl refl & full refl refl & full refl refl & full refl refl & none) $
         keep ! (0 ∷ []) $ by ! (exits (ws .1 .1 .0) is-z))))))))))))))
 
@@ -131,7 +131,7 @@ meets : {M : Type 1} (𝓤 : URA M) (H : Heap 𝓤) (A : Atoms 𝓤) → Given �
 meets 𝓤 H A W mem run 𝓣 known =
     meets-by 𝓤 H A W own.ended stayed (goes-dropped 𝓤 H A W 1 (shrSliceOf (0 ∷ []) tt (plain (λ _. u8))) yes (λ κs x f. refl), (goes-dropped 𝓤 H A W 1 (plain (λ _. Hd.the-row)) yes (λ κs x f. refl), (goes-dropped 𝓤 H A W 1 (plain (λ _. Bank)) yes (λ κs x f. refl), tt)))
     (own.clauses 𝓤 H A mem run) code.function 𝓣
-    (λ κs. (slice-vals, ((λ h. head-val h ∷ []), ((λ ps. bank-val ps ∷ []), tt)))) (λ κs. (shr-slice-tells (named 0) (κs .0) u8, (head-tells, (bank-tells, tt))))
+    (λ κs. (slice-vals, ((λ h. head-val h ∷ []), ((λ ps. copied-val ps ∷ []), tt)))) (λ κs. (shr-slice-tells (named 0) (κs .0) u8, (head-tells, (copied-tells, tt))))
     (λ κs qs bounds a g are. walk 𝓤 H A W mem run (κs .0) (qs .0) (a .0) (a .1 .0) (a .1 .1 .0) (are .1 .0) (are .1 .1 .0) 𝓣 known (are .0 .0 .1 .0))
 
 pub lent-records-spec : {M : Type 1} → stated.statement M

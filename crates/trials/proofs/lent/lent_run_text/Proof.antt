@@ -44,7 +44,7 @@ use Rattle.station.proofs.types.Head as Hd
 use Rattle.frame.specs.declared.text.TextAnswer.{TextAnswer}
 use Rattle.frame.proofs.text.TextAnswer as Rs
 use Rattle.frame.proofs.text.TextAnswer.Laws as Rs′
-use Rattle.station.proofs.Walks.{Bank, bank-val, bank-tells, bank-typed, head-val, head-tells, head-makes, head-typed}
+use Rattle.station.proofs.Walks.{Bank, copied-val, copied-tells, copied-typed, head-val, head-tells, head-makes, head-typed}
 use Rattle.station.proofs.Walks.{full, _&_, none, leaves-fn, meets-by}
 use Rattle.frame.proofs.text.run_text as callee
 use Rattle.frame.proofs.text.run_text.Symbol as callee-def
@@ -64,7 +64,7 @@ abbrev Callee : {M : Type 1} (𝓤 : URA M) (H : Heap 𝓤) (A : Atoms 𝓤) (me
 Callee 𝓤 H A mem run = tripleOf 𝓤 H A callee.signature (callee.spec 𝓤 H A mem run)
 
 module _ {M : Type 1} (𝓤 : URA M) (H : Heap 𝓤) (A : Atoms 𝓤) (W : Given 𝓤 H A) (mem : Memory → SProp 𝓤) (run : Routine → Fun 𝓤) (κ₀ κ₁ κ₂ : Lft) (q₀ q₁ q₂ : Share) (t : RefT (List ℕ)) (h : Head) (ps : List Preset) (bx ox : ℕ) (γx : GName) (lx : List ℕ) (c : ℕ) (bw ow : ℕ) (γw : GName) (lw : List ℕ)
-    (is-h : Is Hd.the-row h (head-val h ∷ [])) (is-ps : Is Bank ps (bank-val ps ∷ [])) (is-c : Is usize c (vint w64 c ∷ [])) where
+    (is-h : Is Hd.the-row h (head-val h ∷ [])) (is-ps : Is Bank ps (copied-val ps ∷ [])) (is-c : Is usize c (vint w64 c ∷ [])) where
   -- the machine values of the slices
   abbrev vt : Val
   vt = sliceVal (t .ptr) (length (t .now))
@@ -85,7 +85,7 @@ module _ {M : Type 1} (𝓤 : URA M) (H : Heap 𝓤) (A : Atoms 𝓤) (W : Given
   a = (t, (h, (ps, (x, (c, (w, tt))))))
 
   abbrev at : Vals own.signature (κ₀, (κ₁, (κ₂, tt)))
-  at = (vt ∷ [], (head-val h ∷ [], (bank-val ps ∷ [], (vx ∷ [], (vint w64 c ∷ [], (vw ∷ [], tt))))))
+  at = (vt ∷ [], (head-val h ∷ [], (copied-val ps ∷ [], (vx ∷ [], (vint w64 c ∷ [], (vw ∷ [], tt))))))
 
   -- what the triple binds outside
   abbrev bound : walkOf 𝓤 H A own.ended stayed (own.clauses 𝓤 H A mem run) .Ghost
@@ -121,15 +121,15 @@ module _ {M : Type 1} (𝓤 : URA M) (H : Heap 𝓤) (A : Atoms 𝓤) (W : Given
     fm : FmC 𝓤 H (W .laws) (𝓣 .C)
     fm = fmOf 𝓤 H (W .laws) 𝓣
 
-    walk : length (t .now) < 2 ^ 64 → Room u16 (length lx) → Room u8 (length lw) → ent 𝓤 (onEntry 𝓤 H A own.signature (κ₀, (κ₁, (κ₂, tt))) (q₀, (q₁, (q₂, tt))) a at) (WpFn 𝓤 H (𝓣 .C) (𝓣 .Λ) code.function (vt ∷ head-val h ∷ bank-val ps ∷ vx ∷ vint w64 c ∷ vw ∷ []) After)
+    walk : length (t .now) < 2 ^ 64 → Room u16 (length lx) → Room u8 (length lw) → ent 𝓤 (onEntry 𝓤 H A own.signature (κ₀, (κ₁, (κ₂, tt))) (q₀, (q₁, (q₂, tt))) a at) (WpFn 𝓤 H (𝓣 .C) (𝓣 .Λ) code.function (vt ∷ head-val h ∷ copied-val ps ∷ vx ∷ vint w64 c ∷ vw ∷ []) After)
     walk g-t g-x g-w =
-        qed W ((‵ (flft κ₀ q₀) ⊛ (‵ (flft κ₁ q₁) ⊛ (‵ (flft κ₂ q₂) ⊛ ‵ ftrue))) ∷ ‵ (owns (ShrSlice (named 0) κ₀ u8 ∷ Hd.the-row ∷ Bank ∷ MutSlice (named 1) κ₁ u16 ∷ usize ∷ MutSlice (named 2) κ₂ u8 ∷ []) a at) ∷ []) ∵ enter ! (𝓣 .C) (𝓣 .Λ) code.function (vt ∷ head-val h ∷ bank-val ps ∷ vx ∷ vint w64 c ∷ vw ∷ []) _ $
+        qed W ((‵ (flft κ₀ q₀) ⊛ (‵ (flft κ₁ q₁) ⊛ (‵ (flft κ₂ q₂) ⊛ ‵ ftrue))) ∷ ‵ (owns (ShrSlice (named 0) κ₀ u8 ∷ Hd.the-row ∷ Bank ∷ MutSlice (named 1) κ₁ u16 ∷ usize ∷ MutSlice (named 2) κ₂ u8 ∷ []) a at) ∷ []) ∵ enter ! (𝓣 .C) (𝓣 .Λ) code.function (vt ∷ head-val h ∷ copied-val ps ∷ vx ∷ vint w64 c ∷ vw ∷ []) _ $
         alloc1 ! (λ l₀. alloc1 ! (λ l₁. alloc1 ! (λ l₂. alloc1 ! (λ l₃. alloc1 ! (λ l₄. alloc1 ! (λ l₅. alloc1 ! (λ l₆. alloc1 ! (λ l₇. alloc1 ! (λ l₈. alloc1 ! (λ l₉. alloc1 ! (λ l₁₀. alloc1 ! (λ l₁₁. alloc1 ! (λ l₁₂. alloc1 ! (λ l₁₃. alloc0 ! $ params1 ! $
-        pass1 ! (init ! 24 refl (tt, (tt, (record { fits = g-t }, tt)))) $ pass1 ! (init ! 22 refl (head-typed 𝓤 H A W h is-h)) $ pass1 ! (init ! 20 refl (bank-typed 𝓤 H A W ps is-ps)) $ pass1 ! (init ! 18 refl (tt, (tt, (record { fits = g-x .0 }, tt)))) $ pass1 ! (init ! 16 refl (tt, record { fits = is-c .1 })) $ pass1 ! (init ! 14 refl (tt, (tt, (record { fits = g-w .0 }, tt)))) $ pass0 ! $
+        pass1 ! (init ! 24 refl (tt, (tt, (record { fits = g-t }, tt)))) $ pass1 ! (init ! 22 refl (head-typed 𝓤 H A W h is-h)) $ pass1 ! (init ! 20 refl (copied-typed 𝓤 H A W ps is-ps)) $ pass1 ! (init ! 18 refl (tt, (tt, (record { fits = g-x .0 }, tt)))) $ pass1 ! (init ! 16 refl (tt, record { fits = is-c .1 })) $ pass1 ! (init ! 14 refl (tt, (tt, (record { fits = g-w .0 }, tt)))) $ pass0 ! $
         -- [the locals, the last one first; the tokens; what the parameters own]
         move ! (29 ∷ []) $ fsplit ! $ move ! (1 ∷ []) $ fsplit ! $ drop ! $ fsplit ! $ drop ! $ fsplit ! $ move ! (1 ∷ []) $ fsplit ! $ drop ! $ fsplit ! $ move ! (1 ∷ []) $ drop ! $ move ! (31 ∷ []) $ split ! $ move ! (1 ∷ []) $ split ! $ move ! (1 ∷ []) $ split ! $ move ! (1 ∷ []) $ drop ! $
         -- [the tokens and what the slices own, the last first; the locals]
-        assigns ! (of-opd ! (reads ! (from ! (stop !)) (look ! 26 refl))) (from ! (stop !)) (init ! 18 refl (bank-typed 𝓤 H A W ps is-ps)) $
+        assigns ! (of-opd ! (reads ! (from ! (stop !)) (look ! 26 refl))) (from ! (stop !)) (init ! 18 refl (copied-typed 𝓤 H A W ps is-ps)) $
         assigns ! (addr ! (from ! (stop !))) (from ! (stop !)) (init ! 16 refl (tt, tt)) $
         assigns ! (agg ! (and-then ! (reads ! (from ! (stop !)) (look ! 16 refl)) (and-then ! (lit ! tt) (no-more !)))) (from ! (stop !)) (init ! 14 refl (tt, (tt, (record { fits = lit< tt }, tt)))) $
         assigns ! (addr ! (from ! (fld ! refl (hop ! (look-in ! 24 (sub ! 0 refl (whole !))) (stop !))))) (from ! (stop !)) (init ! 12 refl (tt, tt)) $
@@ -145,7 +145,7 @@ module _ {M : Type 1} (𝓤 : URA M) (H : Heap 𝓤) (A : Atoms 𝓤) (W : Given
         (λ r ws is. land ! (from ! (stop !)) (init ! 28 refl (LL.lawful Rs.the-type Rs′.the-laws 𝓤 H A W .typed r _ is .0)) $
         move ! (1 ∷ []) $ fsplit ! $ drop ! $ fsplit ! $ drop ! $ fsplit ! $ fsplit ! $ move ! (1 ∷ []) $ feqL ! (λ eps. move ! (1 ∷ []) $ fsplit ! $ fsplit ! $ move ! (1 ∷ []) $ feqL ! (λ ex. move ! (1 ∷ []) $ fsplit ! $ drop ! $ fsplit ! $ fsplit ! $ move ! (1 ∷ []) $ feqL ! (λ ew. move ! (1 ∷ []) $ drop ! $ move ! (3 ∷ []) $ split ! $ move ! (1 ∷ []) $ split ! $ move ! (1 ∷ []) $ split ! $ move ! (1 ∷ []) $ split ! $ move ! (1 ∷ []) $ drop ! $
         -- ν is ended, and the records lie in the local again
-        move ! (2 ∷ []) $ lft-end ! tt $ move ! (0 ∷ 7 ∷ 6 ∷ []) $ use3 W (later (given (Is Bank (ws .1 .1 .0) (bank-val (ws .1 .1 .0) ∷ [])) (‵ (Local 𝓤 H A W l₇ (ws .1 .1 .0))))) (mut-back 𝓤 H A W l₇ (ws .1 .1 .0) (ν ∷ []) (length ps) δ (is-ps .1 .0 .1)) $ await ! tt $ learn ! (λ is-z.
+        move ! (2 ∷ []) $ lft-end ! tt $ move ! (0 ∷ 7 ∷ 6 ∷ []) $ use3 W (later (given (Is Bank (ws .1 .1 .0) (copied-val (ws .1 .1 .0) ∷ [])) (‵ (Local 𝓤 H A W l₇ (ws .1 .1 .0))))) (mut-back 𝓤 H A W l₇ (ws .1 .1 .0) (ν ∷ []) (length ps) δ (is-ps .1 .0 .1)) $ await ! tt $ learn ! (λ is-z.
         returns ! (look ! 31 refl) $ move ! (1 ∷ 2 ∷ 3 ∷ 4 ∷ 5 ∷ 6 ∷ 7 ∷ 8 ∷ 9 ∷ 10 ∷ 11 ∷ 12 ∷ 13 ∷ 14 ∷ 15 ∷ 16 ∷ 17 ∷ 0 ∷ []) $ leaves-fn ! 5 (full refl refl & full refl refl & full refl refl & full refl refl & full refl refl & full refl refl & full refl refl & full refl refl & full refl refl & full refl refl & full refl refl & full refl refl & full refl refl & full refl refl & none) $
         keep ! (2 ∷ 1 ∷ 0 ∷ 4 ∷ 3 ∷ []) $ by ! (exits r (ws .1 .1 .1 .0) (ws .1 .1 .1 .1 .1 .0) is ex ew))))))))))))))))))))))
 
@@ -154,7 +154,7 @@ meets : {M : Type 1} (𝓤 : URA M) (H : Heap 𝓤) (A : Atoms 𝓤) → Given �
 meets 𝓤 H A W mem run 𝓣 known =
     meets-by 𝓤 H A W own.ended stayed (goes-dropped 𝓤 H A W 3 (shrSliceOf (0 ∷ []) tt (plain (λ _. u8))) yes (λ κs x f. refl), (goes-dropped 𝓤 H A W 3 (plain (λ _. Hd.the-row)) yes (λ κs x f. refl), (goes-dropped 𝓤 H A W 3 (plain (λ _. Bank)) yes (λ κs x f. refl), (goes-gave-slice 𝓤 H A W 3 1 tt (plain (λ _. u16)), (goes-dropped 𝓤 H A W 3 (plain (λ _. usize)) yes (λ κs x f. refl), (goes-gave-slice 𝓤 H A W 3 2 tt (plain (λ _. u8)), tt))))))
     (own.clauses 𝓤 H A mem run) code.function 𝓣
-    (λ κs. (slice-vals, ((λ h. head-val h ∷ []), ((λ ps. bank-val ps ∷ []), (slice-vals, (uint-vals w64, (slice-vals, tt))))))) (λ κs. (shr-slice-tells (named 0) (κs .0) u8, (head-tells, (bank-tells, (mut-slice-tells (named 1) (κs .1 .0) u16, (uint-tells w64, (mut-slice-tells (named 2) (κs .1 .1 .0) u8, tt)))))))
+    (λ κs. (slice-vals, ((λ h. head-val h ∷ []), ((λ ps. copied-val ps ∷ []), (slice-vals, (uint-vals w64, (slice-vals, tt))))))) (λ κs. (shr-slice-tells (named 0) (κs .0) u8, (head-tells, (copied-tells, (mut-slice-tells (named 1) (κs .1 .0) u16, (uint-tells w64, (mut-slice-tells (named 2) (κs .1 .1 .0) u8, tt)))))))
     (λ κs qs bounds a g are. walk 𝓤 H A W mem run (κs .0) (κs .1 .0) (κs .1 .1 .0) (qs .0) (qs .1 .0) (qs .1 .1 .0) (a .0) (a .1 .0) (a .1 .1 .0) (a .1 .1 .1 .0 .ptr .0) (a .1 .1 .1 .0 .ptr .1) (a .1 .1 .1 .0 .name) (a .1 .1 .1 .0 .now) (a .1 .1 .1 .1 .0) (a .1 .1 .1 .1 .1 .0 .ptr .0) (a .1 .1 .1 .1 .1 .0 .ptr .1) (a .1 .1 .1 .1 .1 .0 .name) (a .1 .1 .1 .1 .1 .0 .now) (are .1 .0) (are .1 .1 .0) (are .1 .1 .1 .1 .0) 𝓣 known (are .0 .0 .1 .0) (are .1 .1 .1 .0 .0 .1) (are .1 .1 .1 .1 .1 .0 .0 .1))
 
 pub lent-run-text-spec : {M : Type 1} → stated.statement M

@@ -43,7 +43,7 @@ use Rattle.station.proofs.types.Head as Hd
 use Rattle.station.specs.declared.write.Writing.{Writing}
 use Rattle.station.proofs.write.Writing as Rs
 use Rattle.station.proofs.write.Writing.Laws as Rs′
-use Rattle.station.proofs.Walks.{Bank, bank-val, bank-tells, bank-typed, head-val, head-tells, head-makes, head-typed}
+use Rattle.station.proofs.Walks.{Bank, copied-val, copied-tells, copied-typed, head-val, head-tells, head-makes, head-typed}
 use Rattle.station.proofs.Walks.{hands-two, full, _&_, none, leaves-fn, meets-by}
 use Rattle.station.proofs.entries.write_head as callee
 use Rattle.station.proofs.entries.write_head.Symbol as callee-def
@@ -63,7 +63,7 @@ abbrev Callee : {M : Type 1} (𝓤 : URA M) (H : Heap 𝓤) (A : Atoms 𝓤) (me
 Callee 𝓤 H A mem run = tripleOf 𝓤 H A callee.signature (callee.spec 𝓤 H A mem run)
 
 module _ {M : Type 1} (𝓤 : URA M) (H : Heap 𝓤) (A : Atoms 𝓤) (W : Given 𝓤 H A) (mem : Memory → SProp 𝓤) (run : Routine → Fun 𝓤) (κ₀ : Lft) (q₀ : Share) (h : Head) (ps : List Preset) (bx ox : ℕ) (γx : GName) (lx : List ℕ)
-    (is-h : Is Hd.the-row h (head-val h ∷ [])) (is-ps : Is Bank ps (bank-val ps ∷ [])) where
+    (is-h : Is Hd.the-row h (head-val h ∷ [])) (is-ps : Is Bank ps (copied-val ps ∷ [])) where
   -- the machine values of the slices
   abbrev x : RefT (List ℕ)
   x = record { ptr = (bx, ox); name = γx; now = lx }
@@ -75,7 +75,7 @@ module _ {M : Type 1} (𝓤 : URA M) (H : Heap 𝓤) (A : Atoms 𝓤) (W : Given
   a = (h, (ps, (x, tt)))
 
   abbrev at : Vals own.signature (κ₀, tt)
-  at = (head-val h ∷ [], (bank-val ps ∷ [], (vx ∷ [], tt)))
+  at = (head-val h ∷ [], (copied-val ps ∷ [], (vx ∷ [], tt)))
 
   -- what the triple binds outside
   abbrev bound : walkOf 𝓤 H A own.ended stayed (own.clauses 𝓤 H A mem run) .Ghost
@@ -105,15 +105,15 @@ module _ {M : Type 1} (𝓤 : URA M) (H : Heap 𝓤) (A : Atoms 𝓤) (W : Given
     fm : FmC 𝓤 H (W .laws) (𝓣 .C)
     fm = fmOf 𝓤 H (W .laws) 𝓣
 
-    walk : Room u8 (length lx) → ent 𝓤 (onEntry 𝓤 H A own.signature (κ₀, tt) (q₀, tt) a at) (WpFn 𝓤 H (𝓣 .C) (𝓣 .Λ) code.function (head-val h ∷ bank-val ps ∷ vx ∷ []) After)
+    walk : Room u8 (length lx) → ent 𝓤 (onEntry 𝓤 H A own.signature (κ₀, tt) (q₀, tt) a at) (WpFn 𝓤 H (𝓣 .C) (𝓣 .Λ) code.function (head-val h ∷ copied-val ps ∷ vx ∷ []) After)
     walk g-x =
-        qed W ((‵ (flft κ₀ q₀) ⊛ ‵ ftrue) ∷ ‵ (owns (Hd.the-row ∷ Bank ∷ MutSlice (named 0) κ₀ u8 ∷ []) a at) ∷ []) ∵ enter ! (𝓣 .C) (𝓣 .Λ) code.function (head-val h ∷ bank-val ps ∷ vx ∷ []) _ $
+        qed W ((‵ (flft κ₀ q₀) ⊛ ‵ ftrue) ∷ ‵ (owns (Hd.the-row ∷ Bank ∷ MutSlice (named 0) κ₀ u8 ∷ []) a at) ∷ []) ∵ enter ! (𝓣 .C) (𝓣 .Λ) code.function (head-val h ∷ copied-val ps ∷ vx ∷ []) _ $
         alloc1 ! (λ l₀. alloc1 ! (λ l₁. alloc1 ! (λ l₂. alloc1 ! (λ l₃. alloc1 ! (λ l₄. alloc1 ! (λ l₅. alloc1 ! (λ l₆. alloc1 ! (λ l₇. alloc1 ! (λ l₈. alloc0 ! $ params1 ! $
-        pass1 ! (init ! 14 refl (head-typed 𝓤 H A W h is-h)) $ pass1 ! (init ! 12 refl (bank-typed 𝓤 H A W ps is-ps)) $ pass1 ! (init ! 10 refl (tt, (tt, (record { fits = g-x .0 }, tt)))) $ pass0 ! $
+        pass1 ! (init ! 14 refl (head-typed 𝓤 H A W h is-h)) $ pass1 ! (init ! 12 refl (copied-typed 𝓤 H A W ps is-ps)) $ pass1 ! (init ! 10 refl (tt, (tt, (record { fits = g-x .0 }, tt)))) $ pass0 ! $
         -- [the locals, the last one first; the tokens; what the parameters own]
         move ! (19 ∷ []) $ fsplit ! $ drop ! $ fsplit ! $ drop ! $ fsplit ! $ move ! (1 ∷ []) $ drop ! $ move ! (19 ∷ []) $ split ! $ move ! (1 ∷ []) $ drop ! $
         -- [the tokens and what the slices own, the last first; the locals]
-        assigns ! (of-opd ! (reads ! (from ! (stop !)) (look ! 14 refl))) (from ! (stop !)) (init ! 10 refl (bank-typed 𝓤 H A W ps is-ps)) $
+        assigns ! (of-opd ! (reads ! (from ! (stop !)) (look ! 14 refl))) (from ! (stop !)) (init ! 10 refl (copied-typed 𝓤 H A W ps is-ps)) $
         assigns ! (addr ! (from ! (stop !))) (from ! (stop !)) (init ! 8 refl (tt, tt)) $
         assigns ! (agg ! (and-then ! (reads ! (from ! (stop !)) (look ! 8 refl)) (and-then ! (lit ! tt) (no-more !)))) (from ! (stop !)) (init ! 6 refl (tt, (tt, (record { fits = lit< tt }, tt)))) $
         assigns ! (addr ! (from ! (fld ! refl (hop ! (look-in ! 12 (sub ! 0 refl (whole !))) (stop !))))) (from ! (stop !)) (init ! 4 refl (tt, tt)) $
@@ -136,7 +136,7 @@ meets : {M : Type 1} (𝓤 : URA M) (H : Heap 𝓤) (A : Atoms 𝓤) → Given �
 meets 𝓤 H A W mem run 𝓣 known =
     meets-by 𝓤 H A W own.ended stayed (goes-dropped 𝓤 H A W 1 (plain (λ _. Hd.the-row)) yes (λ κs x f. refl), (goes-dropped 𝓤 H A W 1 (plain (λ _. Bank)) yes (λ κs x f. refl), (goes-gave-slice 𝓤 H A W 1 0 tt (plain (λ _. u8)), tt)))
     (own.clauses 𝓤 H A mem run) code.function 𝓣
-    (λ κs. ((λ h. head-val h ∷ []), ((λ ps. bank-val ps ∷ []), (slice-vals, tt)))) (λ κs. (head-tells, (bank-tells, (mut-slice-tells (named 0) (κs .0) u8, tt))))
+    (λ κs. ((λ h. head-val h ∷ []), ((λ ps. copied-val ps ∷ []), (slice-vals, tt)))) (λ κs. (head-tells, (copied-tells, (mut-slice-tells (named 0) (κs .0) u8, tt))))
     (λ κs qs bounds a g are. walk 𝓤 H A W mem run (κs .0) (qs .0) (a .0) (a .1 .0) (a .1 .1 .0 .ptr .0) (a .1 .1 .0 .ptr .1) (a .1 .1 .0 .name) (a .1 .1 .0 .now) (are .0) (are .1 .0) 𝓣 known (are .1 .1 .0 .0 .1))
 
 pub lent-write-head-spec : {M : Type 1} → stated.statement M

@@ -18,11 +18,11 @@ use Rattle.frame.proofs.listing.bytes.first_granted.Statement.{statemen
 use Rattle.frame.proofs.listing.bytes.first_granted.Tie as tie
 
 abbrev Inv-loop : tie.InvT-loop
-Inv-loop out₀ at′ count presets grants place₀ i₀ out place i = (i ≤ count)
-    × Left out₀ at′ (grantedLines grants 0 (presetsIn count presets)) out place (grantedLines grants i (map presetIn (drop i (take count presets))))
+Inv-loop out₀ at′ count presets grants place₀ i₀ out position i = (i ≤ count)
+    × Left out₀ at′ (grantedLines grants 0 (presetsIn count presets)) out position (grantedLines grants i (map presetIn (drop i (take count presets))))
 
 abbrev μ-loop : tie.MeasureT-loop
-μ-loop out₀ at′ count presets grants place₀ i₀ out place i = count - i
+μ-loop out₀ at′ count presets grants place₀ i₀ out position i = count - i
 
 loop-holds : tie.Need-loop-holds Inv-loop μ-loop
 loop-holds c = let a = c .before .args in (omega arith, left-all (now (a .out)) (a .at) (grantedLines (a .t4) 0 (presetsIn (a .count) (a .t3))))

@@ -14,11 +14,11 @@ use Rattle.frame.proofs.listing.bytes.first_slots.Statement.{statement}
 use Rattle.frame.proofs.listing.bytes.first_slots.Tie as tie
 
 abbrev Inv-loop : tie.InvT-loop
-Inv-loop out₀ at slots bridges table place₀ s₀ out place s = (s ≤ slots)
-    × Left out₀ at (slotLines (ofBridges bridges) table 0 slots) out place (slotLines (ofBridges bridges) table s (slots - s))
+Inv-loop out₀ at slots bridges table place₀ s₀ out position s = (s ≤ slots)
+    × Left out₀ at (slotLines (ofBridges bridges) table 0 slots) out position (slotLines (ofBridges bridges) table s (slots - s))
 
 abbrev μ-loop : tie.MeasureT-loop
-μ-loop out₀ at slots bridges table place₀ s₀ out place s = slots - s
+μ-loop out₀ at slots bridges table place₀ s₀ out position s = slots - s
 
 loop-holds : tie.Need-loop-holds Inv-loop μ-loop
 loop-holds c = let a = c .before .before .args in

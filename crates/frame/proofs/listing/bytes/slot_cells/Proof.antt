@@ -18,11 +18,11 @@ use Rattle.frame.proofs.listing.bytes.slot_cells.Statement.{statement}
 use Rattle.frame.proofs.listing.bytes.slot_cells.Tie as tie
 
 abbrev Inv-loop : tie.InvT-loop
-Inv-loop out₀ at bridges table slot start place₀ b₀ out place b = (b ≤ bridges)
-    × Left out₀ at (cellTexts (ofBridges bridges) table slot 0 bridges) out place (cellTexts (ofBridges bridges) table slot b (bridges - b))
+Inv-loop out₀ at bridges table slot start place₀ b₀ out position b = (b ≤ bridges)
+    × Left out₀ at (cellTexts (ofBridges bridges) table slot 0 bridges) out position (cellTexts (ofBridges bridges) table slot b (bridges - b))
 
 abbrev μ-loop : tie.MeasureT-loop
-μ-loop out₀ at bridges table slot start place₀ b₀ out place b = bridges - b
+μ-loop out₀ at bridges table slot start place₀ b₀ out position b = bridges - b
 
 mul-start : tie.Need-mul-start Inv-loop μ-loop
 mul-start c = let a = c .before .before .args in omega (arith, frame-le (a .slot) (a .bridges) (omega arith) (omega arith))

@@ -4,16 +4,17 @@ use Prim.Native.Nat.{_-_}
 use native.Mathlib.Omega.{arith}
 use lib.ListN.{length}
 use borrow.Author.Needs.{needs}
+use Rattle.placing.specs.State.{stateOf}
 use Rattle.frame.proofs.text.lines.LineLoop.{AtEvent, at-first, line-inside, line-bytes, at-next, at-end}
 use Rattle.frame.proofs.text.lines.run_lines.Statement.{statement}
 use Rattle.frame.proofs.text.lines.run_lines.Tie as tie
 
 abbrev Inv-loop : tie.InvT-loop
-Inv-loop text from first head presets table₀ out₀ place at₀ n₀ clock₀ next₀ used₀ held₀ capacities₀ table out at n clock next used held capacities =
-    AtEvent head presets text from first table₀ out₀ place at n clock next table out used held capacities
+Inv-loop text from first head presets table₀ start out₀ position at₀ n₀ clock₀ next₀ used₀ admitted₀ capacities₀ table out at n clock next used admitted capacities =
+    AtEvent head presets text from first (stateOf table₀ start) out₀ position at n clock next table out used admitted capacities
 
 abbrev μ-loop : tie.MeasureT-loop
-μ-loop text from first head presets table₀ out₀ place at₀ n₀ clock₀ next₀ used₀ held₀ capacities₀ table out at n clock next used held capacities =
+μ-loop text from first head presets table₀ start out₀ position at₀ n₀ clock₀ next₀ used₀ admitted₀ capacities₀ table out at n clock next used admitted capacities =
     length text - at
 
 counts-of-requires : tie.Need-counts-of-requires Inv-loop μ-loop
@@ -24,7 +25,7 @@ loop-holds c =
     let k = c .before .before in
     let s = k .before .before .before .before .before in
     let a = s .args in
-    at-first (a .head) (a .presets) (a .text .now) (a .from) (a .first) (a .table .now) (a .out .now) (a .place) (s .pre) (k .counts-of .ensures)
+    at-first (a .head) (a .presets) (a .text .now) (a .from) (a .first) (a .table .now) (a .start) (a .out .now) (a .position) (s .pre) (k .counts-of .ensures)
 
 line-at-requires : tie.Need-line-at-requires Inv-loop μ-loop
 line-at-requires c κs = search needs
