@@ -18,7 +18,7 @@ use Rattle.station.specs.declared.types.Head as record-of-head
 use Rattle.placing.specs.State.{State, stateOf}
 use Rattle.placing.specs.Claims.{Running}
 use Rattle.placing.specs.Causes.{causesOf}
-use Rattle.frame.specs.Event.{Event, refused, Outcome}
+use Rattle.frame.specs.Event.{Answer, Event, refused, Outcome}
 use Rattle.frame.specs.Types.{answerIn}
 use Rattle.frame.specs.declared.types.Outcome as result
 use Rattle.frame.specs.Demands.{EventIs, stopped, clockSet, placed}
@@ -26,15 +26,15 @@ use Rattle.frame.proofs.Theorems.{event-is, demand-3, done-running}
 use Rattle.frame.specs.EventDone.{eventMeant, EventDone}
 use Rattle.planner.specs.Layout.{recordsIn, frameNumbers, headOfNumbers, clockOfNumbers, clockOver}
 use Rattle.planner.proofs.RoundTrip.{clock-head, clock-new, clock-same}
-use Rattle.planner.specs.Exports.{headOn, stateOn, RunningOn, eventOn, answerNumber, answerCount, EventLeaves, EventPromise}
+use Rattle.planner.specs.Exports.{headOn, stateOn, RunningOn, eventOn, answerReturned, value, EventLeaves, EventPromise}
 
 -- a refusal changes nothing
-is-keeps : {h : Head} {st : State} {e : Event} {o : Outcome} → EventIs h st e o → 0 < answerNumber (o .answer) → o .after ≡ st
+is-keeps : {h : Head} {st : State} {e : Event} {o : Outcome} → EventIs h st e o → 0 < answerReturned (o .answer) .number → o .after ≡ st
 is-keeps (stopped r q) l = refl
 is-keeps (clockSet t q n) l = absurd (omega (arith, l))
 is-keeps (placed jobs q n) l = absurd (omega (arith, l))
 
-refused-keeps : (head : record-of-head.Head) (ps : List record-of-preset.Preset) (st : State) (e : Event) → 0 < answerNumber (eventMeant head ps st e .answer) → eventMeant head ps st e .after ≡ st
+refused-keeps : (head : record-of-head.Head) (ps : List record-of-preset.Preset) (st : State) (e : Event) → 0 < answerReturned (eventMeant head ps st e .answer) .number → eventMeant head ps st e .after ≡ st
 unfolding eventMeant
 refused-keeps head ps st e l = go (firstOf (causesOf head ps (st .table))) refl
   where
@@ -46,15 +46,15 @@ module _ (f p t l : List ℕ) where
   abbrev state : State
   state = stateOn f t
 
-  on-short-frame : length f < frameNumbers → eventOn f p t l ≡ record { answer = refused tooShort; after = state }
+  on-short-frame : length f < frameNumbers → eventOn f p t l ≡ record { answer = refused 0 tooShort; after = state }
   unfolding eventOn firstOf
   on-short-frame s = rw (ltb-yes (length f) frameNumbers s, eventOn) refl
 
-  on-short-presets : frameNumbers ≤ length f → length p < 128 → eventOn f p t l ≡ record { answer = refused tooShort; after = state }
+  on-short-presets : frameNumbers ≤ length f → length p < 128 → eventOn f p t l ≡ record { answer = refused 0 tooShort; after = state }
   unfolding eventOn firstOf
   on-short-presets k s = rw (ltb-no (length f) frameNumbers k, ltb-yes (length p) 128 s, eventOn) refl
 
-  on-enough : frameNumbers ≤ length f → 128 ≤ length p → eventOn f p t l ≡ eventMeant (headOfNumbers f) (recordsIn p) state (Event.line l)
+  pub on-enough : frameNumbers ≤ length f → 128 ≤ length p → eventOn f p t l ≡ eventMeant (headOfNumbers f) (recordsIn p) state (Event.line l)
   unfolding eventOn firstOf
   on-enough k s = rw (ltb-no (length f) frameNumbers k, ltb-no (length p) 128 s, eventOn) refl
 
@@ -62,7 +62,7 @@ module _ (f p t l : List ℕ) where
   abbrev Done : List ℕ → List ℕ → ℕ → ℕ → Type 0
   Done f₁ t₁ n r = EventLeaves (eventOn f p t l) f f₁ t₁ n r × EventPromise f p t l f₁ t₁ r
 
-  event-stopped : eventOn f p t l ≡ record { answer = refused tooShort; after = state } → Done f t 0 8
+  event-stopped : eventOn f p t l ≡ record { answer = refused 0 tooShort; after = state } → Done f t 0 8
   event-stopped e = (
     subst (λ (o : Outcome). EventLeaves o f f t 0 8) (sym e) (record { answer = refl; number = refl; frame = sym (clock-same f); table = refl }),
     record { unchanged = λ z. (refl, refl); kept = λ run. run; claim = demand-3 (headOn f p) state (Event.line l ∷ []) },
@@ -83,19 +83,19 @@ module _ (f p t l : List ℕ) where
         let clock : clockOfNumbers f₁ ≡ x .clock = ap clockOfNumbers a ∙ clock-new (x .clock) f k in
         subst (λ (h : record-of-head.Head). Running (headIn h (recordsIn p)) (stateOn f₁ t₁)) (sym head) (subst (λ (c : ℕ). Running (headOn f p) (stateOf t₁ c)) (sym clock) run)
 
-    same : {r : ℕ} → r ≡ answerNumber (answerIn (x .answer)) → 0 < r → (f₁ ≡ f) × (t₁ ≡ t)
+    same : {r : ℕ} → r ≡ answerReturned (answerIn (x .answer)) .number → 0 < r → (f₁ ≡ f) × (t₁ ≡ t)
     same e z =
         let st : eventMeant (headOfNumbers f) (recordsIn p) state (Event.line l) .after ≡ state =
-        refused-keeps (headOfNumbers f) (recordsIn p) state (Event.line l) (omega (arith, z, e, ap answerNumber (d .answer))) in (
+        refused-keeps (headOfNumbers f) (recordsIn p) state (Event.line l) (omega (arith, z, e, ap (λ (x : Answer). answerReturned x .number) (d .answer))) in (
           a ∙ ap (λ (c : ℕ). clockOver c f) (d .clock ∙ ap (λ (y : State). y .clock) st) ∙ clock-same f,
           d .table ∙ ap (λ (y : State). y .table) st,
         )
 
-    event-run : {n r : ℕ} → n ≡ answerCount (answerIn (x .answer)) → r ≡ answerNumber (answerIn (x .answer)) → Done f₁ t₁ n r
+    event-run : {n r : ℕ} → n ≡ value (answerReturned (answerIn (x .answer))) → r ≡ answerReturned (answerIn (x .answer)) .number → Done f₁ t₁ n r
     event-run {n} {r} e₁ e₂ = (
       subst (λ (o : Outcome). EventLeaves o f f₁ t₁ n r) (sym (on-enough k s)) (record {
-        answer = e₂ ∙ ap answerNumber (d .answer);
-        number = e₁ ∙ ap answerCount (d .answer);
+        answer = e₂ ∙ ap (λ (x : Answer). answerReturned x .number) (d .answer);
+        number = e₁ ∙ ap (λ (x : Answer). value (answerReturned x)) (d .answer);
         frame = a ∙ ap (λ (c : ℕ). clockOver c f) (d .clock);
         table = d .table;
       }),
@@ -105,5 +105,5 @@ module _ (f p t l : List ℕ) where
   -- the same of what was read of the frame and of the presets
   pub event-handed : (hd : record-of-head.Head) (ps : List record-of-preset.Preset) (c : ℕ) (x : result.Outcome) {f₁ t₁ : List ℕ} {n r : ℕ} → frameNumbers ≤ length f → 128 ≤ length p
       → hd ≡ headOfNumbers f → ps ≡ recordsIn p → c ≡ clockOfNumbers f → EventDone hd ps (stateOf t c) (Event.line l) t₁ x
-      → f₁ ≡ clockOver (x .clock) f → n ≡ answerCount (answerIn (x .answer)) → r ≡ answerNumber (answerIn (x .answer)) → Done f₁ t₁ n r
+      → f₁ ≡ clockOver (x .clock) f → n ≡ value (answerReturned (answerIn (x .answer))) → r ≡ answerReturned (answerIn (x .answer)) .number → Done f₁ t₁ n r
   event-handed hd ps c x k s a b e d f₂ n r = event-run {x = x} k s (rw (a, b, e) at d) f₂ n r

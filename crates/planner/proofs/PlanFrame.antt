@@ -24,17 +24,17 @@ use Rattle.placing.specs.Claims.{Running}
 use Rattle.placing.specs.Outcomes.{PlanAnswer, PlanOutcome, planCauses, planOf}
 use Rattle.placing.proofs.Theorems.{plan-claim}
 use Rattle.placing.specs.Causes.{causesOf}
-use Rattle.placing.specs.method.Grants.{filled}
 use Rattle.placing.specs.declared.plan.Planned as result
 use Rattle.placing.specs.declared.plan.PlanAnswer.the-variants.{Granted, Refused}
 use Rattle.placing.specs.PlanDone.{planMeant, repliedIn, grantsIn, PlanDone}
 use Rattle.frame.specs.Text.{startOf}
 use Rattle.frame.proofs.Theorems.{planned-running}
 use Rattle.planner.specs.Layout.{recordsIn, frameNumbers, headOfNumbers}
-use Rattle.planner.specs.Exports.{headOn, planOn, planNumber, grantsAfter, PlanLeaves, PlanPromise}
+use Rattle.planner.specs.Exports.{headOn, planOn, planReturned, grantsAfter, PlanLeaves, PlanPromise}
+use Rattle.placing.specs.Types.{filled}
 
 -- a refused plan leaves the table
-of-keeps : (h : Head) (t : List ℕ) → 0 < planNumber (planOf h t .answer) → planOf h t .table ≡ t
+of-keeps : (h : Head) (t : List ℕ) → 0 < planReturned (planOf h t .answer) .number → planOf h t .table ≡ t
 unfolding planOf
 of-keeps h t l = go (firstOf (planCauses h t)) refl
   where
@@ -43,12 +43,12 @@ of-keeps h t l = go (firstOf (planCauses h t)) refl
     go (some r) q = rw (q, planOf) refl
 
 -- and any other leaves that of a running frame with the first clock
-of-runs : (h : Head) (t : List ℕ) (a : PlanAnswer) → planOf h t .answer ≡ a → planNumber a ≡ 0 → Running h (startOf (planOf h t .table))
+of-runs : (h : Head) (t : List ℕ) (a : PlanAnswer) → planOf h t .answer ≡ a → planReturned a .number ≡ 0 → Running h (startOf (planOf h t .table))
 of-runs h t (PlanAnswer.granted g) e z = planned-running h t g e
-of-runs h t (PlanAnswer.refused r) e z = absurd (number-some r z)
+of-runs h t (PlanAnswer.refused _ r) e z = absurd (number-some r z)
 
 module _ (head : record-of-head.Head) (ps : List record-of-preset.Preset) (t : List ℕ) where
-  plan-keeps : 0 < planNumber (planMeant head ps t .answer) → planMeant head ps t .table ≡ t
+  plan-keeps : 0 < planReturned (planMeant head ps t .answer) .number → planMeant head ps t .table ≡ t
   unfolding planMeant
   plan-keeps l = go (firstOf (causesOf head ps t)) refl
     where
@@ -56,7 +56,7 @@ module _ (head : record-of-head.Head) (ps : List record-of-preset.Preset) (t : L
       go none q = rw (q, planMeant) (of-keeps (headIn head ps) t (rw (q, planMeant) at l))
       go (some r) q = rw (q, planMeant) refl
 
-  plan-runs : planNumber (planMeant head ps t .answer) ≡ 0 → Running (headIn head ps) (startOf (planMeant head ps t .table))
+  plan-runs : planReturned (planMeant head ps t .answer) .number ≡ 0 → Running (headIn head ps) (startOf (planMeant head ps t .table))
   unfolding planMeant
   plan-runs z = go (firstOf (causesOf head ps t)) refl
     where
@@ -65,15 +65,15 @@ module _ (head : record-of-head.Head) (ps : List record-of-preset.Preset) (t : L
       go (some r) q = absurd (number-some r (rw (q, planMeant) at z))
 
 module _ (f p t g : List ℕ) where
-  on-short-frame : length f < frameNumbers → planOn f p t g ≡ record { answer = PlanAnswer.refused tooShort; table = t }
+  on-short-frame : length f < frameNumbers → planOn f p t g ≡ record { answer = PlanAnswer.refused 0 tooShort; table = t }
   unfolding planOn firstOf
   on-short-frame s = rw (ltb-yes (length f) frameNumbers s, planOn) refl
 
-  on-short-presets : frameNumbers ≤ length f → length p < 128 → planOn f p t g ≡ record { answer = PlanAnswer.refused tooShort; table = t }
+  on-short-presets : frameNumbers ≤ length f → length p < 128 → planOn f p t g ≡ record { answer = PlanAnswer.refused 0 tooShort; table = t }
   unfolding planOn firstOf
   on-short-presets k s = rw (ltb-no (length f) frameNumbers k, ltb-yes (length p) 128 s, planOn) refl
 
-  on-short-grants : frameNumbers ≤ length f → 128 ≤ length p → length g < 32 → planOn f p t g ≡ record { answer = PlanAnswer.refused tooShort; table = t }
+  on-short-grants : frameNumbers ≤ length f → 128 ≤ length p → length g < 32 → planOn f p t g ≡ record { answer = PlanAnswer.refused 0 tooShort; table = t }
   unfolding planOn firstOf
   on-short-grants k m s = rw (ltb-no (length f) frameNumbers k, ltb-no (length p) 128 m, ltb-yes (length g) 32 s, planOn) refl
 
@@ -85,7 +85,7 @@ module _ (f p t g : List ℕ) where
   abbrev Done : List ℕ → List ℕ → ℕ → Type 0
   Done t₁ g₁ r = PlanLeaves (planOn f p t g) g t₁ g₁ r × PlanPromise f p t t₁ r
 
-  plan-stopped : planOn f p t g ≡ record { answer = PlanAnswer.refused tooShort; table = t } → Done t g 8
+  plan-stopped : planOn f p t g ≡ record { answer = PlanAnswer.refused 0 tooShort; table = t } → Done t g 8
   unfolding grantsAfter
   plan-stopped e = (
     subst (λ (o : PlanOutcome). PlanLeaves o g t g 8) (sym e) (record { answer = refl; grants = refl; table = refl }),
@@ -105,7 +105,7 @@ module _ (f p t g : List ℕ) where
     abbrev meant : PlanOutcome
     meant = planMeant (headOfNumbers f) (recordsIn p) t
 
-    plan-done : {g₁ : List ℕ} {r : ℕ} → r ≡ planNumber (meant .answer) → g₁ ≡ grantsAfter (meant .answer) g → Done t₁ g₁ r
+    plan-done : {g₁ : List ℕ} {r : ℕ} → r ≡ planReturned (meant .answer) .number → g₁ ≡ grantsAfter (meant .answer) g → Done t₁ g₁ r
     plan-done {g₁} {r} e b = (
       subst (λ (o : PlanOutcome). PlanLeaves o g t₁ g₁ r) (sym (on-enough k m s)) (record { answer = e; grants = b; table = d .table }),
       record {
@@ -115,17 +115,17 @@ module _ (f p t g : List ℕ) where
       },
     )
 
-    plan-refused : {c : cause.Refusal} {r : ℕ} → x .answer ≡ Refused c → r ≡ numberOf (refusalIn c) → Done t₁ g r
+    plan-refused : {n : ℕ} {c : cause.Refusal} {r : ℕ} → x .answer ≡ Refused n c → r ≡ numberOf (refusalIn c) → Done t₁ g r
     unfolding grantsAfter
-    plan-refused {c} {r} q e =
-        let is : meant .answer ≡ PlanAnswer.refused (refusalIn c) = sym (d .answer) ∙ ap (repliedIn (take (headOfNumbers f .count) (x .grants))) q in
-        plan-done (e ∙ sym (ap planNumber is)) (sym (ap (λ (a : PlanAnswer). grantsAfter a g) is))
+    plan-refused {n} {c} {r} q e =
+        let is : meant .answer ≡ PlanAnswer.refused n (refusalIn c) = sym (d .answer) ∙ ap (repliedIn (take (headOfNumbers f .count) (x .grants))) q in
+        plan-done (e ∙ sym (ap (λ (x : PlanAnswer). planReturned x .number) is)) (sym (ap (λ (a : PlanAnswer). grantsAfter a g) is))
 
     plan-made : {g₁ : List ℕ} → x .answer ≡ Granted → g₁ ≡ sets g 0 (x .grants) → Done t₁ g₁ 0
     unfolding grantsAfter
     plan-made {g₁} q e =
         let is : meant .answer ≡ PlanAnswer.granted (take (headOfNumbers f .count) (x .grants)) = sym (d .answer) ∙ ap (repliedIn (take (headOfNumbers f .count) (x .grants))) q in
-        plan-done (sym (ap planNumber is))
+        plan-done (sym (ap (λ (x : PlanAnswer). planReturned x .number) is))
         (e
         ∙ ap (sets g 0) (d .grants)
         ∙ ap (λ (a : PlanAnswer). sets g 0 (filled 32 (length (grantsIn a)) (at (grantsIn a)))) is
@@ -134,7 +134,7 @@ module _ (f p t g : List ℕ) where
   -- the same of what was read of the frame and of the presets
   module _ (hd : record-of-head.Head) (ps : List record-of-preset.Preset) (x : result.Planned) {t₁ : List ℕ} (k : frameNumbers ≤ length f) (m : 128 ≤ length p) (s : 32 ≤ length g)
       (a : hd ≡ headOfNumbers f) (b : ps ≡ recordsIn p) (d : PlanDone hd ps t t₁ x) where
-    pub refused-handed : {c : cause.Refusal} {r : ℕ} → x .answer ≡ Refused c → r ≡ numberOf (refusalIn c) → Done t₁ g r
+    pub refused-handed : {n : ℕ} {c : cause.Refusal} {r : ℕ} → x .answer ≡ Refused n c → r ≡ numberOf (refusalIn c) → Done t₁ g r
     refused-handed = plan-refused k m s (rw (a, b) at d)
 
     pub made-handed : {g₁ : List ℕ} → x .answer ≡ Granted → g₁ ≡ sets g 0 (x .grants) → Done t₁ g₁ 0

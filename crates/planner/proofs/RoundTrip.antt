@@ -4,7 +4,7 @@
 -- written changes nothing (`bytes-back`), nor does what was read behind other records (`bytes-over-rest`), and bytes past them stay (`bytes-past`); a frame: its reserved
 -- places are not looked at (`reserved-head`, `reserved-clock`), what was written is read back (`head-back`, `clock-back`) with 0 in the reserved places
 -- (`cleared-zero`), numbers past it stay (`head-past`, `numbers-past`), the head and the clock that were read and are written change nothing (`head-same`), and with the
--- reserved numbers exactly if these are 0 (`numbers-back`, `back-zero`); its clock alone (`clock-head`, `clock-new`, `clock-same`).
+-- reserved numbers exactly if these are 0 (`numbers-back`, `back-zero`); its clock alone (`clock-head`, `clock-new`, `clock-same`, `clock-again`).
 -- Assumes nothing.
 use Prim.Native.Nat.{ℕ, zero, suc, _+_, _*_, _≤_, _<_}
 use native.Mathlib.Omega.{arith}
@@ -198,3 +198,11 @@ clock-new c l h = getD-set-same l 3 c 0 (omega arith)
 
 pub clock-same : (l : List ℕ) → clockOver (clockOfNumbers l) l ≡ l
 clock-same l = set-getD l 3 0
+
+-- the clock that is written last stands
+pub clock-again : (c d : ℕ) (l : List ℕ) → clockOver c (clockOver d l) ≡ clockOver c l
+clock-again c d [] = refl
+clock-again c d (x ∷ []) = refl
+clock-again c d (x ∷ y ∷ []) = refl
+clock-again c d (x ∷ y ∷ z ∷ []) = refl
+clock-again c d (x ∷ y ∷ z ∷ w ∷ l) = refl

@@ -1,6 +1,6 @@
 -- What `planner_run_text` answers and leaves, law by law.
 --
--- In order: what a text comes to by the causes 10 and 8 of the frame and of the presets (`on-..`); a text that is refused by these (`text-long`, `text-short-frame`,
+-- In order: what a text comes to by the causes 10 and 8 of the frame and of the presets (`on-..`), and that one that ran met none of them (`on-ran`); a text that is refused by these (`text-long`, `text-short-frame`,
 -- `text-short-presets`); what is left of the head and of the records by value, written back (`frame-left`, `presets-left`) and read again (`head-again`); a text that
 -- is run (`text-run`, `text-handed`).
 -- Assumes nothing.
@@ -24,11 +24,11 @@ use Rattle.placing.specs.Claims.{Running}
 use Rattle.frame.specs.Text.{Whole, notRead, notPlanned, ran}
 use Rattle.frame.specs.Event.{Run}
 use Rattle.frame.specs.declared.text.TextRun as run
-use Rattle.frame.specs.TextDone.{wholeBeside, End, endIn, endOf, headAfter, presetsAfter, tableAfter, clockAfter, outputAfter, TextDone}
+use Rattle.frame.specs.TextDone.{wholeWithOutput, End, endIn, endOf, headAfter, presetsAfter, tableAfter, clockAfter, outputAfter, TextDone}
 use Rattle.frame.proofs.Theorems.{beside-long, text-claim}
 use Rattle.planner.specs.Layout.{recordsIn, bytesOver, frameNumbers, headOfNumbers, clockOfNumbers, numbersOver}
 use Rattle.planner.proofs.RoundTrip.{records-back, bytes-back, bytes-over-rest, length-records, head-back, clock-back, head-same}
-use Rattle.planner.specs.Exports.{RunningOn, textOn, endNumber, endPlace, frameLeft, frameAfter, recordsAfter, TextLeaves, TextPromise}
+use Rattle.planner.specs.Exports.{RunningOn, textOn, endReturned, value, frameLeft, frameAfter, recordsAfter, TextLeaves, TextPromise}
 
 module _ (text f p t out : List ℕ) where
   on-long : 32768 < length text → textOn text f p t out ≡ notRead 0 textTooLong
@@ -43,16 +43,29 @@ module _ (text f p t out : List ℕ) where
   unfolding textOn firstOf
   on-short-presets l k s = rw (ltb-no 32768 (length text) l, ltb-no (length f) frameNumbers k, ltb-yes (length p) 128 s, textOn) refl
 
-  on-long-enough : length text ≤ 32768 → frameNumbers ≤ length f → 128 ≤ length p → textOn text f p t out ≡ wholeBeside text t out
+  on-long-enough : length text ≤ 32768 → frameNumbers ≤ length f → 128 ≤ length p → textOn text f p t out ≡ wholeWithOutput text t out
   unfolding textOn firstOf
   on-long-enough l k s = rw (ltb-no 32768 (length text) l, ltb-no (length f) frameNumbers k, ltb-no (length p) 128 s, textOn) refl
 
-  on-enough : frameNumbers ≤ length f → 128 ≤ length p → textOn text f p t out ≡ wholeBeside text t out
+  on-enough : frameNumbers ≤ length f → 128 ≤ length p → textOn text f p t out ≡ wholeWithOutput text t out
   on-enough k s = go (is (ltb 32768 (length text)))
     where
-      go : Is (ltb 32768 (length text)) → textOn text f p t out ≡ wholeBeside text t out
+      go : Is (ltb 32768 (length text)) → textOn text f p t out ≡ wholeWithOutput text t out
       go (is-true l) = let m = lt-of 32768 (length text) l in on-long m ∙ sym (beside-long text t out m)
       go (is-false l) = on-long-enough (ge-of 32768 (length text) l) k s
+
+  -- a text that ran has a frame and presets that are long enough
+  pub on-ran : (h : Head) (m : ℕ) (g : List ℕ) (x : Run) → textOn text f p t out ≡ ran h m g x → (frameNumbers ≤ length f) × (128 ≤ length p)
+  on-ran h m g x e = go (is (ltb 32768 (length text))) (is (ltb (length f) frameNumbers)) (is (ltb (length p) 128))
+    where
+      unread : {c : Refusal} → notRead 0 c ≡ ran h m g x → ⊥
+      unread q = let z : _≡_ {A = ℕ} 0 1 = cc in omega arith
+
+      go : Is (ltb 32768 (length text)) → Is (ltb (length f) frameNumbers) → Is (ltb (length p) 128) → (frameNumbers ≤ length f) × (128 ≤ length p)
+      go (is-true l) k s = absurd (unread (sym (on-long (lt-of 32768 (length text) l)) ∙ e))
+      go (is-false l) (is-true k) s = absurd (unread (sym (on-short-frame (ge-of 32768 (length text) l) (lt-of (length f) frameNumbers k)) ∙ e))
+      go (is-false l) (is-false k) (is-true s) = absurd (unread (sym (on-short-presets (ge-of 32768 (length text) l) (ge-of (length f) frameNumbers k) (lt-of (length p) 128 s)) ∙ e))
+      go (is-false l) (is-false k) (is-false s) = (ge-of (length f) frameNumbers k, ge-of (length p) 128 s)
 
   -- what is answered and left, and what is claimed
   abbrev Done : List ℕ → List ℕ → List ℕ → List ℕ → ℕ → ℕ → Type 0
@@ -108,7 +121,7 @@ module _ (text f p t out : List ℕ) where
 
   module _ {f₁ p₁ t₁ out₁ : List ℕ} {x : run.TextRun} (k : frameNumbers ≤ length f) (s : 128 ≤ length p) (d : TextDone text (headOfNumbers f) (recordsIn p) t (clockOfNumbers f) out t₁ out₁ x)
       (a : f₁ ≡ frameLeft (endIn (x .ended)) (x .head) (x .clock) f) (b : p₁ ≡ bytesOver (x .presets) p) where
-    ran-left : (w : Whole) → wholeBeside text t out ≡ w → endNumber (endOf w out) ≡ 0 → RunningOn f₁ p₁ t₁
+    ran-left : (w : Whole) → wholeWithOutput text t out ≡ w → endReturned (endOf w out) .number ≡ 0 → RunningOn f₁ p₁ t₁
     unfolding endOf headAfter presetsAfter tableAfter clockAfter
     ran-left (notRead n r) e z = absurd (number-some r z)
     ran-left (notPlanned h n r) e z = absurd (number-some r z)
@@ -128,30 +141,30 @@ module _ (text f p t out : List ℕ) where
         (b ∙ ap (λ (l : List record-of-preset.Preset). bytesOver l p) records) in
         rw (again .0, again .1, table) after
 
-    text-run : {n r : ℕ} → n ≡ endPlace (endIn (x .ended)) → r ≡ endNumber (endIn (x .ended)) → Done f₁ p₁ t₁ out₁ n r
+    text-run : {n r : ℕ} → n ≡ value (endReturned (endIn (x .ended))) → r ≡ endReturned (endIn (x .ended)) .number → Done f₁ p₁ t₁ out₁ n r
     text-run {n} {r} e₁ e₂ = (
       subst (λ (w : Whole). TextLeaves w f p t out f₁ p₁ t₁ out₁ n r) (sym (on-enough k s)) (record {
-        answer = e₂ ∙ ap endNumber (d .ended);
-        end = e₁ ∙ ap endPlace (d .ended);
+        answer = e₂ ∙ ap (λ (x : End). endReturned x .number) (d .ended);
+        end = e₁ ∙ ap (λ (x : End). value (endReturned x)) (d .ended);
         frame =
             a
             ∙ ap (λ (y : End). frameLeft y (x .head) (x .clock) f) (d .ended)
-            ∙ ap (λ (g : record-of-head.Head). frameLeft (endOf (wholeBeside text t out) out) g (x .clock) f) (d .head)
-            ∙ ap (λ (c : ℕ). frameLeft (endOf (wholeBeside text t out) out) (headAfter (wholeBeside text t out) (headOfNumbers f)) c f) (d .clock)
-            ∙ frame-left (wholeBeside text t out);
-        presets = b ∙ ap (λ (l : List record-of-preset.Preset). bytesOver l p) (d .presets) ∙ presets-left (wholeBeside text t out);
+            ∙ ap (λ (g : record-of-head.Head). frameLeft (endOf (wholeWithOutput text t out) out) g (x .clock) f) (d .head)
+            ∙ ap (λ (c : ℕ). frameLeft (endOf (wholeWithOutput text t out) out) (headAfter (wholeWithOutput text t out) (headOfNumbers f)) c f) (d .clock)
+            ∙ frame-left (wholeWithOutput text t out);
+        presets = b ∙ ap (λ (l : List record-of-preset.Preset). bytesOver l p) (d .presets) ∙ presets-left (wholeWithOutput text t out);
         table = d .table;
         output = d .output;
       }),
       record {
         long = on-enough;
         claim = text-claim text t out;
-        running = λ z. ran-left (wholeBeside text t out) refl (sym (ap endNumber (d .ended)) ∙ sym e₂ ∙ z);
+        running = λ z. ran-left (wholeWithOutput text t out) refl (sym (ap (λ (x : End). endReturned x .number) (d .ended)) ∙ sym e₂ ∙ z);
       },
     )
 
   -- the same of what was read of the frame and of the presets
   pub text-handed : (hd : record-of-head.Head) (ps : List record-of-preset.Preset) (c : ℕ) (x : run.TextRun) {f₁ p₁ t₁ out₁ : List ℕ} {n r : ℕ} → frameNumbers ≤ length f → 128 ≤ length p
       → hd ≡ headOfNumbers f → ps ≡ recordsIn p → c ≡ clockOfNumbers f → TextDone text hd ps t c out t₁ out₁ x
-      → f₁ ≡ frameLeft (endIn (x .ended)) (x .head) (x .clock) f → p₁ ≡ bytesOver (x .presets) p → n ≡ endPlace (endIn (x .ended)) → r ≡ endNumber (endIn (x .ended)) → Done f₁ p₁ t₁ out₁ n r
+      → f₁ ≡ frameLeft (endIn (x .ended)) (x .head) (x .clock) f → p₁ ≡ bytesOver (x .presets) p → n ≡ value (endReturned (endIn (x .ended))) → r ≡ endReturned (endIn (x .ended)) .number → Done f₁ p₁ t₁ out₁ n r
   text-handed hd ps c x k s a b e d f₂ p₂ n r = text-run {x = x} k s (rw (a, b, e) at d) f₂ p₂ n r

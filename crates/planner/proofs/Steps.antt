@@ -1,6 +1,6 @@
 -- Laws of the layout, record by record and number by number, as the code reads and writes them.
 --
--- In order: one record of those read (`record-read`), one more read into the bank (`read-more`, `read-all`); a record written byte by byte (`record-written`), one more
+-- In order: one record of those read (`record-read`), one more read into the copied (`read-more`, `read-all`); a record written byte by byte (`record-written`), one more
 -- of them (`write-more`, `written-all`); one more number written (`number-more`, `numbers-all`); a frame written number by number (`head-written`, `reserved-written`), after a text
 -- that ran and after a refusal (`ran-written`, `refused-written`).
 -- Assumes nothing.
@@ -36,16 +36,16 @@ record-read (suc n) (suc i) l h = record-read n i (drop 4 l) (omega arith) ∙ h
         rw (at (4 * i) (4 * suc i) (omega arith), at (4 * i + 1) (4 * suc i + 1) (omega arith), at (4 * i + 2) (4 * suc i + 2) (omega arith), at (4 * i + 3) (4 * suc i + 3) (omega arith))
         refl
 
--- one more record read into the bank
-pub read-more : (bank : List Preset) (l : List ℕ) (i : ℕ) {p : Preset} → i < 32 → length bank ≡ 32 → take i bank ≡ take i (recordsIn l) → p ≡ recordAt l i
-    → take (i + 1) (set bank i p) ≡ take (i + 1) (recordsIn l)
-read-more bank l i h long e p =
+-- one more record read into the copied
+pub read-more : (copied : List Preset) (l : List ℕ) (i : ℕ) {p : Preset} → i < 32 → length copied ≡ 32 → take i copied ≡ take i (recordsIn l) → p ≡ recordAt l i
+    → take (i + 1) (set copied i p) ≡ take (i + 1) (recordsIn l)
+read-more copied l i h long e p =
     let next : i + 1 ≡ suc i = omega arith in
-    rw (p, next, take-suc-set bank i (recordAt l i) (omega (arith, long)), take-suc (recordsIn l) i noRecord (omega (arith, length-records 32 l)), e, record-read 32 i l h) refl
+    rw (p, next, take-suc-set copied i (recordAt l i) (omega (arith, long)), take-suc (recordsIn l) i noRecord (omega (arith, length-records 32 l)), e, record-read 32 i l h) refl
 
-pub read-all : (bank : List Preset) (l : List ℕ) (i : ℕ) → 32 ≤ i → i ≤ 32 → length bank ≡ 32 → take i bank ≡ take i (recordsIn l) → bank ≡ recordsIn l
-read-all bank l i low high long e =
-    sym (take-all i bank (omega (arith, long))) ∙ e ∙ take-all i (recordsIn l) (omega (arith, length-records 32 l))
+pub read-all : (copied : List Preset) (l : List ℕ) (i : ℕ) → 32 ≤ i → i ≤ 32 → length copied ≡ 32 → take i copied ≡ take i (recordsIn l) → copied ≡ recordsIn l
+read-all copied l i low high long e =
+    sym (take-all i copied (omega (arith, long))) ∙ e ∙ take-all i (recordsIn l) (omega (arith, length-records 32 l))
 
 -- a record written byte by byte
 pub record-written : (p : Preset) (l : List ℕ) (k : ℕ) {l₁ l₂ l₃ l₄ : List ℕ}
@@ -58,17 +58,17 @@ record-written p l k e₁ e₂ e₃ e₄ =
     rw (e₄, e₃, e₂, e₁, one, two, three) refl
 
 -- one more record written: the rest of them is still to be
-pub write-more : (bank : List Preset) (l : List ℕ) (i : ℕ) {p : Preset} {l₁ : List ℕ} → i < length bank → p ≡ getD bank i noRecord → l₁ ≡ sets l (4 * i) (bytesOf (p ∷ []))
-    → sets l₁ (4 * (i + 1)) (bytesOf (drop (i + 1) bank)) ≡ sets l (4 * i) (bytesOf (drop i bank))
+pub write-more : (copied : List Preset) (l : List ℕ) (i : ℕ) {p : Preset} {l₁ : List ℕ} → i < length copied → p ≡ getD copied i noRecord → l₁ ≡ sets l (4 * i) (bytesOf (p ∷ []))
+    → sets l₁ (4 * (i + 1)) (bytesOf (drop (i + 1) copied)) ≡ sets l (4 * i) (bytesOf (drop i copied))
 unfolding bytesOf
-write-more bank l i h p e =
+write-more copied l i h p e =
     let next : i + 1 ≡ suc i = omega arith in
     let four : 4 * suc i ≡ suc (suc (suc (suc (4 * i)))) = omega arith in
-    rw (e, p, next, four, drop-cons bank i noRecord h) refl
+    rw (e, p, next, four, drop-cons copied i noRecord h) refl
 
-pub written-all : (bank : List Preset) (l : List ℕ) (i : ℕ) {all : List ℕ} → length bank ≤ i → sets l (4 * i) (bytesOf (drop i bank)) ≡ all → l ≡ all
+pub written-all : (copied : List Preset) (l : List ℕ) (i : ℕ) {all : List ℕ} → length copied ≤ i → sets l (4 * i) (bytesOf (drop i copied)) ≡ all → l ≡ all
 unfolding bytesOf
-written-all bank l i h e = rw (drop-of-length-le bank h) at e
+written-all copied l i h e = rw (drop-of-length-le copied h) at e
 
 -- ---- numbers
 

@@ -1,7 +1,7 @@
 -- What the four exported functions are held to: what each answers, and every number, byte and cell that was handed over, afterwards, for all inputs; and what is
 -- claimed of it. Document 01, "Causes", "One listing, whole" and "What demand 3 speaks of". A frame and preset records are read and written as planner_layout says.
 --
--- In order: the running frame that numbers and bytes stand for; an answer as numbers; `planner_run_text` (`TextLeaves`, `TextPromise`), `planner_event`
+-- In order: the running frame that numbers and bytes stand for; what is returned (`Returned`); `planner_run_text` (`TextLeaves`, `TextPromise`), `planner_event`
 -- (`EventLeaves`, `EventPromise`), `planner_plan` (`PlanLeaves`, `PlanPromise`), `planner_listing` (`ListingLeaves`, `ListingWhole`).
 -- Assumes nothing.
 use Prim.Native.Nat.{ℕ, _≤_, _<_}
@@ -13,6 +13,7 @@ use lib.Seq.{sets}
 use lib.Dec.{ltb}
 use Rattle.laws.specs.Lists.{at}
 use Rattle.station.specs.Head.{Head}
+use Rattle.station.specs.Limits.{mostPresets, mostBytes}
 use Rattle.station.specs.Refusal.{Refusal, numberOf, tooShort, textTooLong, try, firstOf}
 use Rattle.station.specs.Types.{headIn}
 use Rattle.station.specs.declared.types.Head as record-of-head
@@ -21,16 +22,16 @@ use Rattle.station.specs.WriteHead as writing
 use Rattle.placing.specs.State.{State, stateOf}
 use Rattle.placing.specs.Claims.{Running, PlanClaim}
 use Rattle.placing.specs.Outcomes.{PlanAnswer, PlanOutcome}
-use Rattle.placing.specs.method.Grants.{filled}
 use Rattle.placing.specs.PlanDone.{planMeant}
-use Rattle.frame.specs.Event.{Event, Answer, now, taken, refused, Outcome}
+use Rattle.frame.specs.Event.{Event, Answer, clockNow, taken, refused, Outcome}
 use Rattle.frame.specs.Text.{Whole, notRead, notPlanned, ran, startOf, wholeOf}
 use Rattle.frame.specs.Listing.{listingOf}
 use Rattle.frame.specs.Demands.{Demand3}
 use Rattle.frame.specs.EventDone.{eventMeant}
-use Rattle.frame.specs.TextDone.{wholeBeside, End, listed, refusedAt, endOf, tableAfter, outputAfter, TextClaim}
+use Rattle.frame.specs.TextDone.{wholeWithOutput, End, listed, refusedAt, endOf, tableAfter, outputAfter, TextClaim}
 use Rattle.frame.specs.WriteListing.{listingCause, listingMeant}
-use Rattle.planner.specs.Layout.{recordsIn, bytesOver, frameNumbers, headOfNumbers, clockOfNumbers, headOver, numbersOver, clockOver}
+use Rattle.planner.specs.Layout.{presetBytes, recordsIn, bytesOver, frameNumbers, headOfNumbers, clockOfNumbers, headOver, numbersOver, clockOver}
+use Rattle.placing.specs.Types.{filled}
 
 -- ---- the running frame
 
@@ -48,24 +49,52 @@ RunningOn frame presets t = Running (headOn frame presets) (stateOn frame t)
 
 -- "preset list below 32 records" is 8, and so is a frame below sixteen numbers
 abbrev pub shortCauses : List ℕ → List ℕ → List (Option Refusal)
-shortCauses frame presets = try tooShort (ltb (length frame) frameNumbers) ∷ try tooShort (ltb (length presets) 128) ∷ []
+shortCauses frame presets = try tooShort (ltb (length frame) frameNumbers) ∷ try tooShort (ltb (length presets) presetBytes) ∷ []
+
+-- ---- what is returned
+
+-- What a function returns: 0 and the values of what is accepted; or "Number" and "Returned" of the table of causes, the number of the refusal and its line.
+pub record Returned : Type 0 where
+  pub number : ℕ
+  pub values : List ℕ
+
+abbrev pub accepts : List ℕ → Returned
+accepts vs = record { number = 0; values = vs }
+
+abbrev pub refuses : ℕ → Refusal → Returned
+refuses n r = record { number = numberOf r; values = n ∷ [] }
+
+-- the first of its values
+abbrev pub value : Returned → ℕ
+value r = at (r .values) 0
+
+-- of a text: the number of bytes of the listing in the output
+abbrev pub endReturned : End → Returned
+endReturned (listed n) = accepts (n ∷ [])
+endReturned (refusedAt n r) = refuses n r
+
+-- of an event: "the new clock; the cells evicted"
+abbrev pub answerReturned : Answer → Returned
+answerReturned (clockNow t) = accepts (t ∷ [])
+answerReturned (taken c) = accepts (c .count ∷ [])
+answerReturned (refused n r) = refuses n r
+
+-- of a plan: the grants
+abbrev pub planReturned : PlanAnswer → Returned
+planReturned (PlanAnswer.granted g) = accepts g
+planReturned (PlanAnswer.refused n r) = refuses n r
+
+-- of a listing: the number of its bytes in the output
+abbrev pub writtenReturned : writing.Answer → Returned
+writtenReturned (writing.written n) = accepts (n ∷ [])
+writtenReturned (writing.refused n r) = refuses n r
 
 -- ---- planner_run_text
 
 -- What a text comes to: 10, then 8 of the frame and of the presets, then as beside the output, which is 8 of the output and of the table.
 unfoldable pub textOn : List ℕ → List ℕ → List ℕ → List ℕ → List ℕ → Whole
 textOn text frame presets t out =
-    elim (firstOf (try textTooLong (ltb 32768 (length text)) ∷ shortCauses frame presets)) [ none ↦ wholeBeside text t out | some r ↦ notRead 0 r ]
-
--- 0, or the number of the refusal
-abbrev pub endNumber : End → ℕ
-endNumber (listed n) = 0
-endNumber (refusedAt n r) = numberOf r
-
--- the number of bytes of the listing in the output, or the line at fault
-abbrev pub endPlace : End → ℕ
-endPlace (listed n) = n
-endPlace (refusedAt n r) = n
+    elim (firstOf (try textTooLong (ltb mostBytes (length text)) ∷ shortCauses frame presets)) [ none ↦ wholeWithOutput text t out | some r ↦ notRead 0 r ]
 
 -- What a head and a clock make of a frame: all its numbers where the text ran, and after a refusal all but the reserved ones, which stay.
 abbrev pub frameLeft : End → record-of-head.Head → ℕ → List ℕ → List ℕ
@@ -86,8 +115,8 @@ recordsAfter (ran h n g r) presets = bytesOver (map recordOf (h .presets)) prese
 
 -- What `planner_run_text` answers (r and n, the `end`) and leaves where the text comes to w; f is the frame and p the presets.
 pub record TextLeaves (w : Whole) (f p t out f₁ p₁ t₁ out₁ : List ℕ) (n r : ℕ) : Type 0 where
-  pub answer : r ≡ endNumber (endOf w out)
-  pub end : n ≡ endPlace (endOf w out)
+  pub answer : r ≡ endReturned (endOf w out) .number
+  pub end : n ≡ value (endReturned (endOf w out))
   pub frame : f₁ ≡ frameAfter w f
   pub presets : p₁ ≡ recordsAfter w p
   pub table : t₁ ≡ tableAfter w t
@@ -96,7 +125,7 @@ pub record TextLeaves (w : Whole) (f p t out f₁ p₁ t₁ out₁ : List ℕ) (
 -- What is claimed of it, r being the answer.
 pub record TextPromise (text frame presets t out frame₁ presets₁ t₁ : List ℕ) (r : ℕ) : Type 0 where
   -- a frame and presets that are long enough do not matter
-  pub long : frameNumbers ≤ length frame → 128 ≤ length presets → textOn text frame presets t out ≡ wholeBeside text t out
+  pub long : frameNumbers ≤ length frame → presetBytes ≤ length presets → textOn text frame presets t out ≡ wholeWithOutput text t out
   -- demands 1 to 3 and what is claimed of the plan
   pub claim : TextClaim text t out
   -- "Each event gets the table and clock that the last one left": a text that ran leaves a running frame for `planner_event`
@@ -109,25 +138,13 @@ unfoldable pub eventOn : List ℕ → List ℕ → List ℕ → List ℕ → Out
 eventOn frame presets t l =
     elim (firstOf (shortCauses frame presets)) [
       | none ↦ eventMeant (headOfNumbers frame) (recordsIn presets) (stateOn frame t) (Event.line l)
-      | some r ↦ record { answer = refused r; after = stateOn frame t }
+      | some r ↦ record { answer = refused 0 r; after = stateOn frame t }
     ]
-
--- 0, or the number of the refusal
-abbrev pub answerNumber : Answer → ℕ
-answerNumber (now t) = 0
-answerNumber (taken n) = 0
-answerNumber (refused r) = numberOf r
-
--- "the new clock; the cells evicted"; 0 where the line is refused
-abbrev pub answerCount : Answer → ℕ
-answerCount (now t) = t
-answerCount (taken n) = n
-answerCount (refused r) = 0
 
 -- What `planner_event` answers (r and n, the `number`) and leaves where the event comes to o: of the frame f only the clock changes, of the presets nothing.
 pub record EventLeaves (o : Outcome) (f f₁ t₁ : List ℕ) (n r : ℕ) : Type 0 where
-  pub answer : r ≡ answerNumber (o .answer)
-  pub number : n ≡ answerCount (o .answer)
+  pub answer : r ≡ answerReturned (o .answer) .number
+  pub number : n ≡ value (answerReturned (o .answer))
   pub frame : f₁ ≡ clockOver (o .after .clock) f
   pub table : t₁ ≡ o .after .table
 
@@ -144,24 +161,19 @@ pub record EventPromise (frame presets t l frame₁ t₁ : List ℕ) (r : ℕ) :
 -- A plan: 8 of the frame, of the presets and of fewer than 32 grants, which change nothing, then what the plan comes to. The clock is not looked at.
 unfoldable pub planOn : List ℕ → List ℕ → List ℕ → List ℕ → PlanOutcome
 planOn frame presets t grants =
-    elim (firstOf (try tooShort (ltb (length frame) frameNumbers) ∷ try tooShort (ltb (length presets) 128) ∷ try tooShort (ltb (length grants) 32) ∷ [])) [
+    elim (firstOf (try tooShort (ltb (length frame) frameNumbers) ∷ try tooShort (ltb (length presets) presetBytes) ∷ try tooShort (ltb (length grants) mostPresets) ∷ [])) [
       | none ↦ planMeant (headOfNumbers frame) (recordsIn presets) t
-      | some r ↦ record { answer = PlanAnswer.refused r; table = t }
+      | some r ↦ record { answer = PlanAnswer.refused 0 r; table = t }
     ]
-
--- 0, or the number of the refusal
-abbrev pub planNumber : PlanAnswer → ℕ
-planNumber (PlanAnswer.granted g) = 0
-planNumber (PlanAnswer.refused r) = numberOf r
 
 -- the grants "in file order" at the start, and 0 past the last preset up to 32; a refusal changes nothing
 unfoldable pub grantsAfter : PlanAnswer → List ℕ → List ℕ
-grantsAfter (PlanAnswer.granted g) l = sets l 0 (filled 32 (length g) (at g))
-grantsAfter (PlanAnswer.refused r) l = l
+grantsAfter (PlanAnswer.granted g) l = sets l 0 (filled mostPresets (length g) (at g))
+grantsAfter (PlanAnswer.refused _ r) l = l
 
 -- What `planner_plan` answers and leaves where the plan comes to o; g are the grants.
 pub record PlanLeaves (o : PlanOutcome) (g t₁ g₁ : List ℕ) (r : ℕ) : Type 0 where
-  pub answer : r ≡ planNumber (o .answer)
+  pub answer : r ≡ planReturned (o .answer) .number
   pub grants : g₁ ≡ grantsAfter (o .answer) g
   pub table : t₁ ≡ o .table
 
@@ -175,24 +187,14 @@ pub record PlanPromise (frame presets t t₁ : List ℕ) (r : ℕ) : Type 0 wher
 
 -- ---- planner_listing
 
--- 0, or the number of the refusal
-abbrev pub writtenNumber : writing.Answer → ℕ
-writtenNumber (writing.written n) = 0
-writtenNumber (writing.refused r) = numberOf r
-
--- how many bytes; 0 where the text is refused
-abbrev pub writtenCount : writing.Answer → ℕ
-writtenCount (writing.written n) = n
-writtenCount (writing.refused r) = 0
-
 -- What `planner_listing` answers (r and n, the `bytes`) and leaves.
 pub record ListingLeaves (text t out t₁ out₁ : List ℕ) (n r : ℕ) : Type 0 where
-  pub answer : r ≡ writtenNumber (listingMeant text t out .answer)
-  pub bytes : n ≡ writtenCount (listingMeant text t out .answer)
+  pub answer : r ≡ writtenReturned (listingMeant text t out .answer) .number
+  pub bytes : n ≡ value (writtenReturned (listingMeant text t out .answer))
   pub table : t₁ ≡ listingMeant text t out .table
   pub output : out₁ ≡ listingMeant text t out .output
 
 -- What it answers and leaves of an output with 655,360 bytes: where no cause is met, the listing is there whole, and the bytes past it are as they were.
 pub record ListingWhole (text t out out₁ : List ℕ) (n : ℕ) : Type 0 where
-  pub bytes : n ≡ writtenCount (writing.answerOf (listingCause text t out) (length (listingOf (wholeOf text t))))
+  pub bytes : n ≡ value (writtenReturned (writing.answerOf (listingCause text t out) (length (listingOf (wholeOf text t)))))
   pub output : out₁ ≡ writing.outputOf (listingCause text t out) (listingOf (wholeOf text t)) out

@@ -9,6 +9,7 @@ use mathlib.Core.List.{List, [], _∷_}
 use lib.ListN.{getD, set, drop}
 use lib.Seq.{sets}
 use Rattle.laws.specs.Lists.{tabulate}
+use Rattle.station.specs.Limits.{mostBridges, mostPresets, leastRecords}
 use Rattle.station.specs.declared.types.Preset.{Preset}
 use Rattle.station.specs.declared.types.Head.{Head}
 
@@ -28,9 +29,13 @@ unfoldable pub firstRecords : ℕ → List ℕ → List Preset
 firstRecords zero l = []
 firstRecords (suc n) l = recordAt l 0 ∷ firstRecords n (drop 4 l)
 
+-- how many bytes the records of a "preset list" have at the least
+abbrev pub presetBytes : ℕ
+presetBytes = 4 * leastRecords
+
 -- the 32 records of the first 128 bytes: so many presets a head may have
 abbrev pub recordsIn : List ℕ → List Preset
-recordsIn l = firstRecords 32 l
+recordsIn l = firstRecords mostPresets l
 
 -- the bytes of some records
 unfoldable pub bytesOf : List Preset → List ℕ
@@ -51,7 +56,7 @@ frameNumbers = 16
 
 -- what is read of them; the reserved ones are not
 abbrev pub headOfNumbers : List ℕ → Head
-headOfNumbers l = record { slots = getD l 0 0; bridges = getD l 1 0; busy = tabulate 8 (λ b. getD l (4 + b) 0); count = getD l 2 0 }
+headOfNumbers l = record { slots = getD l 0 0; bridges = getD l 1 0; busy = tabulate mostBridges (λ b. getD l (4 + b) 0); count = getD l 2 0 }
 
 abbrev pub clockOfNumbers : List ℕ → ℕ
 clockOfNumbers l = getD l 3 0

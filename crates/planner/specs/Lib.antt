@@ -2,3 +2,5 @@
 pub mod Layout
 -- What each exported function is held to.
 pub mod Exports
+-- A list of calls of one of them.
+pub mod HandedOver

@@ -10,7 +10,7 @@ ghost use Rattle.station.specs.Types.{refusalIn};
 ghost use Rattle.station.specs.WriteHead as writing;
 ghost use Rattle.frame.specs.Types.{answerIn};
 ghost use Rattle.frame.specs.TextDone.{endIn};
-ghost use Rattle.planner.specs.Exports.{endNumber, endPlace, answerNumber, answerCount, writtenNumber, writtenCount};
+ghost use Rattle.planner.specs.Exports.{endReturned, value, answerReturned, writtenReturned};
 
 // The paper's number of a cause.
 pub(crate) fn refusal_number(cause: Refusal) -> u32
@@ -21,7 +21,7 @@ pub(crate) fn refusal_number(cause: Refusal) -> u32
 
 // Whether a text ran.
 pub(crate) fn end_number(ended: Ended) -> u32
-    ensures { λ r. ⌜ r ≡ endNumber (endIn ended) ⌝ }
+    ensures { λ r. ⌜ r ≡ endReturned (endIn ended) .number ⌝ }
 {
     match ended {
         Ended::Ran(_) => 0,
@@ -31,7 +31,7 @@ pub(crate) fn end_number(ended: Ended) -> u32
 
 // How many bytes the listing has in the output, or the line at fault.
 pub(crate) fn end_place(ended: Ended) -> u64
-    ensures { λ r. ⌜ r ≡ endPlace (endIn ended) ⌝ }
+    ensures { λ r. ⌜ r ≡ value (endReturned (endIn ended)) ⌝ }
 {
     match ended {
         Ended::Ran(n) => n as u64,
@@ -41,42 +41,42 @@ pub(crate) fn end_place(ended: Ended) -> u64
 
 // Whether an event was carried out.
 pub(crate) fn answer_number(answer: Answer) -> u32
-    ensures { λ r. ⌜ r ≡ answerNumber (answerIn answer) ⌝ }
+    ensures { λ r. ⌜ r ≡ answerReturned (answerIn answer) .number ⌝ }
 {
     match answer {
         Answer::Now(_) => 0,
         Answer::Taken(_) => 0,
-        Answer::Refused(cause) => refusal_number(cause),
+        Answer::Refused(_, cause) => refusal_number(cause),
     }
 }
 
-// The new clock, or how many cells were evicted; 0 where the event was refused.
+// The new clock, or how many cells were evicted; or the line of the refusal.
 pub(crate) fn answer_count(answer: Answer) -> u64
-    ensures { λ r. ⌜ r ≡ answerCount (answerIn answer) ⌝ }
+    ensures { λ r. ⌜ r ≡ value (answerReturned (answerIn answer)) ⌝ }
 {
     match answer {
         Answer::Now(t) => t as u64,
         Answer::Taken(n) => n as u64,
-        Answer::Refused(_) => 0,
+        Answer::Refused(line, _) => line as u64,
     }
 }
 
 // Whether a listing was written.
 pub(crate) fn written_number(answer: Writing) -> u32
-    ensures { λ r. ⌜ r ≡ writtenNumber (writing.answerIn answer) ⌝ }
+    ensures { λ r. ⌜ r ≡ writtenReturned (writing.answerIn answer) .number ⌝ }
 {
     match answer {
         Writing::Written(_) => 0,
-        Writing::Refused(cause) => refusal_number(cause),
+        Writing::Refused(_, cause) => refusal_number(cause),
     }
 }
 
-// How many bytes of a listing were written; 0 where the text was refused.
+// How many bytes of a listing were written; or the line of the refusal.
 pub(crate) fn written_count(answer: Writing) -> u64
-    ensures { λ r. ⌜ r ≡ writtenCount (writing.answerIn answer) ⌝ }
+    ensures { λ r. ⌜ r ≡ value (writtenReturned (writing.answerIn answer)) ⌝ }
 {
     match answer {
         Writing::Written(n) => n as u64,
-        Writing::Refused(_) => 0,
+        Writing::Refused(line, _) => line as u64,
     }
 }

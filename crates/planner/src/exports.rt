@@ -15,14 +15,15 @@ use crate::numbers::save_run;
 use crate::presets::load_presets;
 use crate::presets::save_presets;
 use crate::sizes::FRAME_NUMBERS;
-use crate::sizes::PRESETS;
 use crate::sizes::PRESETS_BYTES;
-use crate::sizes::TEXT_BYTES;
 use frame::event::event_by_value;
 use frame::listing::write_listing;
 use frame::text::run_text_by_value;
+use placing::cells::Cell;
 use placing::plan::PlanAnswer;
 use placing::plan::plan_by_value;
+use station::limits::MOST_BYTES;
+use station::limits::MOST_PRESETS;
 ghost use Prim.Native.Nat.{_≤_};
 ghost use lib.ListN.{length};
 ghost use Rattle.planner.specs.Exports.{textOn, TextLeaves, TextPromise, eventOn, EventLeaves, EventPromise, planOn, PlanLeaves, PlanPromise, ListingLeaves, ListingWhole};
@@ -41,7 +42,7 @@ pub extern "C" fn planner_run_text(
     text: &[u8],
     frame: &mut [u64],
     presets: &mut [u8],
-    table: &mut [u16],
+    table: &mut [Cell],
     out: &mut [u8],
     end: &mut u64,
 ) -> u32
@@ -49,7 +50,7 @@ pub extern "C" fn planner_run_text(
     ensures claim { λ r. ⌜ TextPromise (now (text .entry)) (now (frame .entry)) (now (presets .entry)) (now (table .entry)) (now (out .entry)) (now (frame .exit)) (now (presets .exit)) (now (table .exit)) r ⌝ }
 {
     *end = 0;
-    if TEXT_BYTES < text.len() {
+    if MOST_BYTES < text.len() {
         return TEXT_TOO_LONG;
     }
     if frame.len() < FRAME_NUMBERS {
@@ -59,8 +60,8 @@ pub extern "C" fn planner_run_text(
         return TOO_SHORT;
     }
     let head = head_of(frame);
-    let bank = load_presets(presets);
-    let run = run_text_by_value(text, head, bank, table, clock_of(frame), out);
+    let copied = load_presets(presets);
+    let run = run_text_by_value(text, head, copied, table, clock_of(frame), out);
     let ended = run.ended;
     let found = run.head;
     let records = run.presets;
@@ -77,7 +78,7 @@ pub extern "C" fn planner_run_text(
 pub extern "C" fn planner_event(
     frame: &mut [u64],
     presets: &[u8],
-    table: &mut [u16],
+    table: &mut [Cell],
     line: &[u8],
     number: &mut u64,
 ) -> u32
@@ -92,8 +93,8 @@ pub extern "C" fn planner_event(
         return TOO_SHORT;
     }
     let head = head_of(frame);
-    let bank = load_presets(presets);
-    let outcome = event_by_value(head, bank, table, clock_of(frame), line);
+    let copied = load_presets(presets);
+    let outcome = event_by_value(head, copied, table, clock_of(frame), line);
     let answer = outcome.answer;
     save_clock(frame, outcome.clock);
     *number = answer_count(answer);
@@ -107,7 +108,7 @@ pub extern "C" fn planner_event(
 pub extern "C" fn planner_plan(
     frame: &[u64],
     presets: &[u8],
-    table: &mut [u16],
+    table: &mut [Cell],
     grants: &mut [u8],
 ) -> u32
     ensures done { λ r. ⌜ PlanLeaves (planOn (now (frame .entry)) (now (presets .entry)) (now (table .entry)) (now (grants .entry))) (now (grants .entry)) (now (table .exit)) (now (grants .exit)) r ⌝ }
@@ -119,15 +120,15 @@ pub extern "C" fn planner_plan(
     if presets.len() < PRESETS_BYTES {
         return TOO_SHORT;
     }
-    if grants.len() < PRESETS {
+    if grants.len() < MOST_PRESETS {
         return TOO_SHORT;
     }
     let head = head_of(frame);
-    let bank = load_presets(presets);
-    let planned = plan_by_value(head, bank, table);
+    let copied = load_presets(presets);
+    let planned = plan_by_value(head, copied, table);
     let answer = planned.answer;
     let granted = planned.grants;
-    if let PlanAnswer::Refused(cause) = answer {
+    if let PlanAnswer::Refused(_, cause) = answer {
         return refusal_number(cause);
     }
     save_grants(grants, granted);
@@ -140,7 +141,7 @@ pub extern "C" fn planner_plan(
 #[no_mangle]
 pub extern "C" fn planner_listing(
     text: &[u8],
-    table: &mut [u16],
+    table: &mut [Cell],
     out: &mut [u8],
     bytes: &mut u64,
 ) -> u32

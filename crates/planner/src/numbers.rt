@@ -1,6 +1,7 @@
 // The frame that a caller lends as sixteen numbers: its head and its clock out of them by value, and back. The last four are reserved: they are not read, and 0 is all
 // that is written there. Past the end of the numbers zeros are read and nothing is written, so that each function takes every slice.
 use frame::text::Ended;
+use station::limits::MOST_BRIDGES;
 use station::types::Head;
 use station::types::NO_HEAD;
 ghost use mathlib.Core.Path.{_≡_};
@@ -66,11 +67,11 @@ pub(crate) fn save_clock(frame: &mut [u64], clock: usize)
 }
 
 // Writes the masks of the busy slots to their places.
-fn save_masks(frame: &mut [u64], busy: [u64; 8])
+fn save_masks(frame: &mut [u64], busy: [u64; MOST_BRIDGES])
     ensures { λ _. ⌜ now (frame .exit) ≡ sets (now (frame .entry)) 4 busy ⌝ }
 {
     let mut b = 0;
-    while b < 8 {
+    while b < MOST_BRIDGES {
         set_number(frame, 4 + b, busy[b]);
         b += 1;
     }

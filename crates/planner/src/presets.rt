@@ -1,6 +1,6 @@
 // The preset records that a caller lends as bytes, four bytes a record: out of them by value, and back. Past the end of the bytes zeros are read and nothing is
 // written, so that each function takes every slice.
-use crate::sizes::PRESETS;
+use station::limits::MOST_PRESETS;
 use station::types::NO_PRESETS;
 use station::types::Preset;
 ghost use mathlib.Core.Path.{_≡_};
@@ -8,6 +8,7 @@ ghost use mathlib.Core.List.{[], _∷_};
 ghost use Prim.Native.Nat.{_*_, _<_};
 ghost use lib.ListN.{getD, set};
 ghost use lib.Seq.{sets};
+ghost use Rattle.station.specs.Limits.{mostPresets};
 ghost use Rattle.planner.specs.Layout.{recordAt, recordsIn, bytesOf, bytesOver};
 
 // The byte at a place; 0 past the end.
@@ -31,7 +32,7 @@ pub(crate) fn set_byte(bytes: &mut [u8], i: usize, given: u8)
 
 // The record at a place.
 fn preset_at(presets: &[u8], i: usize) -> Preset
-    requires { ⌜ i < 32 ⌝ }
+    requires { ⌜ i < mostPresets ⌝ }
     ensures { λ r. ⌜ r ≡ recordAt (now (presets .entry)) i ⌝ }
 {
     let at = 4 * i;
@@ -44,21 +45,21 @@ fn preset_at(presets: &[u8], i: usize) -> Preset
 }
 
 // The 32 records of the first 128 bytes.
-pub(crate) fn load_presets(presets: &[u8]) -> [Preset; PRESETS]
+pub(crate) fn load_presets(presets: &[u8]) -> [Preset; MOST_PRESETS]
     ensures { λ r. ⌜ r ≡ recordsIn (now (presets .entry)) ⌝ }
 {
-    let mut bank = NO_PRESETS;
+    let mut copied = NO_PRESETS;
     let mut i = 0;
-    while i < PRESETS {
-        bank[i] = preset_at(presets, i);
+    while i < MOST_PRESETS {
+        copied[i] = preset_at(presets, i);
         i += 1;
     }
-    bank
+    copied
 }
 
 // Writes one record to its place.
 fn set_preset(presets: &mut [u8], i: usize, given: Preset)
-    requires { ⌜ i < 32 ⌝ }
+    requires { ⌜ i < mostPresets ⌝ }
     ensures { λ _. ⌜ now (presets .exit) ≡ sets (now (presets .entry)) (4 * i) (bytesOf (given ∷ [])) ⌝ }
 {
     let at = 4 * i;
@@ -69,12 +70,12 @@ fn set_preset(presets: &mut [u8], i: usize, given: Preset)
 }
 
 // Writes 32 records over the first 128 bytes.
-pub(crate) fn save_presets(presets: &mut [u8], bank: [Preset; PRESETS])
-    ensures { λ _. ⌜ now (presets .exit) ≡ bytesOver bank (now (presets .entry)) ⌝ }
+pub(crate) fn save_presets(presets: &mut [u8], copied: [Preset; MOST_PRESETS])
+    ensures { λ _. ⌜ now (presets .exit) ≡ bytesOver copied (now (presets .entry)) ⌝ }
 {
     let mut i = 0;
-    while i < PRESETS {
-        let given = bank[i];
+    while i < MOST_PRESETS {
+        let given = copied[i];
         set_preset(presets, i, given);
         i += 1;
     }

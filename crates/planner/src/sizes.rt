@@ -1,13 +1,8 @@
-// How long what a caller lends has to be, counted in its elements, and how long a text may be.
+// How long what a caller lends has to be, counted in its elements, where document 01 says it in others.
+use station::limits::LEAST_RECORDS;
 
 // The numbers of a frame.
 pub const FRAME_NUMBERS: usize = 16;
 
-// Document 01's most presets: so many records there are, and so many grants, one byte each.
-pub const PRESETS: usize = 32;
-
-// The bytes of those records, four a record.
-pub const PRESETS_BYTES: usize = 128;
-
-// Document 01's longest text, in bytes.
-pub const TEXT_BYTES: usize = 32768;
+// The bytes of the preset records, four a record.
+pub const PRESETS_BYTES: usize = 4 * LEAST_RECORDS;

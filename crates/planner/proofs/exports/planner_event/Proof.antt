@@ -48,13 +48,13 @@ returns-3 c =
     let saved = count .before .before .before in
     let event = saved .before .before .before .before in
     let clock = event .before in
-    let bank = clock .before .before .before in
-    let head = bank .before in
+    let copied = clock .before .before .before in
+    let head = copied .before in
     let enough = head .before .before in
     let few = enough .before in
     let a = few .before .before .before .before .before .args in
-    event-handed (a .frame .now) (a .presets .now) (a .table .now) (a .line .now) (head .head-of .result) (bank .load-presets .result) (clock .clock-of .result)
-    (event .event-by-value .result) (few .if1 .left) (enough .if2 .left) (head .head-of .ensures) (bank .load-presets .ensures) (clock .clock-of .ensures)
+    event-handed (a .frame .now) (a .presets .now) (a .table .now) (a .line .now) (head .head-of .result) (copied .load-presets .result) (clock .clock-of .result)
+    (event .event-by-value .result) (few .if1 .left) (enough .if2 .left) (head .head-of .ensures) (copied .load-presets .ensures) (clock .clock-of .ensures)
     (event .event-by-value .ensures .0) (saved .save-clock .ensures) (count .answer-count .ensures) (c .answer-number .ensures)
 
 pub planner-event-spec : {M : Type 1} → statement M

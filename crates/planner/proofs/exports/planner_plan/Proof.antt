@@ -44,14 +44,14 @@ returns-4 : tie.Need-returns-4
 returns-4 c =
     let met = c .before .before in
     let plan = met .before .before .before .before .before in
-    let bank = plan .before .before in
-    let head = bank .before in
+    let copied = plan .before .before in
+    let head = copied .before in
     let enough = head .before in
     let some = enough .before in
     let few = some .before in
     let a = few .before .before .before .before .before .args in
-    refused-handed (a .frame .now) (a .presets .now) (a .table .now) (a .grants .now) (head .head-of .result) (bank .load-presets .result) (plan .plan-by-value .result)
-    (few .if1 .left) (some .if2 .left) (enough .if3 .left) (head .head-of .ensures) (bank .load-presets .ensures) (plan .plan-by-value .ensures .0)
+    refused-handed (a .frame .now) (a .presets .now) (a .table .now) (a .grants .now) (head .head-of .result) (copied .load-presets .result) (plan .plan-by-value .result)
+    (few .if1 .left) (some .if2 .left) (enough .if3 .left) (head .head-of .ensures) (copied .load-presets .ensures) (plan .plan-by-value .ensures .0)
     (met .answer .given .1) (c .refusal-number .ensures)
 
 enum-told : tie.Need-enum-told
@@ -71,14 +71,14 @@ returns-5 c =
     let saved = c .before .before in
     let told = saved .before .before in
     let plan = told .before .before .before .before .before in
-    let bank = plan .before .before in
-    let head = bank .before in
+    let copied = plan .before .before in
+    let head = copied .before in
     let enough = head .before in
     let some = enough .before in
     let few = some .before in
     let a = few .before .before .before .before .before .args in
-    made-handed (a .frame .now) (a .presets .now) (a .table .now) (a .grants .now) (head .head-of .result) (bank .load-presets .result) (plan .plan-by-value .result)
-    (few .if1 .left) (some .if2 .left) (enough .if3 .left) (head .head-of .ensures) (bank .load-presets .ensures) (plan .plan-by-value .ensures .0)
+    made-handed (a .frame .now) (a .presets .now) (a .table .now) (a .grants .now) (head .head-of .result) (copied .load-presets .result) (plan .plan-by-value .result)
+    (few .if1 .left) (some .if2 .left) (enough .if3 .left) (head .head-of .ensures) (copied .load-presets .ensures) (plan .plan-by-value .ensures .0)
     (told .enum-told .given .1) (saved .save-grants .ensures)
 
 pub planner-plan-spec : {M : Type 1} → statement M

@@ -65,13 +65,13 @@ returns-4 c =
     let numbers = records .before .before .before .before in
     let ran = numbers .before .before .before .before .before .before .before .before in
     let clock = ran .before .before in
-    let bank = clock .before .before .before in
-    let head = bank .before .before in
+    let copied = clock .before .before .before in
+    let head = copied .before .before in
     let enough = head .before .before in
     let few = enough .before in
     let a = few .before .before .before .before .before .before .before .args in
-    text-handed (a .text .now) (a .frame .now) (a .presets .now) (a .table .now) (a .out .now) (head .head-of .result) (bank .load-presets .result) (clock .clock-of .result)
-    (ran .run-text-by-value .result) (few .if2 .left) (enough .if3 .left) (head .head-of .ensures) (bank .load-presets .ensures) (clock .clock-of .ensures)
+    text-handed (a .text .now) (a .frame .now) (a .presets .now) (a .table .now) (a .out .now) (head .head-of .result) (copied .load-presets .result) (clock .clock-of .result)
+    (ran .run-text-by-value .result) (few .if2 .left) (enough .if3 .left) (head .head-of .ensures) (copied .load-presets .ensures) (clock .clock-of .ensures)
     (ran .run-text-by-value .ensures .0) (numbers .save-run .ensures) (records .save-presets .ensures) (place .end-place .ensures) (c .end-number .ensures)
 
 pub planner-run-text-spec : {M : Type 1} → statement M

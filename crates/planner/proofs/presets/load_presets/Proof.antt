@@ -9,10 +9,10 @@ use Rattle.planner.proofs.presets.load_presets.Statement.{statement}
 use Rattle.planner.proofs.presets.load_presets.Tie as tie
 
 abbrev Inv-loop : tie.InvT-loop
-Inv-loop presets bank₀ i₀ bank i = (i ≤ 32) × (length bank ≡ 32) × (take i bank ≡ take i (recordsIn presets))
+Inv-loop presets bank₀ i₀ copied i = (i ≤ 32) × (length copied ≡ 32) × (take i copied ≡ take i (recordsIn presets))
 
 abbrev μ-loop : tie.MeasureT-loop
-μ-loop presets bank₀ i₀ bank i = 32 - i
+μ-loop presets bank₀ i₀ copied i = 32 - i
 
 loop-holds : tie.Need-loop-holds Inv-loop μ-loop
 loop-holds c = (omega arith, refl, refl)
@@ -20,11 +20,11 @@ loop-holds c = (omega arith, refl, refl)
 preset-at-requires : tie.Need-preset-at-requires Inv-loop μ-loop
 preset-at-requires c κs = omega arith
 
-mul-bank : tie.Need-mul-bank Inv-loop μ-loop
-mul-bank c = omega arith
+mul-copied : tie.Need-mul-copied Inv-loop μ-loop
+mul-copied c = omega arith
 
-array-set-from-bank : tie.Need-array-set-from-bank Inv-loop μ-loop
-array-set-from-bank c = omega arith
+array-set-from-copied : tie.Need-array-set-from-copied Inv-loop μ-loop
+array-set-from-copied c = omega arith
 
 add-i : tie.Need-add-i Inv-loop μ-loop
 add-i c = omega arith
@@ -36,12 +36,12 @@ loop-again : tie.Need-loop-again Inv-loop μ-loop
 loop-again c =
     let l = c .before .before .loop in
     let a = c .before .before .before .before .args in
-    (omega arith, length-set (l .bank) (l .i) (c .preset-at .result) ∙ l .inv .1, read-more (l .bank) (a .presets .now) (l .i) (omega arith) (l .inv .1) (l .inv .2) (c .preset-at .ensures))
+    (omega arith, length-set (l .copied) (l .i) (c .preset-at .result) ∙ l .inv .1, read-more (l .copied) (a .presets .now) (l .i) (omega arith) (l .inv .1) (l .inv .2) (c .preset-at .ensures))
 
 returns : tie.Need-returns Inv-loop μ-loop
 returns c =
     let l = c .before .loop in
-    read-all (l .bank) (c .before .before .before .args .presets .now) (l .i) (omega arith) (omega arith) (l .inv .1) (l .inv .2)
+    read-all (l .copied) (c .before .before .before .args .presets .now) (l .i) (omega arith) (omega arith) (l .inv .1) (l .inv .2)
 
 pub load-presets-spec : {M : Type 1} → statement M
 load-presets-spec =
@@ -51,8 +51,8 @@ load-presets-spec =
     μ-loop
     loop-holds
     preset-at-requires
-    mul-bank
-    array-set-from-bank
+    mul-copied
+    array-set-from-copied
     add-i
     loop-less
     loop-again

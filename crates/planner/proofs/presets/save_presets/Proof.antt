@@ -12,10 +12,10 @@ use Rattle.planner.proofs.presets.save_presets.Statement.{statement}
 use Rattle.planner.proofs.presets.save_presets.Tie as tie
 
 abbrev Inv-loop : tie.InvT-loop
-Inv-loop presets₀ bank i₀ presets i = (i ≤ 32) × (length presets ≡ length presets₀) × (sets presets (4 * i) (bytesOf (drop i bank)) ≡ bytesOver bank presets₀)
+Inv-loop presets₀ copied i₀ presets i = (i ≤ 32) × (length presets ≡ length presets₀) × (sets presets (4 * i) (bytesOf (drop i copied)) ≡ bytesOver copied presets₀)
 
 abbrev μ-loop : tie.MeasureT-loop
-μ-loop presets₀ bank i₀ presets i = 32 - i
+μ-loop presets₀ copied i₀ presets i = 32 - i
 
 loop-holds : tie.Need-loop-holds Inv-loop μ-loop
 loop-holds c = (omega arith, refl, refl)

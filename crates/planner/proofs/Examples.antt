@@ -1,0 +1,72 @@
+-- The layout of what is lent by worked examples, read and written, and the lengths at both edges. Each is by computing.
+--
+-- In order: the bytes of two preset records (`records-laid-out`); the sixteen numbers of a frame (`frame-laid-out`); 8 for what is too short, and 10 before it
+-- (`lengths-tried`); what is returned of a refusal and of what is accepted (`numbers-returned`).
+-- Assumes nothing.
+use Prim.Native.Nat.{ℕ}
+use mathlib.Core.Path.{_≡_, refl}
+use mathlib.Core.List.{List, [], _∷_, _++_}
+use lib.ListN.{take, replicate}
+use Rattle.laws.specs.Lists.{tabulate}
+use Rattle.station.specs.Refusal.{tooShort, textTooLong, notWellFormed, firstOf}
+use Rattle.station.specs.WriteHead as writing
+use Rattle.station.specs.declared.types.Head.{Head}
+use Rattle.station.specs.declared.types.Preset.{Preset}
+use Rattle.placing.specs.Outcomes.{cost, PlanAnswer}
+use Rattle.frame.specs.Event as event
+use Rattle.frame.specs.Text.{notRead}
+use Rattle.frame.specs.TextDone.{listed, refusedAt}
+use Rattle.planner.specs.Layout.{firstRecords, recordsIn, bytesOf, bytesOver, headOfNumbers, clockOfNumbers, headOver, numbersOver, clockOver}
+use Rattle.planner.specs.Exports.{endReturned, answerReturned, planReturned, writtenReturned, textOn, eventOn, planOn}
+
+-- preset 7 of priority 3 with 5 mandatory and 9 optional slots, and preset 255 of priority 9 with 64 and 0
+abbrev two : List Preset
+two = record { number = 7; priority = 3; mandatory = 5; optional = 9 } ∷ record { number = 255; priority = 9; mandatory = 64; optional = 0 } ∷ []
+
+abbrev eight : List ℕ
+eight = 7 ∷ 3 ∷ 5 ∷ 9 ∷ 255 ∷ 9 ∷ 64 ∷ 0 ∷ []
+
+pub records-laid-out : (bytesOf two ≡ eight) × (take 2 (recordsIn eight) ≡ two) × (bytesOver two (replicate 10 1) ≡ eight ++ (1 ∷ 1 ∷ []))
+unfolding bytesOf firstRecords
+records-laid-out = (refl, refl, refl)
+
+-- 4 slots, 2 bridges, the second busy in slots 2 and 3, and 2 presets
+abbrev head : Head
+head = record { slots = 4; bridges = 2; busy = 0 ∷ 6 ∷ replicate 6 0; count = 2 }
+
+-- with the clock 3: twelve numbers
+abbrev twelve : List ℕ
+twelve = 4 ∷ 2 ∷ 2 ∷ 3 ∷ 0 ∷ 6 ∷ replicate 6 0
+
+pub frame-laid-out : (headOfNumbers (twelve ++ replicate 4 9) ≡ head)
+    × (clockOfNumbers (twelve ++ replicate 4 9) ≡ 3)
+    × (headOver head 3 (replicate 17 9) ≡ twelve ++ replicate 5 9)
+    × (numbersOver head 3 (replicate 17 9) ≡ twelve ++ replicate 4 0 ++ replicate 1 9)
+    × (clockOver 5 (twelve ++ replicate 4 9) ≡ 4 ∷ 2 ∷ 2 ∷ 5 ∷ 0 ∷ 6 ∷ replicate 6 0 ++ replicate 4 9)
+unfolding tabulate
+frame-laid-out = (refl, refl, refl, refl, refl)
+
+-- one slot, one bridge, no preset, with the clock 4, which 11 refuses
+abbrev late : List ℕ
+late = 1 ∷ 1 ∷ 0 ∷ 4 ∷ replicate 12 0
+
+pub lengths-tried : (eventOn (take 15 late) (replicate 128 0) (replicate 512 0) [] .answer ≡ event.refused 0 tooShort)
+    × (eventOn late (replicate 127 0) (replicate 512 0) [] .answer ≡ event.refused 0 tooShort)
+    × (planOn (take 15 late) (replicate 128 0) (replicate 512 0) (replicate 32 0) .answer ≡ PlanAnswer.refused 0 tooShort)
+    × (planOn late (replicate 127 0) (replicate 512 0) (replicate 32 0) .answer ≡ PlanAnswer.refused 0 tooShort)
+    × (planOn late (replicate 128 0) (replicate 512 0) (replicate 31 0) .answer ≡ PlanAnswer.refused 0 tooShort)
+    × (textOn (replicate 32769 10) [] [] [] [] ≡ notRead 0 textTooLong)
+    × (textOn [] (take 15 late) (replicate 128 0) (replicate 512 0) (replicate 8192 0) ≡ notRead 0 tooShort)
+    × (textOn [] late (replicate 127 0) (replicate 512 0) (replicate 8192 0) ≡ notRead 0 tooShort)
+unfolding eventOn planOn textOn firstOf
+lengths-tried = (refl, refl, refl, refl, refl, refl, refl, refl)
+
+-- number 11 with line 0 of an event, number 10 with line 0 of a text and 7 bytes of a listing; 0 with the clock 3 and with 2 cells evicted
+pub numbers-returned : (answerReturned (event.refused 0 notWellFormed) ≡ record { number = 11; values = 0 ∷ [] })
+    × (endReturned (refusedAt 5 textTooLong) ≡ record { number = 10; values = 5 ∷ [] })
+    × (endReturned (listed 7) ≡ record { number = 0; values = 7 ∷ [] })
+    × (answerReturned (event.clockNow 3) ≡ record { number = 0; values = 3 ∷ [] })
+    × (answerReturned (event.taken (cost 2)) ≡ record { number = 0; values = 2 ∷ [] })
+    × (planReturned (PlanAnswer.granted (1 ∷ 2 ∷ [])) ≡ record { number = 0; values = 1 ∷ 2 ∷ [] })
+    × (writtenReturned (writing.refused 0 tooShort) ≡ record { number = 8; values = 0 ∷ [] })
+numbers-returned = (refl, refl, refl, refl, refl, refl, refl)
