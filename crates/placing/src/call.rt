@@ -40,7 +40,7 @@ ghost use Rattle.placing.specs.CallDone.{CallDone};
 ghost use Rattle.placing.specs.Entries.{CallEntered, CallEntry};
 ghost use Rattle.placing.specs.method.CallParts.{CallCarriedOut};
 
-// The answer: the number of optional cells that the call evicts, or the cause.
+// The answer: the number of optional cells that the call evicts, or the line and the cause of its refusal.
 pub enum CallAnswer {
     Taken(usize),
     Refused(usize, Refusal),

@@ -18,6 +18,15 @@ pub const CALL: Cell = 1024;
 
 pub const VALUES: Cell = 1280;
 
+// The kinds that are not empty.
+pub const BUSY_KIND: u16 = 1;
+
+pub const MANDATORY_KIND: u16 = 2;
+
+pub const OPTIONAL_KIND: u16 = 3;
+
+pub const CALL_KIND: u16 = 4;
+
 // The kind of a cell.
 pub fn kind_of(v: Cell) -> u16
     ensures { λ r. ⌜ r ≡ kindOf v ⌝ }
@@ -36,7 +45,7 @@ pub fn number_in(v: Cell) -> usize
 pub fn is_optional(v: Cell) -> bool
     ensures { λ r. ⌜ r ≡ isOptional v ⌝ }
 {
-    kind_of(v) == OPTIONAL / 256
+    kind_of(v) == OPTIONAL_KIND
 }
 
 // Whether a call may evict a cell.
@@ -50,5 +59,5 @@ pub(crate) fn is_evictable(v: Cell) -> bool
 pub fn is_call(v: Cell) -> bool
     ensures { λ r. ⌜ r ≡ isCall v ⌝ }
 {
-    kind_of(v) == CALL / 256
+    kind_of(v) == CALL_KIND
 }

@@ -34,7 +34,7 @@ ghost use Rattle.placing.specs.Entries.{PlanEntered};
 ghost use Rattle.placing.specs.Types.{filled};
 ghost use Rattle.placing.specs.method.PlanParts.{busyTo};
 
-// The answer: every mandatory slot is granted, or the cause.
+// The answer: every mandatory slot is granted, or the line and the cause of the refusal.
 pub enum PlanAnswer {
     Granted,
     Refused(usize, Refusal),

@@ -26,7 +26,7 @@ ghost use Rattle.station.specs.Types.{presetIn, presetsIn, headIn, valid
 ghost use Rattle.station.specs.WriteHead.{WroteHead};
 ghost use Rattle.station.specs.Wrote.{Wrote};
 
-// How writing a head ends: the length of the text, or the cause for which nothing was written.
+// How writing ends: the length of the text, or the line and the cause for which nothing was written.
 pub enum Writing {
     Written(usize),
     Refused(usize, Refusal),

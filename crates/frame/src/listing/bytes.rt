@@ -3,10 +3,10 @@
 // Each writer takes the output and a place, and answers the next place. It is total, as those of station's output.rt are: bytes past the end of the
 // output are left out.
 use crate::types::Answer;
-use placing::cells::BUSY;
+use placing::cells::BUSY_KIND;
 use placing::cells::Cell;
-use placing::cells::MANDATORY;
-use placing::cells::OPTIONAL;
+use placing::cells::MANDATORY_KIND;
+use placing::cells::OPTIONAL_KIND;
 use placing::cells::kind_of;
 use placing::cells::number_in;
 use station::causes::cause_number;
@@ -21,13 +21,12 @@ use station::types::Preset;
 use station::types::Refusal;
 ghost use mathlib.Core.Path.{_≡_};
 ghost use Prim.Native.Nat.{_≤_, _<_};
-ghost use lib.ListN.{getD};
 ghost use Rattle.station.specs.Limits.{mostSlots, mostBridges, mostPresets};
 ghost use Rattle.station.specs.Types.{refusalIn, presetsIn};
 ghost use Rattle.station.specs.Text.{bytes, _then_};
 ghost use Rattle.station.specs.Decimal.{digits};
 ghost use Rattle.station.specs.Wrote.{Wrote, Left};
-ghost use Rattle.placing.specs.Table.{kindOf, numberIn};
+ghost use Rattle.placing.specs.Table.{kindOf, numberIn, cellAt};
 ghost use Rattle.frame.specs.Types.{answerIn};
 ghost use Rattle.frame.specs.Listing.{refusedLine, grantedLine, answerLine, grantedLines, cellText, cellTexts, slotLines};
 ghost use Rattle.frame.specs.method.SlotLines.{ofBridges, letterOf, lineOfSlot, linesOfSlots};
@@ -111,18 +110,18 @@ pub(crate) fn granted_lines(
 fn letter(kind: u16) -> u8
     ensures { λ r. ⌜ r ≡ letterOf kind ⌝ }
 {
-    if kind == MANDATORY / 256 {
+    if kind == MANDATORY_KIND {
         return b'm';
     }
-    if kind == OPTIONAL / 256 {
+    if kind == OPTIONAL_KIND {
         return b'o';
     }
     b'c'
 }
 
 // The cell of the table at a place; 0, an empty one, past its end.
-fn cell_at(table: &[Cell], position: usize) -> u16
-    ensures { λ r. ⌜ r ≡ getD (now (table .entry)) position 0 ⌝ }
+fn cell_at(table: &[Cell], position: usize) -> Cell
+    ensures { λ r. ⌜ r ≡ cellAt (now (table .entry)) position ⌝ }
 {
     if position < table.len() {
         return table[position];
@@ -138,7 +137,7 @@ fn next_cell(out: &mut [u8], at: usize, value: Cell) -> usize
     if kind == 0 {
         return word(out, at, b" 0");
     }
-    if kind == BUSY / 256 {
+    if kind == BUSY_KIND {
         return word(out, at, b" -");
     }
     let first = letter(kind);
