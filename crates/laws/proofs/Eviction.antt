@@ -1,7 +1,7 @@
 -- Eviction: the search takes the fewest cells after every position, and its set is the first of the smallest ones.
 --
 -- In order: sets of cells and what they add; the search over any shortage (how many cells it takes, that no set does better, fewest after every
--- position, for a priority and in all), and from free cells that agree below n (`searched-same`, `added-same`); the first smallest set; the excess over a capacity is a shortage.
+-- position, for a priority and in all), and from free cells that agree below n (`searched-same`, `added-same`); over two shortages that agree where it looks (`searched-agree`); the first smallest set; the excess over a capacity is a shortage.
 -- What one cell more does to a capacity is in Capacities.
 -- Assumes nothing.
 use Prim.Native.Nat.{ℕ, zero, suc, _+_, _-_, _≤_, _<_, zero-le}
@@ -276,6 +276,48 @@ module _ (n : ℕ) (short : (ℕ → ℕ) → ℕ) (S : Shortage n short) where
   added-same x y (z ∷ zs) [] h = h
   added-same x y (z ∷ zs) (true ∷ e) h = added-same (put x z) (put y z) zs e (same-put x y z h)
   added-same x y (z ∷ zs) (false ∷ e) h = added-same x y zs e h
+
+-- ---- the search over another shortage that agrees where it looks
+
+-- the free cells with any set of the cells are at most m in each of n slots
+abbrev pub Bounded : ℕ → ℕ → (ℕ → ℕ) → List ℕ → Type 0
+Bounded n m x zs = (e : List Bool) (s : ℕ) → s < n → added x zs e s ≤ m
+
+module _ (n m : ℕ) (short other : (ℕ → ℕ) → ℕ) (agree : (x : ℕ → ℕ) → ((s : ℕ) → s < n → x s ≤ m) → short x ≡ other x) where
+  -- no cell, and the first one alone
+  bounded-here : (x : ℕ → ℕ) (zs : List ℕ) → Bounded n m x zs → (s : ℕ) → s < n → x s ≤ m
+  unfolding added
+  bounded-here x [] h s l = h [] s l
+  bounded-here x (z ∷ zs) h s l = h [] s l
+
+  bounded-yes : (x : ℕ → ℕ) (z : ℕ) (zs : List ℕ) → Bounded n m x (z ∷ zs) → Bounded n m (put x z) zs
+  unfolding added
+  bounded-yes x z zs h e s l = h (true ∷ e) s l
+
+  bounded-no : (x : ℕ → ℕ) (z : ℕ) (zs : List ℕ) → Bounded n m x (z ∷ zs) → Bounded n m x zs
+  unfolding added
+  bounded-no x z zs h e s l = h (false ∷ e) s l
+
+  pub searched-agree : (x : ℕ → ℕ) (zs : List ℕ) → Bounded n m x zs → searched short x zs ≡ searched other x zs
+  unfolding searched
+  searched-agree x [] h = refl
+  searched-agree x (z ∷ zs) h = go (λ x′ b. searched-agree x′ zs b) (is (lowers short x z))
+    where
+      test : lowers other x z ≡ lowers short x z
+      test =
+          ap (λ (v : ℕ). ltb v (other x)) (sym (agree (put x z) (bounded-here (put x z) zs (bounded-yes x z zs h))))
+          ∙ ap (ltb (short (put x z))) (sym (agree x (bounded-here x (z ∷ zs) h)))
+
+      go : ((x′ : ℕ → ℕ) → Bounded n m x′ zs → searched short x′ zs ≡ searched other x′ zs) → Is (lowers short x z)
+          → searched short x (z ∷ zs) ≡ searched other x (z ∷ zs)
+      go ih (is-true t) =
+          searched-true short x z zs t
+          ∙ ap (λ (l : List Bool). true ∷ l) (ih (put x z) (bounded-yes x z zs h))
+          ∙ sym (searched-true other x z zs (test ∙ t))
+      go ih (is-false t) =
+          searched-false short x z zs t
+          ∙ ap (λ (l : List Bool). false ∷ l) (ih x (bounded-no x z zs h))
+          ∙ sym (searched-false other x z zs (test ∙ t))
 
 -- ---- the first smallest set, for any meaning of fitting
 

@@ -2,9 +2,9 @@
 --
 -- In order: no r exceeds its capacity by more, one does by as much (`excess-bounds`, `excess-reached`), so there is none exactly if no r exceeds it (`excess-none`);
 -- it is greatest at some r up to m or at the last r (`excess-at`), so it is the greater of
--- those up to m and of all needs over the capacity for m (`excess-few`); an example.
+-- those up to m and of all needs over the capacity for m (`excess-few`), which sums that are cut there give (`excess-cut`); an example.
 -- Assumes nothing.
-use Prim.Native.Nat.{ℕ, _+_, _-_, _≤_, _<_, max}
+use Prim.Native.Nat.{ℕ, _+_, _-_, _≤_, _<_, min, max}
 use native.Mathlib.Nat.{le-refl}
 use native.Mathlib.Omega.{arith}
 use mathlib.Core.Path.{_≡_, refl, ap}
@@ -90,6 +90,47 @@ module _ (k : ℕ) (c : ℕ → ℕ) (n : ℕ) (x : ℕ → ℕ) where
             pick (is-false l) =
                 let past = gt-of k m l in
                 omega (arith, ap over q, largest-all k c k (le-refl k), capacity-top n x m few k (omega arith))
+
+    -- Sums cut at m, with that of all needs in the last place, are enough: it is not less than that of the m largest, and the capacity for m is that for all.
+    pub excess-cut : (sums : ℕ → ℕ) (j : ℕ) → j ≡ min k m → ((r : ℕ) → r < j → sums r ≡ largest k c r) → sums j ≡ sum k c
+        → greatest j (λ r. sums r - capacity n x r) ≡ excess k c n x
+    excess-cut sums j e right total = omega (arith, greatest-le j cut (excess k c n x) down, up excess-at)
+      where
+        cut : ℕ → ℕ
+        cut r = sums r - capacity n x r
+
+        -- the last place is as good as that of all needs
+        last : cut j ≡ over k
+        last = go (is (leb k m))
+          where
+            go : Is (leb k m) → cut j ≡ over k
+            go (is-true l) =
+                let same : j ≡ k = omega (arith, e, le-of k m l) in
+                omega (arith, total, ap (capacity n x) same, largest-all k c k (le-refl k))
+            go (is-false l) =
+                let past = gt-of k m l in
+                let same : j ≡ m = omega (arith, e) in
+                omega (arith, total, ap (capacity n x) same, largest-all k c k (le-refl k), capacity-top n x m few k (omega arith))
+
+        down : (r : ℕ) → r ≤ j → cut r ≤ excess k c n x
+        down r l = go (is (eqb r j))
+          where
+            go : Is (eqb r j) → cut r ≤ excess k c n x
+            go (is-true q) = omega (arith, ap cut (eq-of r j q), last, greatest-bounds k over k (le-refl k))
+            go (is-false q) =
+                let other = ne-of r j q in
+                omega (arith, right r (omega arith), greatest-bounds k over r (omega (arith, e)))
+
+        up : ((r : ℕ) × (r ≤ k) × ((r ≤ m) ⊎ (r ≡ k)) × (over r ≡ excess k c n x)) → excess k c n x ≤ greatest j cut
+        up (r, low, inr q, w) = omega (arith, ap over q, last, greatest-bounds j cut j (le-refl j))
+        up (r, low, inl q, w) = go (is (eqb r j))
+          where
+            go : Is (eqb r j) → excess k c n x ≤ greatest j cut
+            go (is-true y) =
+                omega (arith, w, ap over (eq-of r j y), largest-part k c j, total, greatest-bounds j cut j (le-refl j))
+            go (is-false y) =
+                let other = ne-of r j y in
+                omega (arith, w, right r (omega (arith, e)), greatest-bounds j cut r (omega (arith, e)))
 
 -- ---- examples
 

@@ -201,6 +201,18 @@ sum-only-eqb n k v true h =
     sum-point n (λ r. only (eqb k r) v) k (h refl) (λ r l ne. rw (eqb-no k r (λ e. ne (sym e)))) ∙ rw (eqb-self k)
 sum-only-eqb n k v false h = sum-zero n (λ r. 0) (λ r l. refl)
 
+-- .. and at most one, where k may be past them
+pub sum-only-eqb-le : (n k v : ℕ) (c : Bool) → sum n (λ r. only (c && eqb k r) v) ≤ only c v
+sum-only-eqb-le n k v c = go (is (ltb k n))
+  where
+    past : (r : ℕ) → n ≤ k → r < n → (b : Bool) → only (b && eqb k r) v ≡ 0
+    past r h l true = rw (eqb-no k r (λ e. omega arith)) refl
+    past r h l false = refl
+
+    go : Is (ltb k n) → sum n (λ r. only (c && eqb k r) v) ≤ only c v
+    go (is-true e) = omega (arith, sum-only-eqb n k v c (λ y. lt-of k n e))
+    go (is-false e) = omega (arith, sum-zero n (λ r. only (c && eqb k r) v) (λ r l. past r (ge-of k n e) l c))
+
 -- ---- the greatest
 
 pub greatest-bounds : (n : ℕ) (f : ℕ → ℕ) (i : ℕ) → i ≤ n → f i ≤ greatest n f

@@ -2,24 +2,22 @@
 --
 -- In order: a call fits exactly if it fits into all the cells that it may use; an accepted call evicts just what its jobs exceed the empty cells by.
 -- Assumes nothing.
-use Prim.Native.Nat.{ℕ, _+_, _≤_, _<_}
+use Prim.Native.Nat.{ℕ, _+_, _<_}
 use native.Mathlib.Omega.{arith}
 use mathlib.Core.Path.{_≡_, sym, _∙_, ap}
 use mathlib.Core.Logic.{_↔_}
-use mathlib.Core.Bool.{Bool, true, false, _&&_, and-true, and-false}
+use mathlib.Core.Bool.{Bool, true, and-true}
 use mathlib.Core.List.{List}
 use lib.ListN.{length, length-map}
 use Rattle.laws.specs.Eviction.{added, ones}
-use Rattle.laws.proofs.Tests.{right-of}
 use Rattle.laws.proofs.Comparisons.{eq-of, eqb-yes}
-use Rattle.laws.proofs.Counts.{count-ext, count-imp, count-or}
+use Rattle.laws.proofs.Counts.{count-ext, count-or}
 use Rattle.laws.proofs.Eviction.{searched-best, searched-ones, searched-long}
 use Rattle.station.specs.Head.{Head, Job, Valid}
-use Rattle.placing.specs.Table.{Cells, WellFormed, isEmpty}
-use Rattle.placing.specs.Valid.{usable}
-use Rattle.placing.specs.Call.{CellPlace, evictable, evictionOrder, slotsOf, inSet, emptyFree, emptyCount, usableCount, callShort, evictedSet, callFits, isEvictable}
+use Rattle.placing.specs.Table.{Cells, WellFormed}
+use Rattle.placing.specs.Call.{CellPlace, evictable, evictionOrder, slotsOf, inSet, emptyFree, emptyCount, usableCount, callShort, evictedSet, callFits}
 use Rattle.placing.proofs.CallShort.{call-shortage}
-use Rattle.placing.proofs.EvictionOrder.{those, length-those, in-those, set-in-slot, in-set-evictable}
+use Rattle.placing.proofs.EvictionOrder.{those, length-those, in-those, set-in-slot, empty-apart, added-usable}
 
 module _ (h : Head) (clock : ℕ) (jobs : List Job) (t : Cells) (valid : Valid h) (formed : WellFormed h t) where
   abbrev zs : List ℕ
@@ -33,10 +31,6 @@ module _ (h : Head) (clock : ℕ) (jobs : List Job) (t : Cells) (valid : Valid h
   unfolding all
   all-long = length-those (λ s b. true) (evictionOrder h clock t) ∙ sym (length-map (evictionOrder h clock t) (λ (z : CellPlace). z .slot))
 
-  apart : (s b : ℕ) → emptyFree clock t s b ≡ true → evictable h clock t s b ≡ false
-  apart s b e =
-      ap (λ (v : ℕ). usable clock s && isEvictable h v) (eq-of (t s b) 0 (right-of (usable clock s) (isEmpty (t s b)) e)) ∙ and-false (usable clock s)
-
   -- what the order adds to the empty cells of a slot, taken whole, makes all that the call may use there
   all-added : (s : ℕ) → s < h .slots → added (emptyCount h clock t) zs all s ≡ usableCount h clock t s
   unfolding all
@@ -45,7 +39,7 @@ module _ (h : Head) (clock : ℕ) (jobs : List Job) (t : Cells) (valid : Valid h
       ∙ ap (λ (n : ℕ). emptyCount h clock t s + n)
       (count-ext (h .bridges) (λ b. inSet (evictionOrder h clock t) all s b) (λ b. evictable h clock t s b)
       (λ b m. in-those h clock t valid formed (λ r a. true) s b l m ∙ and-true (evictable h clock t s b)))
-      ∙ sym (count-or (h .bridges) (λ b. emptyFree clock t s b) (λ b. evictable h clock t s b) (λ b m. apart s b))
+      ∙ sym (count-or (h .bridges) (λ b. emptyFree clock t s b) (λ b. evictable h clock t s b) (λ b m. empty-apart h clock t s b))
 
   -- The call fits exactly if, for every r, its r longest jobs together do not exceed the capacity for r in the cells that it may use.
   pub fits-by-room : (callFits h clock jobs t ≡ true) ↔ (callShort h jobs (usableCount h clock t) ≡ 0)
@@ -54,7 +48,7 @@ module _ (h : Head) (clock : ℕ) (jobs : List Job) (t : Cells) (valid : Valid h
     λ e. omega (
       arith,
       eq-of (callShort h jobs (added (emptyCount h clock t) zs (evictedSet h clock jobs t))) 0 e,
-      call-shortage h jobs .mono (added (emptyCount h clock t) zs (evictedSet h clock jobs t)) (usableCount h clock t) (λ s l. fewer s l),
+      call-shortage h jobs .mono (added (emptyCount h clock t) zs (evictedSet h clock jobs t)) (usableCount h clock t) (λ s l. added-usable h clock t (evictedSet h clock jobs t) s l),
     ),
     λ e. eqb-yes (callShort h jobs (added (emptyCount h clock t) zs (evictedSet h clock jobs t))) 0 (omega (
       arith,
@@ -62,16 +56,6 @@ module _ (h : Head) (clock : ℕ) (jobs : List Job) (t : Cells) (valid : Valid h
       call-shortage h jobs .mono (usableCount h clock t) (added (emptyCount h clock t) zs all) (λ s l. omega (arith, all-added s l)),
     )),
   )
-    where
-      fewer : (s : ℕ) → s < h .slots → added (emptyCount h clock t) zs (evictedSet h clock jobs t) s ≤ usableCount h clock t s
-      fewer s l =
-          omega (
-            arith,
-            set-in-slot h clock t valid formed (emptyCount h clock t) (evictedSet h clock jobs t) s l,
-            count-imp (h .bridges) (λ b. inSet (evictionOrder h clock t) (evictedSet h clock jobs t) s b) (λ b. evictable h clock t s b)
-                (λ b m e. in-set-evictable h clock t (evictedSet h clock jobs t) s b e .0),
-            count-or (h .bridges) (λ b. emptyFree clock t s b) (λ b. evictable h clock t s b) (λ b m. apart s b),
-          )
 
   -- and then it evicts as many cells as, at the worst r, its r longest jobs exceed the capacity for r in the empty cells
   pub evicts-excess : callFits h clock jobs t ≡ true → ones (evictedSet h clock jobs t) ≡ callShort h jobs (emptyCount h clock t)

@@ -3,7 +3,7 @@
 -- In order: what every place of a walk has, and every two of them (`all-downward`, `pairwise-downward`); weights of places (`weight-downward`); sets
 -- of places and their weights; the set of a test (`those`, `length-those`); rank and priority of a preset's number (`rankOf-lt`,
 -- `rankOf-injective`, `priorityOf-le`).
--- Then the eviction order: a set's cells are evictable (`in-set-evictable`); each evictable cell stands in it once (`weight-order`, `order-once`); it
+-- Then the eviction order: a set's cells are evictable (`in-set-evictable`), and no more of a slot than the call may use (`added-usable`); each evictable cell stands in it once (`weight-order`, `order-once`); it
 -- is document 01's order (`order-is`); a set as its cells (`set-weight`, `set-size`, `set-in-slot`); the set of a test (`in-those`); the marks of a
 -- priority (`marked-cells`, `order-rising`).
 -- Assumes nothing.
@@ -12,7 +12,7 @@ use native.Mathlib.Nat.{le-refl}
 use native.Mathlib.Omega.{arith}
 use mathlib.Core.Path.{_≡_, refl, sym, _∙_, ap, subst}
 use mathlib.Core.Logic.{_⊎_, inl, inr}
-use mathlib.Core.Bool.{Bool, true, false, cond, _&&_, _||_}
+use mathlib.Core.Bool.{Bool, true, false, cond, _&&_, _||_, and-false}
 use mathlib.Core.List.{List, [], _∷_, _++_, map}
 use lib.ListN.{length, replicate}
 use lib.Dec.{ltb, leb, eqb}
@@ -20,17 +20,17 @@ use Rattle.laws.specs.Sums.{bit, only, sum, count, ascending}
 use Rattle.laws.specs.Eviction.{added, ones, evictedIn, marked, Rising, high, low}
 use Rattle.laws.proofs.Tests.{Is, is-true, is-false, is, clash, test-ext, both, left-of, right-of, or-left, or-right, or-cases}
 use Rattle.laws.proofs.Comparisons.{lt-of, ge-of, le-of, eq-of, eqb-self, leb-yes, eqb-no, eqb-comm}
-use Rattle.laws.proofs.Sums.{only-or, sum-ext, sum-zero, sum-swap, sum-point, sum-only-eqb}
-use Rattle.laws.proofs.Counts.{bit-le, only-bit, only-bit-comm}
+use Rattle.laws.proofs.Sums.{only-or, only-le-self, sum-ext, sum-le, sum-zero, sum-swap, sum-point, sum-only-eqb, sum-only-eqb-le}
+use Rattle.laws.proofs.Counts.{bit-le, only-bit, only-bit-comm, count-or}
 use Rattle.laws.proofs.Lists.{All, none, more, Pairwise, empty, first, all-imp, all-append, pairwise-imp, pairwise-append, pairwise-at}
 use Rattle.laws.proofs.Order.{Total, order-of-position, position-below, position-injective, ascending-total}
 use Rattle.laws.proofs.Eviction.{added-at}
 use Rattle.station.specs.Head.{Head, Valid, presetAt}
-use Rattle.placing.specs.Table.{Cells, WellFormed, cells, presetCount, numberAt, numberIn, hasPreset, isMandatory, isOptional}
+use Rattle.placing.specs.Table.{Cells, WellFormed, cells, presetCount, numberAt, numberIn, hasPreset, isEmpty, isMandatory, isOptional}
 use Rattle.placing.specs.Valid.{usable, priorityOf}
 use Rattle.placing.specs.Plan.{rank}
 use Rattle.placing.specs.Call.{CellPlace, noPlace, downward, rankOf, rankAt, isEvictable, evictable, evictionOrder, EvictedBefore, occurs, InEvictionOrder}
-use Rattle.placing.specs.Call.{slotsOf, inSet}
+use Rattle.placing.specs.Call.{slotsOf, inSet, emptyFree, emptyCount, usableCount}
 use Rattle.placing.proofs.CountedCells.{area, area-ext, area-add, area-zero, preset-with, numberAt-low, priorityOf-is, rankOf-is, evictable-optional}
 
 -- ---- walks down
@@ -102,6 +102,18 @@ unfolding weight
 weight-one w true z = omega arith
 weight-one w false z = refl
 
+-- the cells that pass a test and stand in one slot
+sum-in-slot : (S B : ℕ) (q : ℕ → ℕ → Bool) (s : ℕ) → s < S → area S B (λ r b. only (q r b) (bit (eqb s r))) ≡ count B (λ b. q s b)
+sum-in-slot S B q s l =
+    sum-point S (λ r. sum B (part r)) s l (λ r k ne. sum-zero B (part r) (λ b m. turned r b ∙ rw (eqb-no s r (λ e. ne (sym e)))))
+    ∙ sum-ext B (part s) (λ b. bit (q s b)) (λ b m. turned s b ∙ rw (eqb-self s))
+  where
+    part : ℕ → ℕ → ℕ
+    part r b = only (q r b) (bit (eqb s r))
+
+    turned : (r b : ℕ) → part r b ≡ only (eqb s r) (bit (q r b))
+    turned r b = only-bit-comm (q r b) (eqb s r)
+
 -- ---- sets of places
 
 -- the sum over the places of the set d
@@ -109,6 +121,13 @@ unfoldable pub setWeight : (ℕ → ℕ → ℕ) → List CellPlace → List Boo
 setWeight w [] d = 0
 setWeight w (z ∷ zs) [] = 0
 setWeight w (z ∷ zs) (c ∷ d) = only c (w (z .slot) (z .bridge)) + setWeight w zs d
+
+-- at most that over all places
+setWeight-le : (w : ℕ → ℕ → ℕ) (zs : List CellPlace) (d : List Bool) → setWeight w zs d ≤ weight w zs
+unfolding setWeight weight
+setWeight-le w [] d = omega arith
+setWeight-le w (z ∷ zs) [] = omega arith
+setWeight-le w (z ∷ zs) (c ∷ d) = omega (arith, setWeight-le w zs d, only-le-self c (w (z .slot) (z .bridge)))
 
 -- the place is the cell
 abbrev isAt : CellPlace → ℕ → ℕ → Bool
@@ -367,6 +386,67 @@ module _ (h : Head) (clock : ℕ) (t : Cells) where
       let l : Listed h clock t s b = inSet-all (Listed h clock t) order-listed d s b e in
       (l .evicts, l .slot-in, l .bridge-in)
 
+  -- a cell stands in the order once for each rank that it has
+  weight-ranks : (w : ℕ → ℕ → ℕ) → weight w order ≡ sum (h .slots) (λ s. sum (h .bridges) (λ b. sum (presetCount h) (λ r. only (hasRank r s b) (w s b))))
+  unfolding evictionOrder
+  weight-ranks w =
+      weight-downward w (presetCount h) ofRank
+      ∙ sum-ext (presetCount h) (λ r. weight w (ofRank r)) (λ r. sum (h .slots) (λ s. sum (h .bridges) (part r s))) (λ r k. of-rank r)
+      ∙ sum-swap (presetCount h) (h .slots) (λ r s. sum (h .bridges) (part r s))
+      ∙ sum-ext (h .slots) (λ s. sum (presetCount h) (λ r. sum (h .bridges) (part r s))) (λ s. sum (h .bridges) (λ b. sum (presetCount h) (λ r. part r s b)))
+      (λ s l. sum-swap (presetCount h) (h .bridges) (λ r b. part r s b))
+    where
+      part : ℕ → ℕ → ℕ → ℕ
+      part r s b = only (hasRank r s b) (w s b)
+
+      of-rank : (r : ℕ) → weight w (ofRank r) ≡ sum (h .slots) (λ s. sum (h .bridges) (part r s))
+      of-rank r =
+          weight-downward w (h .slots) (inSlot r)
+          ∙ sum-ext (h .slots) (λ s. weight w (inSlot r s)) (λ s. sum (h .bridges) (part r s)) (λ s l.
+          weight-downward w (h .bridges) (one r s)
+          ∙ sum-ext (h .bridges) (λ b. weight w (one r s b)) (part r s) (λ b m.
+          weight-one w (hasRank r s b) (record { slot = s; bridge = b })))
+
+  -- so no set adds more cells to a slot than it has evictable ones, whatever the table holds
+  added-evictable : (x : ℕ → ℕ) (d : List Bool) (s : ℕ) → s < h .slots → added x (slotsOf order) d s ≤ x s + count (h .bridges) (λ b. evictable h clock t s b)
+  added-evictable x d s l =
+      omega (
+        arith,
+        added-at x (slotsOf order) d s,
+        evictedIn-weight order d s,
+        setWeight-le here order d,
+        weight-ranks here,
+        sum-le (h .slots) (λ r. sum (h .bridges) (ranks r)) (λ r. sum (h .bridges) (part r)) (λ r k.
+            sum-le (h .bridges) (ranks r) (part r) (λ b m. sum-only-eqb-le (presetCount h) (rankIn r b) (here r b) (evictable h clock t r b))),
+        in-one,
+      )
+    where
+      here : ℕ → ℕ → ℕ
+      here r b = bit (eqb s r)
+
+      ranks : ℕ → ℕ → ℕ
+      ranks r b = sum (presetCount h) (λ q. only (hasRank q r b) (here r b))
+
+      part : ℕ → ℕ → ℕ
+      part r b = only (evictable h clock t r b) (here r b)
+
+      in-one : sum (h .slots) (λ r. sum (h .bridges) (part r)) ≡ count (h .bridges) (λ b. evictable h clock t s b)
+      in-one = sum-in-slot (h .slots) (h .bridges) (evictable h clock t) s l
+
+  -- an empty cell is none that may be evicted
+  pub empty-apart : (s b : ℕ) → emptyFree clock t s b ≡ true → evictable h clock t s b ≡ false
+  empty-apart s b e =
+      ap (λ (v : ℕ). usable clock s && isEvictable h v) (eq-of (t s b) 0 (right-of (usable clock s) (isEmpty (t s b)) e)) ∙ and-false (usable clock s)
+
+  -- with any set of the order a slot has no more free cells than the call may use there
+  pub added-usable : (d : List Bool) (s : ℕ) → s < h .slots → added (emptyCount h clock t) (slotsOf order) d s ≤ usableCount h clock t s
+  added-usable d s l =
+      omega (
+        arith,
+        added-evictable (emptyCount h clock t) d s l,
+        count-or (h .bridges) (λ b. emptyFree clock t s b) (λ b. evictable h clock t s b) (λ b m. empty-apart s b),
+      )
+
   module _ (valid : Valid h) (formed : WellFormed h t) where
     listed-preset : (s b : ℕ) → Listed h clock t s b → hasPreset h (numberIn (t s b)) ≡ true
     listed-preset s b l =
@@ -409,35 +489,13 @@ module _ (h : Head) (clock : ℕ) (t : Cells) where
 
     -- each evictable cell stands in the order exactly once: said for every weight, and of one cell
     pub weight-order : (w : ℕ → ℕ → ℕ) → weight w order ≡ sum (h .slots) (λ s. sum (h .bridges) (λ b. only (evictable h clock t s b) (w s b)))
-    unfolding evictionOrder
     weight-order w =
-        weight-downward w (presetCount h) ofRank
-        ∙ sum-ext (presetCount h) (λ r. weight w (ofRank r)) (λ r. sum (h .slots) (λ s. sum (h .bridges) (part r s))) (λ r k. of-rank r)
-        ∙ sum-swap (presetCount h) (h .slots) (λ r s. sum (h .bridges) (part r s))
-        ∙ sum-ext (h .slots) (λ s. sum (presetCount h) (λ r. sum (h .bridges) (part r s))) (λ s. sum (h .bridges) (whole s)) in-slot
+        weight-ranks w
+        ∙ area-ext (h .slots) (h .bridges) (λ s b. sum (presetCount h) (λ r. only (hasRank r s b) (w s b))) (λ s b. only (evictable h clock t s b) (w s b))
+        (λ s b l m. sum-only-eqb (presetCount h) (rankIn s b) (w s b) (evictable h clock t s b) (below s b l m))
       where
-        part : ℕ → ℕ → ℕ → ℕ
-        part r s b = only (hasRank r s b) (w s b)
-
-        whole : ℕ → ℕ → ℕ
-        whole s b = only (evictable h clock t s b) (w s b)
-
-        of-rank : (r : ℕ) → weight w (ofRank r) ≡ sum (h .slots) (λ s. sum (h .bridges) (part r s))
-        of-rank r =
-            weight-downward w (h .slots) (inSlot r)
-            ∙ sum-ext (h .slots) (λ s. weight w (inSlot r s)) (λ s. sum (h .bridges) (part r s)) (λ s l.
-            weight-downward w (h .bridges) (one r s)
-            ∙ sum-ext (h .bridges) (λ b. weight w (one r s b)) (part r s) (λ b m.
-            weight-one w (hasRank r s b) (record { slot = s; bridge = b })))
-
         below : (s b : ℕ) → s < h .slots → b < h .bridges → evictable h clock t s b ≡ true → rankIn s b < presetCount h
         below s b l m e = rankOf-lt h valid (numberIn (t s b)) (listed-preset s b (record { slot-in = l; bridge-in = m; evicts = e }))
-
-        in-slot : (s : ℕ) → s < h .slots → sum (presetCount h) (λ r. sum (h .bridges) (part r s)) ≡ sum (h .bridges) (whole s)
-        in-slot s l =
-            sum-swap (presetCount h) (h .bridges) (λ r b. part r s b)
-            ∙ sum-ext (h .bridges) (λ b. sum (presetCount h) (λ r. part r s b)) (whole s) (λ b m.
-            sum-only-eqb (presetCount h) (rankIn s b) (w s b) (evictable h clock t s b) (below s b l m))
 
     pub order-once : (s b : ℕ) → s < h .slots → b < h .bridges → weight (λ r a. bit (atCell r a s b)) order ≡ bit (evictable h clock t s b)
     order-once s b l m =
@@ -483,15 +541,7 @@ module _ (h : Head) (clock : ℕ) (t : Cells) where
         ∙ ap (λ (n : ℕ). x s + n)
         (evictedIn-weight order d s
         ∙ set-weight (λ r b. bit (eqb s r)) d
-        ∙ sum-point (h .slots) (λ r. sum (h .bridges) (part r)) s l
-        (λ r k ne. sum-zero (h .bridges) (part r) (λ b m. turned r b ∙ rw (eqb-no s r (λ e. ne (sym e)))))
-        ∙ sum-ext (h .bridges) (part s) (λ b. bit (inSet order d s b)) (λ b m. turned s b ∙ rw (eqb-self s)))
-      where
-        part : ℕ → ℕ → ℕ
-        part r b = only (inSet order d r b) (bit (eqb s r))
-
-        turned : (r b : ℕ) → part r b ≡ only (eqb s r) (bit (inSet order d r b))
-        turned r b = only-bit-comm (inSet order d r b) (eqb s r)
+        ∙ sum-in-slot (h .slots) (h .bridges) (inSet order d) s l)
 
     -- the set of a test has the evictable cells that pass it
     pub in-those : (q : ℕ → ℕ → Bool) (s b : ℕ) → s < h .slots → b < h .bridges → inSet order (those q order) s b ≡ (evictable h clock t s b && q s b)

@@ -12,25 +12,26 @@ use crate::cells::Cell;
 use crate::limits::CAPACITY_COUNT;
 use crate::limits::MOST_PLACED;
 use crate::limits::in_limits;
+use crate::numbers::smaller;
 use crate::search::empty::slot_masks;
 use crate::search::excess::excess;
 use crate::search::excess::tightest;
-use crate::search::longest::longest_sums;
+use crate::search::longest::demanded_sums;
 use crate::search::taking::walk;
-use station::limits::MOST_JOBS;
+use station::limits::MOST_BRIDGES;
 use station::limits::MOST_PRESETS;
 use station::limits::MOST_SLOTS;
 use station::types::Head;
 use station::types::Preset;
-ghost use Prim.Native.Nat.{ℕ, _-_, _<_, _≤_};
+ghost use Prim.Native.Nat.{ℕ, _*_, _-_, _<_, _≤_};
 ghost use mathlib.Core.Path.{_≡_};
 ghost use mathlib.Core.Bool.{true};
 ghost use mathlib.Core.List.{List};
 ghost use lib.ListN.{length, getD, take};
-ghost use Rattle.station.specs.Limits.{mostSlots, mostBridges, mostJobs, leastCells};
+ghost use Rattle.station.specs.Limits.{mostSlots, mostBridges, leastCells};
 ghost use Rattle.station.specs.Head.{Job};
 ghost use Rattle.station.specs.Types.{headIn};
-ghost use Rattle.placing.specs.method.Limits.{capacityCount};
+ghost use Rattle.placing.specs.method.Limits.{capacityCount, mostPlaced};
 ghost use Rattle.placing.specs.Table.{cell};
 ghost use Rattle.placing.specs.Call.{lengths};
 ghost use Rattle.placing.specs.method.Search.{Starts, Evicts, searchable, unfit, Searched};
@@ -42,7 +43,8 @@ pub(crate) struct Evicted {
     pub free: [u8; MOST_SLOTS],
 }
 
-// What the jobs demand: how many they are, the sums of the r longest for r from 0 to as many, and the number of slots in which they are to have it.
+// What the jobs demand: how many sums are held against the capacities, as many as there are jobs and at most 8; the sums of the r longest for r below, and of all
+// jobs in the last place; and the number of slots in which they are to have it.
 pub(crate) struct Demand {
     pub slots: usize,
     pub jobs: usize,
@@ -62,7 +64,7 @@ pub(crate) struct Search {
 
 // What the search has before its walk: the empty cells from the clock on.
 fn starting(table: &[Cell], bridges: usize, clock: usize, demand: Demand) -> Search
-    requires { ⌜ (bridges ≤ mostBridges) × (demand .slots ≤ mostSlots) × (demand .jobs ≤ mostJobs) × (leastCells ≤ length (now table)) × ((r : ℕ) → r < capacityCount → getD (demand .sums) r 0 ≤ 2040) ⌝ }
+    requires { ⌜ (bridges ≤ mostBridges) × (demand .slots ≤ mostSlots) × (demand .jobs ≤ mostBridges) × (leastCells ≤ length (now table)) × ((r : ℕ) → r < capacityCount → getD (demand .sums) r 0 ≤ 255 * mostPlaced) ⌝ }
     ensures { λ s. ⌜ Starts (now (table .entry)) bridges clock demand s ⌝ }
 {
     let slots = demand.slots;
@@ -98,10 +100,11 @@ fn evict_in_limits(
     requires { ⌜ searchable head k (length (now table)) ≡ true ⌝ }
     ensures { λ r. ⌜ ((jobs : List Job) → lengths jobs ≡ take k needs → Evicts (headIn head presets) clock jobs (cell (headIn head presets) (now (table .entry))) r) ⌝ }
 {
-    let sums = longest_sums(&needs, k);
+    let sums = demanded_sums(&needs, k);
+    let jobs = smaller(k, MOST_BRIDGES);
     let demand = Demand {
         slots: head.slots,
-        jobs: k,
+        jobs: jobs,
         sums: sums,
     };
     let start = starting(table, head.bridges, clock, demand);
@@ -140,7 +143,7 @@ pub(crate) fn evict(
 ) -> Evicted
     ensures { λ r. ⌜ Searched head presets clock needs k (now (table .entry)) r ⌝ }
 {
-    if MOST_JOBS < k {
+    if MOST_PLACED < k {
         return unfit();
     }
     if !in_limits(head.slots, head.bridges, head.count, table.len()) {

@@ -1,7 +1,7 @@
 -- The eviction search as the code goes through it: what it keeps, and what the walk over the refinement cells makes of that. That this is document 01's
 -- rule, "of the smallest sets with which the call fits .. the one whose list comes first", is proved of `evictedSet` of specs/Call.antt, with which it agrees.
 -- Assumes nothing.
-use Prim.Native.Nat.{ℕ, _+_, _*_, _-_, _^_, _/_, _%_, _≤_, _<_}
+use Prim.Native.Nat.{ℕ, _+_, _*_, _-_, _^_, _/_, _%_, _≤_, _<_, min}
 use mathlib.Core.Path.{_≡_}
 use mathlib.Core.Bool.{Bool, true, false, cond, _&&_}
 use mathlib.Core.List.{List, [], _∷_, _++_}
@@ -13,7 +13,7 @@ use Rattle.laws.specs.Sums.{sum, only, count, greatest, position}
 use Rattle.laws.specs.Lists.{at}
 use Rattle.laws.specs.Placement.{before, capacity, excess}
 use Rattle.laws.specs.Eviction.{put, ones}
-use Rattle.station.specs.Limits.{mostSlots, mostBridges, mostPresets, mostJobs, leastCells}
+use Rattle.station.specs.Limits.{mostSlots, mostBridges, mostPresets, leastCells}
 use Rattle.station.specs.Head.{Head, Job}
 use Rattle.station.specs.declared.types.Preset as record-of-preset
 use Rattle.station.specs.declared.types.Head as record-of-head
@@ -22,7 +22,7 @@ use Rattle.placing.specs.declared.search.Search.{Search}
 use Rattle.placing.specs.declared.search.taking.Tally.{Tally}
 use Rattle.placing.specs.declared.search.Evicted.{Evicted}
 use Rattle.placing.specs.declared.search.Demand.{Demand}
-use Rattle.placing.specs.method.Limits.{capacityCount, sizesInLimits}
+use Rattle.placing.specs.method.Limits.{capacityCount, mostPlaced, sizesInLimits}
 use Rattle.placing.specs.Table.{cellAt, Cells, cell, isEmpty, numberIn}
 use Rattle.placing.specs.Valid.{usable}
 use Rattle.placing.specs.method.Mask.{bridgeMask}
@@ -40,6 +40,13 @@ longestBelow cs k n r = sum n (λ i. only (ltb (longerBelow cs i k) r) (at cs i)
 -- the sum of the r longest of the first k needs
 abbrev pub longest : List ℕ → ℕ → ℕ → ℕ
 longest cs k r = longestBelow cs k k r
+
+-- The sums that k jobs with the needs cs are held to: of the r longest for r below k and 8, and in the last place all together. No slot has more than 8 free cells, so that the capacity
+-- for 8 is that for more jobs too, and past 8 the excess is greatest for all of them.
+pub record Demanded (cs : List ℕ) (k : ℕ) (sums : List ℕ) : Type 0 where
+  pub below : (r : ℕ) → r < min k mostBridges → getD sums r 0 ≡ longest cs k r
+  pub total : getD sums (min k mostBridges) 0 ≡ sum k (at cs)
+  pub low : (r : ℕ) → r < capacityCount → getD sums r 0 ≤ 255 * k
 
 -- what the first n of some lines have in all at the value m: w i for each line i whose value v i is m
 unfoldable pub totalAt : (ℕ → ℕ) → (ℕ → ℕ) → ℕ → ℕ → ℕ
@@ -61,8 +68,8 @@ emptyMask t from n = bridgeMask n (emptyIn t from)
 unfoldable pub slotMask : List ℕ → ℕ → ℕ → ℕ → ℕ
 slotMask t bridges clock s = only (usable clock s) (emptyMask t (s * bridges) bridges)
 
--- By how much sums of the longest jobs exceed the capacities for 0 to k of the free cells x of n slots, at the worst. Where `sums` has the sums of the
--- r longest of k jobs this is `excess`.
+-- By how much sums of the longest jobs exceed the capacities for 0 to k of the free cells x of n slots, at the worst. Where `sums` is what jobs demand
+-- (`Demanded`), k their number up to 8, and no slot has more than 8 free cells, this is their `excess`.
 unfoldable pub shortage : List ℕ → ℕ → ℕ → (ℕ → ℕ) → ℕ
 shortage sums k n x = greatest k (λ r. at sums r - capacity n x r)
 
@@ -117,7 +124,7 @@ overAt d x r = at (d .sums) r - capacity (d .slots) x r
 -- The numbers that the search keeps beside that are right: the capacities for 0 to 8, the shortage, and the least r at which there is as much of it. The bounds
 -- keep sums from overflowing: a cell is taken only where the shortage falls.
 pub record Stands (d : Demand) (s : Search) : Type 0 where
-  pub few-jobs : d .jobs ≤ mostJobs
+  pub few-jobs : d .jobs ≤ mostBridges
   pub few-slots : d .slots ≤ mostSlots
   pub free-long : length (s .free) ≡ mostSlots
   pub counts-long : length (s .counts) ≡ mostSlots
@@ -127,8 +134,8 @@ pub record Stands (d : Demand) (s : Search) : Type 0 where
   pub tight-in : s .tight ≤ d .jobs
   pub tight-at : overAt d (at (s .counts)) (s .tight) ≡ s .short
   pub tight-first : (r : ℕ) → r < s .tight → overAt d (at (s .counts)) r < s .short
-  pub few : s .evicted + s .short ≤ 4096
-  pub low : (z : ℕ) → getD (s .counts) z 0 + s .short ≤ 4096
+  pub few : s .evicted + s .short ≤ 16384
+  pub low : (z : ℕ) → getD (s .counts) z 0 + s .short ≤ 16384
 
 -- what a part of the walk answers: the numbers stand, and what is kept is what the walk over zs makes of what was kept
 pub record Walked (d : Demand) (zs : List CellPlace) (s r : Search) : Type 0 where
@@ -203,9 +210,9 @@ pub record Evicts (h : Head) (clock : ℕ) (jobs : List Job) (t : Cells) (r : Ev
   pub free : (s : ℕ) → s < h .slots → getD (r .free) s 0 ≡ bridgeMask (h .bridges) (λ b. callFree h clock jobs t s b)
   pub past : (s : ℕ) → h .slots ≤ s → getD (r .free) s 0 ≡ 0
 
--- What the search can look at: a frame, presets and a lent table within the limits, and at most eight jobs.
+-- What the search can look at: a frame, presets and a lent table within the limits, and no more jobs than are placed at a time.
 abbrev pub searchable : record-of-head.Head → ℕ → ℕ → Bool
-searchable head k cells = leb k mostJobs && sizesInLimits (head .slots) (head .bridges) (head .count) cells
+searchable head k cells = leb k mostPlaced && sizesInLimits (head .slots) (head .bridges) (head .count) cells
 
 -- the answer where it cannot: the call does not fit
 abbrev pub unfit : Evicted

@@ -5,7 +5,7 @@ use crate::numbers::less;
 ghost use Prim.Native.Nat.{ℕ, _+_, _-_, _<_, _≤_};
 ghost use mathlib.Core.Path.{_≡_};
 ghost use lib.ListN.{getD};
-ghost use Rattle.station.specs.Limits.{mostJobs};
+ghost use Rattle.station.specs.Limits.{mostBridges};
 ghost use Rattle.placing.specs.method.Limits.{capacityCount};
 ghost use Rattle.placing.specs.method.Search.{excessUpTo, Tightest};
 
@@ -15,7 +15,7 @@ pub(crate) fn excess(
     capacities: &[usize; CAPACITY_COUNT],
     k: usize,
 ) -> usize
-    requires { ⌜ k ≤ mostJobs ⌝ }
+    requires { ⌜ k ≤ mostBridges ⌝ }
     ensures { λ r. ⌜ r ≡ excessUpTo (now (sums .entry)) (now (capacities .entry)) k ⌝ }
 {
     let mut most = less(sums[0], capacities[0]);
@@ -34,7 +34,7 @@ pub(crate) fn tightest(
     k: usize,
     short: usize,
 ) -> usize
-    requires { ⌜ (k ≤ mostJobs) × (short ≤ 65535) × ((r : ℕ) → r < capacityCount → getD (now capacities) r 0 ≤ 65535) ⌝ }
+    requires { ⌜ (k ≤ mostBridges) × (short ≤ 65535) × ((r : ℕ) → r < capacityCount → getD (now capacities) r 0 ≤ 65535) ⌝ }
     ensures { λ r. ⌜ Tightest (now (sums .entry)) (now (capacities .entry)) k short r ⌝ }
 {
     if short == 0 {

@@ -22,9 +22,10 @@ ghost use mathlib.Core.List.{List, [], _∷_};
 ghost use lib.ListN.{length, getD};
 ghost use Rattle.station.specs.Limits.{mostBridges, mostPresets};
 ghost use Rattle.station.specs.Types.{headIn};
+ghost use Rattle.placing.specs.method.Limits.{sizesInLimits};
 ghost use Rattle.placing.specs.Table.{cell};
 ghost use Rattle.placing.specs.Call.{CellPlace, downward, evictionOrder};
-ghost use Rattle.placing.specs.method.Search.{searchOf, Stands, shortFor, keptIn, walked, Walked, Chain, Chains, Linked, answered, searchable};
+ghost use Rattle.placing.specs.method.Search.{searchOf, Stands, shortFor, keptIn, walked, Walked, Chain, Chains, Linked, answered};
 
 // The numbers of a search, beside its arrays, which the walk changes in place.
 pub(crate) struct Tally {
@@ -155,7 +156,7 @@ pub(crate) fn walk(
     demand: Demand,
     start: Search,
 ) -> Evicted
-    requires { ⌜ (searchable head (demand .jobs) (length (now table)) ≡ true) × (demand .slots ≡ head .slots) × Stands demand start ⌝ }
+    requires { ⌜ (sizesInLimits (head .slots) (head .bridges) (head .count) (length (now table)) ≡ true) × (demand .slots ≡ head .slots) × Stands demand start ⌝ }
     ensures { λ r. ⌜ r ≡ answered demand (walked (shortFor demand) (evictionOrder (headIn head presets) clock (cell (headIn head presets) (now (table .entry)))) (keptIn start)) ⌝ }
 {
     let count = head.count;

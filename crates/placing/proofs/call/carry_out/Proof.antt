@@ -28,7 +28,7 @@ searched : (c : tie.After-evict)
     → Evicts (headIn (a .head) (a .presets)) (a .clock) (jobsIn (a .n) (a .jobs)) (cell (headIn (a .head) (a .presets)) (a .table .now)) (c .evict .result)
 searched c v long few inside =
     let a = c .before .before .before .before .args in
-    c .evict .ensures .found (valid-searchable (a .head) (a .n) _ (a .presets) v few long) (jobsIn (a .n) (a .jobs)) (c .before .before .job-needs .ensures (a .n) few inside)
+    c .evict .ensures .found (valid-searchable (a .head) (a .n) _ (a .presets) v (omega (arith, few)) long) (jobsIn (a .n) (a .jobs)) (c .before .before .job-needs .ensures (a .n) few inside)
 
 job-needs-requires : tie.Need-job-needs-requires
 job-needs-requires c κs = search needs
