@@ -7,8 +7,10 @@
 -- Assumes nothing.
 use Prim.Native.Nat.{ℕ}
 use mathlib.Core.Path.{_≡_, refl}
+use mathlib.Core.Option.{none, some}
 use mathlib.Core.List.{List, [], _∷_, _++_, map}
-use lib.ListN.{take, replicate}
+use native.Mathlib.Omega.{arith}
+use lib.ListN.{length, take, replicate}
 use Rattle.station.specs.Head.{Head, Job}
 use Rattle.station.specs.Refusal.{noForm, outOfLimits, outOfPlace, numberUsed, clockBack, callNotFeasible, tooShort, tooMany, textTooLong, notWellFormed}
 use Rattle.station.specs.Text.{bytes}
@@ -20,6 +22,8 @@ use Rattle.frame.specs.Event.{Event, line, clock, call, Answer, clockNow
 use Rattle.placing.specs.State.{State, stateOf}
 use Rattle.frame.specs.EventDone.{eventMeant}
 use Rattle.frame.specs.EventEntry.{eventOnSlice}
+use Rattle.frame.specs.HandedOver.{LetPass}
+use Rattle.frame.specs.Demands.{Between}
 use Rattle.frame.specs.Text.{notRead, wholeOf}
 use Rattle.frame.specs.TextDone.{wholeWithOutput, listed, refusedAt}
 use Rattle.frame.specs.TextEntry.{wholeOnSlice}
@@ -143,6 +147,18 @@ pub records-answered : (eventMeant (counting 32) (recordsTo 32) (stateOf (lent [
     × (eventOnSlice 31 (counting 33) [] (stateOf (lent (7 ∷ [])) 0) (line []) .answer ≡ refused 0 tooShort)
 unfolding lists eventMeant eventOnSlice recordsTo
 records-answered = (refl, refl, refl, refl, refl, refl)
+
+-- A list handed over may start from 32 records, and from the last clock; not from 31, nor past that clock.
+pub starts-pass : LetPass (counting 0) (recordsTo 32) (stateOf (lent []) 1)
+    × LetPass (counting 32) (recordsTo 32) (stateOf (lent []) 2)
+    × (LetPass (counting 0) (recordsTo 31) (stateOf (lent []) 1) → some tooShort ≡ none)
+    × (LetPass (counting 0) (recordsTo 32) (stateOf (lent []) 3) → some notWellFormed ≡ none)
+unfolding lists recordsTo
+starts-pass = (refl, refl, λ p. p, λ p. p)
+
+-- Of any two moments of a list the one may be its start and the other its end.
+pub between-ends : (es : List Event) (P : ℕ → ℕ → Type 0) → Between es P → P 0 (length es)
+between-ends es P all = all 0 (length es) (omega arith) (omega arith)
 
 -- ---- a text beside lent things that are too short: 10, then 8, then the head's
 
