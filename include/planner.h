@@ -44,7 +44,8 @@
 #define PLANNER_OUT_BYTES 8192    /* an output */
 
 /* Other sizes in bytes. */
-#define PLANNER_TEXT_BYTES 32768     /* the longest text */
+#define PLANNER_TEXT_BYTES 32768     /* the longest text, of a station or of rows */
+#define PLANNER_ROWS_BYTES 2240      /* the longest rows that planner_write_rows writes */
 #define PLANNER_LISTING_BYTES 655360 /* an output that is so long has room for every listing */
 #define PLANNER_STACK_SEEN 17000     /* see above: measured, not proved */
 
@@ -55,7 +56,7 @@
 enum planner_cause {
     PLANNER_ACCEPTED = 0,
     PLANNER_NO_FORM = 1,              /* a line that is not one of the five forms, or lacks its end */
-    PLANNER_OUT_OF_LIMITS = 2,        /* a value or busy stretch outside its limits; a ninth job in a call; a clock below 1 or above S + 1; a head that no text yields */
+    PLANNER_OUT_OF_LIMITS = 2,        /* a value or busy stretch outside its limits, in a row outside the frame; a ninth job in a call; a clock below 1 or above S + 1; a head that no text yields */
     PLANNER_OUT_OF_PLACE = 3,         /* a form out of its place; no frame on line 1 */
     PLANNER_NUMBER_USED = 4,          /* a number already used, or twice in a call */
     PLANNER_REQUIRED_DO_NOT_FIT = 5,  /* the required slots do not fit */
@@ -64,7 +65,8 @@ enum planner_cause {
     PLANNER_TOO_SHORT = 8,            /* frame, presets, table, output or grants shorter than they have to be */
     PLANNER_TOO_MANY = 9,             /* 33rd preset or 65th job */
     PLANNER_TEXT_TOO_LONG = 10,       /* text above 32,768 bytes */
-    PLANNER_NOT_SOUND = 11            /* a table that is not sound, or a clock in the frame outside 1 to S + 1 */
+    PLANNER_NOT_SOUND = 11,           /* a table that is not sound, or a clock in the frame outside 1 to S + 1 */
+    PLANNER_NO_ROW = 12               /* a row that is not three decimal fields with CR LF */
 };
 
 /* The places of a frame's numbers. */
@@ -177,6 +179,34 @@ uint32_t planner_listing(const uint8_t *text, size_t text_len,
                          planner_cell *table, size_t table_len,
                          uint8_t *out, size_t out_len,
                          uint64_t *bytes);
+
+/*
+ * Puts busy times that stand in rows of comma-separated text in place of the frame's. A row is bridge, first slot, last slot, each bare or in quotes, and ends with CR LF; there is no header. Rows
+ * may come in any sequence and may overlap or touch: a slot of a bridge is busy exactly if some row takes it. No row at all leaves no busy slot.
+ *
+ * Causes: 10; 8 of the frame and the presets; 2 of the head; those of the rows, of which the first row at fault decides: 12, 2.
+ *
+ * 0: the masks at PLANNER_FRAME_BUSY are those of the rows, every other number of the frame is as it was, and *row is how many rows there are. No table is touched: one that was made for the old busy
+ * times does not suit the new ones, and planner_event may meet 11 with it. Plan the frame again with planner_plan, which may meet 5, and set the clock to 1.
+ * Else *row is the row at fault, counted from 1, 0 for 10, 8 and the head's 2, and nothing else changes.
+ */
+uint32_t planner_read_rows(const uint8_t *text, size_t text_len,
+                           uint64_t *frame, size_t frame_len,
+                           const uint8_t *presets, size_t presets_len,
+                           uint64_t *row);
+
+/*
+ * The busy times of the frame as rows, at the start of the output: bare, by bridge and then by slot, one for each run of busy slots; bytes past them are as they were. Clock and table are not looked at.
+ *
+ * Causes: 8 of the frame, the presets and the output; 2 of the head.
+ *
+ * 0: *bytes is the number of the rows' bytes, at most PLANNER_ROWS_BYTES. planner_read_rows puts the same busy times into any frame of as many slots and bridges.
+ * Else *bytes is 0, and nothing else changes.
+ */
+uint32_t planner_write_rows(const uint64_t *frame, size_t frame_len,
+                            const uint8_t *presets, size_t presets_len,
+                            uint8_t *out, size_t out_len,
+                            uint64_t *bytes);
 
 #ifdef __cplusplus
 }

@@ -49,11 +49,24 @@ static void listing(void)
     answer = planner_listing(text, length, table, PLANNER_TABLE_CELLS, out, sizeof out, &number);
 }
 
+static void read_rows(void)
+{
+    answer = planner_read_rows(line, line_length, frame, PLANNER_FRAME_NUMBERS, presets, sizeof presets, &number);
+}
+
+static void write_rows(void)
+{
+    answer = planner_write_rows(frame, PLANNER_FRAME_NUMBERS, presets, sizeof presets, out, sizeof out, &number);
+}
+
 static struct {
     const char *name;
     void (*run)(void);
     size_t most;
-} functions[] = {{"planner_run_text", run_text, 0}, {"planner_event", event, 0}, {"planner_plan", plan, 0}, {"planner_listing", listing, 0}};
+} functions[] = {
+    {"planner_run_text", run_text, 0}, {"planner_event", event, 0}, {"planner_plan", plan, 0}, {"planner_listing", listing, 0},
+    {"planner_read_rows", read_rows, 0}, {"planner_write_rows", write_rows, 0},
+};
 
 static uintptr_t top;
 
@@ -90,7 +103,7 @@ static void measure(size_t i)
     }
 }
 
-/* Every function on one text; the last lines of it as single events too, on the frame that the whole text left. */
+/* Every function on one text; the last lines of it as single events too, on the frame that the whole text left, and at last its rows, written and read. */
 static void measure_text(void)
 {
     measure(3);
@@ -108,6 +121,10 @@ static void measure_text(void)
         tried++;
         measure(1);
     }
+    measure(5);
+    line = out;
+    line_length = (size_t)number;
+    measure(4);
 }
 
 int main(int argc, char **argv)

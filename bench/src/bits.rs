@@ -12,6 +12,19 @@ pub fn ones(mut mask: u64) -> impl Iterator<Item = usize> {
     })
 }
 
+/// The runs of ones, ascending: the positions of the first and the last one of each.
+pub fn runs(mut mask: u64) -> impl Iterator<Item = (usize, usize)> {
+    std::iter::from_fn(move || {
+        if mask == 0 {
+            return None;
+        }
+        let first = mask.trailing_zeros();
+        let after = first + (mask >> first).trailing_ones();
+        mask &= u64::MAX.checked_shl(after).unwrap_or(0);
+        Some((first as usize, after as usize - 1))
+    })
+}
+
 /// The lowest `count` ones of a mask, or all of them if there are no more.
 pub fn lowest(mask: u32, count: u32) -> u32 {
     if mask.count_ones() <= count {
@@ -76,6 +89,14 @@ mod tests {
                 assert_eq!(u64::from(column >> r & 1), row >> c & 1);
             }
         }
+    }
+
+    #[test]
+    fn runs_are_apart_and_whole() {
+        assert_eq!(runs(0).count(), 0);
+        assert!(runs(u64::MAX).eq([(0, 63)]));
+        assert!(runs(0b1011_0111).eq([(0, 2), (4, 5), (7, 7)]));
+        assert!(runs(1 << 63 | 1).eq([(0, 0), (63, 63)]));
     }
 
     #[test]

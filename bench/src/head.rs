@@ -117,6 +117,13 @@ impl Head {
         u64::MAX >> (SLOTS - self.slots)
     }
 
+    /// Puts these busy slots, all of them the frame's, in place of those that it has.
+    pub fn set_busy(&mut self, busy: [u64; BRIDGES]) {
+        let lines = busy.iter().filter(|&&slots| slots != 0).count();
+        self.busy = busy;
+        self.lines = (1 + lines + self.presets.len()) as u32;
+    }
+
     /// For each bridge its free slots; none for bridges that the frame does not have.
     pub fn free(&self) -> [u64; BRIDGES] {
         let all = self.all_slots();

@@ -1,6 +1,6 @@
-//! A bridge planner for the shared tuner, written from the scope document and the readings of it in
-//! docs/DECISIONS.md, without a look at the proved one, so that the two can be held against each other. Both follow
-//! the same readings, so a wrong reading would not show.
+//! A bridge planner for the shared tuner, written from the scope document, the requests that followed and the readings
+//! of them in docs/DECISIONS.md, without a look at the proved one, so that the two can be held against each other. Both
+//! follow the same readings, so a wrong reading would not show.
 //!
 //! From the bottom up:
 //! - [`bits`]: sets of small numbers as words of bits;
@@ -9,20 +9,23 @@
 //! - [`placing`]: capacity, grants, the LRTF rule, and which cells a call evicts;
 //! - [`frame`]: a planned frame and the events that it takes;
 //! - [`listing`]: the output's lines;
-//! - [`planner`]: all of it, from a text to its listing.
+//! - [`planner`]: all of it, from a text to its listing;
+//! - [`rows`]: a head's busy stretches as rows of a spreadsheet, and [`lent`], the same over lent records.
 //!
-//! Beside them: [`texts`] makes station texts by seed, [`proved`] calls the proved planner, [`loads`] holds the
+//! Beside them: [`texts`] makes station texts and rows by seed, [`proved`] calls the proved planner, [`loads`] holds the
 //! benchmark's inputs and [`sides`] gives both planners one shape for it.
 
 pub mod bits;
 pub mod frame;
 pub mod head;
+pub mod lent;
 pub mod listing;
 pub mod loads;
 pub mod placing;
 pub mod planner;
 pub mod proved;
 pub mod refusal;
+pub mod rows;
 pub mod sides;
 pub mod text;
 pub mod texts;

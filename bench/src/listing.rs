@@ -1,6 +1,8 @@
 //! The lines of the output, each ended by byte 10.
 
+use crate::bits::runs;
 use crate::frame::{Answer, Frame};
+use crate::head::Head;
 use crate::refusal::Refusal;
 
 pub struct Listing<'a> {
@@ -33,6 +35,35 @@ impl Listing<'_> {
         }
     }
 
+    /// A head's one text.
+    pub fn head(&mut self, head: &Head) {
+        self.form(b"(frame ", &[head.slots as u32, head.bridges as u32]);
+        for (bridge, &busy) in head.busy.iter().enumerate().filter(|(_, &busy)| busy != 0) {
+            self.out.extend_from_slice(b"(busy ");
+            self.number(bridge as u32 + 1);
+            for (first, last) in runs(busy) {
+                self.out.extend_from_slice(b" (");
+                self.numbers(&[first as u32 + 1, last as u32 + 1], b' ');
+                self.out.push(b')');
+            }
+            self.out.extend_from_slice(b")\n");
+        }
+        for preset in &head.presets {
+            let numbers = [preset.number, preset.priority, preset.mandatory, preset.optional];
+            self.form(b"(preset ", &numbers.map(u32::from));
+        }
+    }
+
+    /// A head's busy stretches as bare rows, by bridge, then by slot.
+    pub fn rows(&mut self, head: &Head) {
+        for (bridge, &busy) in head.busy.iter().enumerate() {
+            for (first, last) in runs(busy) {
+                self.numbers(&[bridge as u32 + 1, first as u32 + 1, last as u32 + 1], b',');
+                self.out.extend_from_slice(b"\r\n");
+            }
+        }
+    }
+
     fn cell(&mut self, cell: u16) {
         // By kind: empty, busy, mandatory, optional, call.
         let mark = b"0-moc"[usize::from(cell >> 8)];
@@ -44,13 +75,17 @@ impl Listing<'_> {
 
     fn form(&mut self, word: &[u8], numbers: &[u32]) {
         self.out.extend_from_slice(word);
+        self.numbers(numbers, b' ');
+        self.out.extend_from_slice(b")\n");
+    }
+
+    fn numbers(&mut self, numbers: &[u32], parted_by: u8) {
         for (place, &number) in numbers.iter().enumerate() {
             if place > 0 {
-                self.out.push(b' ');
+                self.out.push(parted_by);
             }
             self.number(number);
         }
-        self.out.extend_from_slice(b")\n");
     }
 
     fn number(&mut self, number: u32) {

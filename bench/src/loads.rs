@@ -4,6 +4,7 @@ use std::fmt::Write;
 
 use crate::text::{lines, Job, TEXT_LIMIT};
 use crate::texts::rng::Rng;
+use crate::texts::rows::{Sheet, Style};
 use crate::texts::station::{Station, LARGEST};
 
 /// One thing to be timed, on one input.
@@ -18,6 +19,25 @@ pub enum Load {
     CheckedCall(Vec<u8>, Vec<Job>),
     /// Everything, from a text to its listing.
     Listing(Vec<u8>),
+    /// Rows are read into a head, which was read beforehand.
+    ReadRows(Vec<u8>, Vec<u8>),
+    /// A head, read beforehand, is written as rows.
+    WriteRows(Vec<u8>),
+}
+
+impl Load {
+    /// The bytes of the text that is read.
+    pub fn bytes(&self) -> usize {
+        match self {
+            Load::ReadRows(_, text)
+            | Load::Read(text)
+            | Load::Plan(text)
+            | Load::Call(text, _)
+            | Load::CheckedCall(text, _)
+            | Load::Listing(text)
+            | Load::WriteRows(text) => text.len(),
+        }
+    }
 }
 
 /// Events of all lengths up to exactly so many bytes, after a one-line head.
@@ -31,6 +51,25 @@ pub fn events(bytes: usize) -> Vec<u8> {
     let digits = "1".repeat(bytes - text.len() - "(clock )\n".len());
     text.extend_from_slice(format!("(clock {digits})\n").as_bytes());
     text
+}
+
+/// Exactly so many bytes of rows for the widest frame, half of their fields quoted.
+pub fn rows(bytes: usize) -> Vec<u8> {
+    let mut rng = Rng::new(1);
+    let mut sheet = Sheet::new(&mut rng, LARGEST);
+    sheet.style = Style { quoted: 50, longest: 64, near: 20 };
+    sheet.fill(&mut rng, bytes);
+    sheet.row_bytes()
+}
+
+/// The head with the most rows: every other slot of the widest frame.
+pub fn most_rows() -> Vec<u8> {
+    let list: Vec<String> = (2..=64).step_by(2).map(|slot| format!("({slot} {slot})")).collect();
+    let mut text = "(frame 64 8)\n".to_owned();
+    for bridge in 1..=8 {
+        let _ = writeln!(text, "(busy {bridge} {})", list.join(" "));
+    }
+    text.into_bytes()
 }
 
 /// A frame of eight bridges, some of it busy, half of the rest mandatory, and more optional slots than there is

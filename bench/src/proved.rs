@@ -5,9 +5,10 @@
 pub const OUT: usize = 1 << 20;
 
 #[cfg(feature = "archive")]
-pub use archive::{event, listing, plan, run_text, Running, GRANTS};
+pub use archive::{event, listing, plan, read_rows, run_text, write_rows, Running, GRANTS};
 #[cfg(not(feature = "archive"))]
 pub use program::listing;
+pub use program::rows;
 
 /// True if the proved planner runs inside this process, so that its times can be taken.
 pub const IN_PROCESS: bool = cfg!(feature = "archive");
@@ -15,6 +16,7 @@ pub const IN_PROCESS: bool = cfg!(feature = "archive");
 #[cfg(feature = "archive")]
 mod archive {
     use crate::frame::{Table, CELLS};
+    use crate::lent::Lent;
 
     use super::OUT;
 
@@ -72,9 +74,29 @@ mod archive {
             line_len: usize,
             number: *mut u64,
         ) -> u32;
+
+        fn planner_read_rows(
+            text: *const u8,
+            text_len: usize,
+            frame: *mut u64,
+            frame_len: usize,
+            presets: *const u8,
+            presets_len: usize,
+            row: *mut u64,
+        ) -> u32;
+
+        fn planner_write_rows(
+            frame: *const u64,
+            frame_len: usize,
+            presets: *const u8,
+            presets_len: usize,
+            out: *mut u8,
+            out_len: usize,
+            bytes: *mut u64,
+        ) -> u32;
     }
 
-    // SAFETY, of all four: each pointer comes with the length of the slice that it was taken from, no two overlap, and
+    // SAFETY, of all six: each pointer comes with the length of the slice that it was taken from, no two overlap, and
     // none is kept after the call.
 
     /// Writes the listing of a text to the front of `out` and yields its length. Of a text that is too long the program
@@ -164,36 +186,89 @@ mod archive {
                 &mut number,
             )
         };
-        if cause == 0 { Ok(number) } else { Err(cause) }
+        if cause == 0 {
+            Ok(number)
+        } else {
+            Err(cause)
+        }
+    }
+
+    /// Puts rows in place of a frame's busy slots; yields the cause or 0, and how many rows there are or the row at
+    /// fault.
+    pub fn read_rows(lent: &mut Lent, text: &[u8]) -> (u32, u64) {
+        let mut row = u64::MAX;
+        let cause = unsafe {
+            planner_read_rows(
+                text.as_ptr(),
+                text.len(),
+                lent.frame.as_mut_ptr(),
+                lent.frame.len(),
+                lent.presets.as_ptr(),
+                lent.presets.len(),
+                &mut row,
+            )
+        };
+        (cause, row)
+    }
+
+    /// Writes a frame's busy slots as rows to the front of `out`; yields the cause or 0, and how many bytes they are.
+    pub fn write_rows(lent: &Lent, out: &mut [u8]) -> (u32, u64) {
+        let mut bytes = u64::MAX;
+        let cause = unsafe {
+            planner_write_rows(
+                lent.frame.as_ptr(),
+                lent.frame.len(),
+                lent.presets.as_ptr(),
+                lent.presets.len(),
+                out.as_mut_ptr(),
+                out.len(),
+                &mut bytes,
+            )
+        };
+        (cause, bytes)
     }
 }
 
-#[cfg(not(feature = "archive"))]
 mod program {
     use std::io::Write;
     use std::process::{Command, Stdio};
 
-    /// The program, unless the environment's PLAN names another.
-    const PLAN: &str = "../target/bin/plan";
-
-    /// Runs the program and writes what it prints to the front of `out`; yields its length. Its table stays with it.
+    /// Runs the program `plan`, or another that the environment's PLAN names, and writes what it prints to the front of
+    /// `out`; yields its length. Its table stays with it.
+    #[cfg(not(feature = "archive"))]
     pub fn listing(text: &[u8], _table: &mut [u16], out: &mut [u8]) -> usize {
-        let program = std::env::var_os("PLAN").unwrap_or_else(|| PLAN.into());
+        let printed = printed("PLAN", "../target/bin/plan", text);
+        out[..printed.len()].copy_from_slice(&printed);
+        printed.len()
+    }
+
+    /// Runs the program `rows`, or another that the environment's ROWS names; yields what it prints.
+    pub fn rows(input: &[u8]) -> Vec<u8> {
+        printed("ROWS", "../target/bin/rows", input)
+    }
+
+    /// What a program prints for this standard input: the one that the environment names, or the usual one.
+    fn printed(named: &str, usual: &str, input: &[u8]) -> Vec<u8> {
+        let program = std::env::var_os(named).unwrap_or_else(|| usual.into());
         let mut child = Command::new(&program)
             .stdin(Stdio::piped())
             .stdout(Stdio::piped())
             .spawn()
             .unwrap_or_else(|error| panic!("{}: {error}", program.to_string_lossy()));
         let mut stdin = child.stdin.take().expect("it is piped");
-        let text = text.to_vec();
+        let input = input.to_vec();
         // From another thread: the program may print before it has read everything.
         let writer = std::thread::spawn(move || {
             // A program that has read enough may close its end; what it prints tells whether it should have.
-            let _ = stdin.write_all(&text);
+            let _ = stdin.write_all(&input);
         });
         let result = child.wait_with_output().expect("the program's output");
         writer.join().expect("the writing thread");
-        out[..result.stdout.len()].copy_from_slice(&result.stdout);
-        result.stdout.len()
+        let mut printed = result.stdout;
+        // A program that ends badly is not one that prints nothing.
+        if !result.status.success() {
+            let _ = write!(printed, "{}", result.status);
+        }
+        printed
     }
 }

@@ -1,4 +1,4 @@
-//! Why something is refused, with the scope document's numbers.
+//! Why something is refused, with the numbers of the scope document and the requests.
 
 #[derive(Clone, Copy, Debug, PartialEq, Eq)]
 pub enum Refusal {
@@ -16,12 +16,16 @@ pub enum Refusal {
     ClockBack = 6,
     /// A call that is not feasible.
     CallInfeasible = 7,
+    /// Something lent is shorter than it has to be.
+    TooShort = 8,
     /// The 33rd preset or the 65th job.
     TooMany = 9,
     /// A text above 32,768 bytes.
     TextTooLong = 10,
     /// A table handed over that is not well-formed, or a clock outside the frame.
     TableNotWellFormed = 11,
+    /// A row that is not three decimal fields with CR LF.
+    NoRow = 12,
 }
 
 impl Refusal {

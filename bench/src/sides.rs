@@ -6,12 +6,13 @@ use std::time::{Duration, Instant};
 
 use crate::frame::{Frame, Table, CELLS};
 use crate::head::{self, Head};
+use crate::listing::Listing;
 use crate::loads::Load;
 use crate::text::{lines, Call, Job};
-use crate::{planner, proved};
+use crate::{lent, planner, proved, rows};
 
 /// Runs a load so many times; yields the time and a number that tells the result (lines with an event's form, slots
-/// granted, cells evicted, bytes printed), the same for both sides.
+/// granted, cells evicted, bytes printed, rows with the cells that they took), the same for both sides.
 pub type Run<'a> = Box<dyn FnMut(usize) -> (Duration, u64) + 'a>;
 
 /// Stands for a refused call in a result.
@@ -43,6 +44,21 @@ pub fn independent(load: &Load) -> Option<Run<'_>> {
                 black_box(&out).len() as u64
             })
         }
+        Load::ReadRows(text, rows) => {
+            let mut head = read_head(text);
+            repeated(move || {
+                let count = rows::read(black_box(rows), black_box(&mut head)).expect("the loads are good");
+                rows_result(u64::from(count), &head.busy)
+            })
+        }
+        Load::WriteRows(text) => {
+            let (head, mut out) = (read_head(text), Vec::with_capacity(lent::OUT));
+            repeated(move || {
+                out.clear();
+                Listing { out: &mut out }.rows(black_box(&head));
+                black_box(&out).len() as u64
+            })
+        }
     })
 }
 
@@ -71,6 +87,23 @@ pub fn proved(load: &Load) -> Option<Run<'_>> {
             let line = crate::loads::call_line(jobs);
             Some(each(proved::run_text(text), move |running| {
                 proved::event(running, black_box(&line)).unwrap_or(REFUSED)
+            }))
+        }
+        Load::ReadRows(text, rows) => {
+            let mut lent = lent::Lent::new(&read_head(text));
+            Some(repeated(move || {
+                let (cause, count) = proved::read_rows(black_box(&mut lent), black_box(rows));
+                assert_eq!(cause, 0, "the loads are good");
+                rows_result(count, &lent.frame[lent::BUSY..][..head::BRIDGES])
+            }))
+        }
+        Load::WriteRows(text) => {
+            let (lent, mut out) = (lent::Lent::new(&read_head(text)), vec![0; lent::OUT]);
+            Some(repeated(move || {
+                let (cause, bytes) = proved::write_rows(black_box(&lent), &mut out);
+                assert_eq!(cause, 0, "the loads are good");
+                black_box(&out);
+                bytes
             }))
         }
         Load::Read(_) | Load::Call(..) => None,
@@ -127,6 +160,11 @@ fn each<'a, State: Clone + 'a>(state: State, mut run: impl FnMut(&mut State) -> 
 
 fn event_lines(text: &[u8]) -> u64 {
     lines(text).filter(|line| black_box(line).form.is_some_and(|form| form.is_event())).count() as u64
+}
+
+/// How many rows there were, and how many cells they took.
+fn rows_result(count: u64, busy: &[u64]) -> u64 {
+    count << 10 | busy.iter().map(|slots| u64::from(slots.count_ones())).sum::<u64>()
 }
 
 fn read_head(text: &[u8]) -> Head {

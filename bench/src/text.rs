@@ -117,8 +117,9 @@ impl Iterator for Lines<'_> {
     }
 }
 
-struct Cursor<'a> {
-    rest: &'a [u8],
+/// A place in a text; what stands there is taken from the front.
+pub(crate) struct Cursor<'a> {
+    pub rest: &'a [u8],
 }
 
 impl Cursor<'_> {
@@ -194,7 +195,7 @@ impl Cursor<'_> {
         self.number()
     }
 
-    fn number(&mut self) -> Option<u16> {
+    pub fn number(&mut self) -> Option<u16> {
         let mut value = self.digit()?;
         // After a leading zero the number has ended; a further digit fails as the byte after it.
         if value > 0 {
@@ -215,7 +216,7 @@ impl Cursor<'_> {
         Some(u16::from(digit))
     }
 
-    fn expect(&mut self, bytes: &[u8]) -> Option<()> {
+    pub fn expect(&mut self, bytes: &[u8]) -> Option<()> {
         self.rest = self.rest.strip_prefix(bytes)?;
         Some(())
     }
@@ -227,6 +228,6 @@ impl Cursor<'_> {
 }
 
 /// Slots `from` to `to`, both included, 1 <= from <= to <= 64.
-fn stretch(from: u16, to: u16) -> u64 {
+pub(crate) fn stretch(from: u16, to: u16) -> u64 {
     u64::MAX >> (64 - (to - from + 1)) << (from - 1)
 }

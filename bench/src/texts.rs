@@ -1,4 +1,5 @@
-//! Station texts by seed: good ones of all sizes, and ones at fault in every way that a text can be.
+//! Station texts by seed: good ones of all sizes, and ones at fault in every way that a text can be. [`rows`] has
+//! inputs with rows of a spreadsheet.
 //!
 //! Each text has a kind, so that it can be told what a comparison has tried.
 
@@ -7,6 +8,7 @@ mod limits;
 mod numbers;
 mod places;
 pub mod rng;
+pub mod rows;
 pub mod station;
 
 use rng::Rng;
@@ -56,11 +58,15 @@ const KINDS: &[Kind] = &[
 
 /// The text of a seed.
 pub fn text(seed: u64) -> Text {
-    let mut rng = Rng::new(seed);
-    let mut draw = rng.below(KINDS.iter().map(|kind| kind.weight).sum());
-    for kind in KINDS {
+    drawn(&mut Rng::new(seed), KINDS)
+}
+
+/// A text of one of these kinds, drawn by their weights.
+fn drawn(rng: &mut Rng, kinds: &[Kind]) -> Text {
+    let mut draw = rng.below(kinds.iter().map(|kind| kind.weight).sum());
+    for kind in kinds {
         if draw < kind.weight {
-            return Text { kind: kind.name, bytes: (kind.make)(&mut rng) };
+            return Text { kind: kind.name, bytes: (kind.make)(rng) };
         }
         draw -= kind.weight;
     }

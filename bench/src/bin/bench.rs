@@ -19,7 +19,8 @@ Each time is the median of 201 samples, taken alternately from both sides after 
 until it lasts 100 microseconds (calls: 16 times, each on its own copy of the frame, copied before the clock starts).
 Buffers are allocated once and are not cleared between repeats: a planner writes what it yields over what was there.
 A running call finds a frame whose parts only the planner can change. A checked call is handed a table and tests it
-for well-formedness first. A listing is everything from the text to the output's bytes.
+for well-formedness first. A listing is everything from the text to the output's bytes. Rows are read into a head, or
+written from one, that was read before; the proved planner is handed its records and tests them first.
 ";
 
 const SLOTS: [usize; 4] = [8, 16, 32, 64];
@@ -40,6 +41,7 @@ fn main() {
     calls("224 optional cells, by presets", &PRESETS.map(|p| Sized::new(p, loads::optional_cells(4, p), 4, 56)));
     table("Contest day, 32 presets, by slots", &SLOTS.map(|s| named(s, Load::Listing(loads::contest_day(s, 32)))));
     table("Contest day, 64 slots, by presets", &PRESETS.map(|p| named(p, Load::Listing(loads::contest_day(64, p)))));
+    rows();
 }
 
 fn named(size: usize, load: Load) -> Row {
@@ -79,6 +81,19 @@ fn planning() {
     table("the same, listing", &PRESETS.map(|p| named(p, Load::Listing(loads::head(64, p)))));
 }
 
+fn rows() {
+    let reading = |bytes| Load::ReadRows(loads::head(64, 32), loads::rows(bytes));
+    let row = |name: &str, load| (name.to_owned(), load);
+    table(
+        "Rows of a spreadsheet, 64 x 8, 32 presets",
+        &[
+            row("read 32,768 bytes of rows", reading(32_768)),
+            row("write the most rows, 256", Load::WriteRows(loads::most_rows())),
+        ],
+    );
+    table_of("Reading rows, by bytes, a byte", &BYTES.map(|bytes| named(bytes, reading(bytes))), a_byte);
+}
+
 /// One size of a frame whose free cells are all optional, so many bridges of them in so many slots.
 struct Sized {
     size: usize,
@@ -113,12 +128,17 @@ fn calls(what: &str, sizes: &[Sized]) {
 }
 
 fn table(title: &str, rows: &[Row]) {
+    table_of(title, rows, |_, time| shown(time));
+}
+
+/// A table whose times are shown so.
+fn table_of(title: &str, rows: &[Row], shown: fn(&Load, Duration) -> String) {
     println!("{title:<60}{:>14}{:>14}{:>9}", "independent", "proved", "ratio");
     for (name, load) in rows {
         let (ours, theirs) = compare(name, load);
-        let proved = theirs.map_or("-".into(), shown);
+        let proved = theirs.map_or("-".into(), |theirs| shown(load, theirs));
         let ratio = theirs.map_or("-".into(), |theirs| format!("{:.2}", theirs.as_secs_f64() / ours.as_secs_f64()));
-        println!("  {name:<58}{:>14}{proved:>14}{ratio:>9}", shown(ours));
+        println!("  {name:<58}{:>14}{proved:>14}{ratio:>9}", shown(load, ours));
     }
     println!();
 }
@@ -174,4 +194,9 @@ impl<'a> Sampler<'a> {
 
 fn shown(time: Duration) -> String {
     format!("{:.3} us", time.as_secs_f64() * 1e6)
+}
+
+/// The time for each byte that is read.
+fn a_byte(load: &Load, time: Duration) -> String {
+    format!("{:.3} ns", time.as_secs_f64() * 1e9 / load.bytes() as f64)
 }

@@ -1,4 +1,5 @@
-//! The independent planner as a program: standard input to standard output, as `plan` does.
+//! The independent planner as a program: standard input to standard output, as `plan` does, or with the word `rows` as
+//! the program `rows` does.
 
 use std::io::{self, Read, Write};
 
@@ -6,6 +7,9 @@ fn main() -> io::Result<()> {
     let mut text = Vec::new();
     io::stdin().read_to_end(&mut text)?;
     let mut out = Vec::new();
-    bench::planner::listing(&text, &mut out);
+    match std::env::args().nth(1).as_deref() {
+        Some("rows") => bench::rows::convert(&text, &mut out),
+        _ => bench::planner::listing(&text, &mut out),
+    }
     io::stdout().write_all(&out)
 }

@@ -14,7 +14,7 @@ pub fn huge_number(rng: &mut Rng) -> Vec<u8> {
     bytes
 }
 
-fn long_number(rng: &mut Rng) -> String {
+pub fn long_number(rng: &mut Rng) -> String {
     let small = rng.within(0..=9) as u128;
     match rng.below(7) {
         0 => ((1 << 8) + small).to_string(),
@@ -31,8 +31,14 @@ fn long_number(rng: &mut Rng) -> String {
 pub fn bad_number(rng: &mut Rng) -> Vec<u8> {
     let station = any_station(rng);
     let mut bytes = station.bytes();
+    let bad = no_number(rng);
+    replace_number(rng, &mut bytes, bad.as_bytes());
+    bytes
+}
+
+pub fn no_number(rng: &mut Rng) -> String {
     let small = rng.within(0..=9);
-    let bad = match rng.below(8) {
+    match rng.below(8) {
         0 => format!("0{small}"),
         1 => "00".into(),
         2 => format!("-{small}"),
@@ -41,13 +47,11 @@ pub fn bad_number(rng: &mut Rng) -> Vec<u8> {
         5 => format!("0x{small}"),
         6 => String::new(),
         _ => format!("{small}e1"),
-    };
-    replace_number(rng, &mut bytes, bad.as_bytes());
-    bytes
+    }
 }
 
 /// Replaces one number of the text, any of them with the same chance.
-fn replace_number(rng: &mut Rng, bytes: &mut Vec<u8>, by: &[u8]) {
+pub fn replace_number(rng: &mut Rng, bytes: &mut Vec<u8>, by: &[u8]) {
     let starts: Vec<usize> = (0..bytes.len())
         .filter(|&at| bytes[at].is_ascii_digit() && (at == 0 || !bytes[at - 1].is_ascii_digit()))
         .collect();

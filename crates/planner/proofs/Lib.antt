@@ -8,5 +8,7 @@ mod RunText
 mod EventLine
 mod PlanFrame
 mod WholeListing
+mod RowsRead
+mod RowsWritten
 -- Lines handed over one by one.
 pub mod HandedOver

@@ -4,7 +4,8 @@
 -- written changes nothing (`bytes-back`), nor does what was read behind other records (`bytes-over-rest`), and bytes past them stay (`bytes-past`); a frame: its reserved
 -- places are not looked at (`reserved-head`, `reserved-clock`), what was written is read back (`head-back`, `clock-back`) with 0 in the reserved places
 -- (`cleared-zero`), numbers past it stay (`head-past`, `numbers-past`), the head and the clock that were read and are written change nothing (`head-same`), and with the
--- reserved numbers exactly if these are 0 (`numbers-back`, `back-zero`); its clock alone (`clock-head`, `clock-new`, `clock-same`, `clock-again`).
+-- reserved numbers exactly if these are 0 (`numbers-back`, `back-zero`); its clock alone (`clock-head`, `clock-new`, `clock-same`, `clock-again`); its
+-- masks alone (`masks-head`, `masks-same`).
 -- Assumes nothing.
 use Prim.Native.Nat.{ℕ, zero, suc, _+_, _*_, _≤_, _<_}
 use native.Mathlib.Omega.{arith}
@@ -16,7 +17,8 @@ use Rattle.laws.specs.Lists.{tabulate}
 use Rattle.laws.proofs.Stores.{sets-out}
 use Rattle.station.specs.declared.types.Preset.{Preset}
 use Rattle.station.specs.declared.types.Head.{Head}
-use Rattle.planner.specs.Layout.{firstRecords, bytesOf, bytesOver, frameNumbers, headOfNumbers, clockOfNumbers, headOver, reservedCleared, numbersOver, clockOver}
+use Rattle.station.specs.Types.{withMasks}
+use Rattle.planner.specs.Layout.{firstRecords, bytesOf, bytesOver, frameNumbers, headOfNumbers, clockOfNumbers, headOver, reservedCleared, numbersOver, clockOver, masksOver}
 
 -- ---- a run of stores
 
@@ -206,3 +208,22 @@ clock-again c d (x ∷ []) = refl
 clock-again c d (x ∷ y ∷ []) = refl
 clock-again c d (x ∷ y ∷ z ∷ []) = refl
 clock-again c d (x ∷ y ∷ z ∷ w ∷ l) = refl
+
+-- ---- its masks alone
+
+-- the masks that were written are read back, and the rest of the head is as it was
+pub masks-head : (ms l : List ℕ) → length ms ≡ 8 → frameNumbers ≤ length l → headOfNumbers (masksOver ms l) ≡ withMasks (headOfNumbers l) ms
+unfolding tabulate
+masks-head ms [] eight h = absurd (omega arith)
+masks-head ms (x ∷ []) eight h = absurd (omega arith)
+masks-head ms (x ∷ y ∷ []) eight h = absurd (omega arith)
+masks-head ms (x ∷ y ∷ z ∷ []) eight h = absurd (omega arith)
+masks-head ms (x ∷ y ∷ z ∷ w ∷ l) eight h =
+    let masks : tabulate 8 (λ i. getD (ms ++ drop 8 l) i 0) ≡ ms = rw eight at (firsts-read ms (drop 8 l)) in
+    let there : sets l 0 ms ≡ ms ++ drop 8 l = sets-eq ms l 0 (omega (arith, eight)) ∙ rw eight refl in
+    rw (sets-four x y z w l ms, there, masks) refl
+
+-- writing the masks that were read changes nothing
+pub masks-same : (l : List ℕ) → masksOver (headOfNumbers l .busy) l ≡ l
+unfolding tabulate
+masks-same l = rw (set-getD l 4 0, set-getD l 5 0, set-getD l 6 0, set-getD l 7 0, set-getD l 8 0, set-getD l 9 0, set-getD l 10 0, set-getD l 11 0) refl

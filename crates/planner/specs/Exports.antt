@@ -1,24 +1,32 @@
--- What the four exported functions are held to: what each answers, and every number, byte and cell that was handed over, afterwards, for all inputs; and what is
--- claimed of it. Document 01, "Causes", "One listing, whole" and "What demand 3 speaks of". A frame and preset records are read and written as planner_layout says.
+-- What the six exported functions are held to: what each answers, and every number, byte and cell that was handed over, afterwards, for all inputs; and what is
+-- claimed of it. Document 01, "Causes", "One listing, whole" and "What demand 3 speaks of"; document 02, 2026-01. A frame and preset records are read and written as Layout says.
 --
 -- In order: the running frame that numbers and bytes stand for; what is returned (`Returned`); `planner_run_text` (`TextLeaves`, `TextPromise`), `planner_event`
--- (`EventLeaves`, `EventPromise`), `planner_plan` (`PlanLeaves`, `PlanPromise`), `planner_listing` (`ListingLeaves`, `ListingWhole`).
+-- (`EventLeaves`, `EventPromise`), `planner_plan` (`PlanLeaves`, `PlanPromise`), `planner_listing` (`ListingLeaves`, `ListingWhole`), `planner_read_rows`
+-- (`RowsLeaves`, `RowsPromise`), `planner_write_rows` (`RowsWrittenLeaves`, `RowsWrittenPromise`).
 -- Assumes nothing.
 use Prim.Native.Nat.{ℕ, _≤_, _<_}
 use mathlib.Core.Path.{_≡_}
 use mathlib.Core.Option.{Option, none, some}
-use mathlib.Core.List.{List, [], _∷_, map}
-use lib.ListN.{length}
+use mathlib.Core.Bool.{true}
+use mathlib.Core.List.{List, [], _∷_, _++_, map}
+use lib.ListN.{length, take}
 use lib.Seq.{sets}
 use lib.Dec.{ltb}
 use Rattle.laws.specs.Lists.{at}
-use Rattle.station.specs.Head.{Head}
+use Rattle.station.specs.Head.{Head, withBusy}
 use Rattle.station.specs.Limits.{mostPresets, mostBytes}
 use Rattle.station.specs.Refusal.{Refusal, numberOf, tooShort, textTooLong, try, firstOf}
-use Rattle.station.specs.Types.{headIn}
+use Rattle.station.specs.Types.{headIn, refusalIn, validRecord}
 use Rattle.station.specs.declared.types.Head as record-of-head
 use Rattle.station.specs.ReadHead.{headRecord, recordOf}
 use Rattle.station.specs.WriteHead as writing
+use Rattle.station.specs.Reading as reading
+use Rattle.station.specs.Row.{maskRows, rowsText}
+use Rattle.station.specs.ReadRows.{RowsMean}
+use Rattle.station.specs.RowEntries.{rowsReading}
+use Rattle.station.specs.declared.rows.RowsAnswer.{RowsAnswer}
+use Rattle.station.specs.declared.rows.RowsAnswer.the-variants.{Accepted, Refused}
 use Rattle.placing.specs.State.{State, stateOf}
 use Rattle.placing.specs.Claims.{Running, PlanClaim}
 use Rattle.placing.specs.Outcomes.{PlanAnswer, PlanOutcome}
@@ -30,7 +38,7 @@ use Rattle.frame.specs.Demands.{Demand3}
 use Rattle.frame.specs.EventDone.{eventMeant}
 use Rattle.frame.specs.TextDone.{wholeWithOutput, End, listed, refusedAt, endOf, tableAfter, outputAfter, TextClaim}
 use Rattle.frame.specs.WriteListing.{listingCause, listingMeant}
-use Rattle.planner.specs.Layout.{presetBytes, recordsIn, bytesOver, frameNumbers, headOfNumbers, clockOfNumbers, headOver, numbersOver, clockOver}
+use Rattle.planner.specs.Layout.{presetBytes, recordsIn, bytesOver, frameNumbers, headOfNumbers, clockOfNumbers, headOver, numbersOver, clockOver, masksOver}
 use Rattle.placing.specs.Types.{filled}
 
 -- ---- the running frame
@@ -50,6 +58,16 @@ RunningOn frame presets t = Running (headOn frame presets) (stateOn frame t)
 -- "preset list below 32 records" is 8, and so is a frame below sixteen numbers
 abbrev pub shortCauses : List ℕ → List ℕ → List (Option Refusal)
 shortCauses frame presets = try tooShort (ltb (length frame) frameNumbers) ∷ try tooShort (ltb (length presets) presetBytes) ∷ []
+
+-- and "text above 32,768 bytes" is 10, before these
+abbrev pub textCauses : List ℕ → List ℕ → List ℕ → List (Option Refusal)
+textCauses text frame presets = try textTooLong (ltb mostBytes (length text)) ∷ shortCauses frame presets
+
+-- a frame and presets that 8 and 2 let pass
+pub record HeadPasses (frame presets : List ℕ) : Type 0 where
+  pub numbers : frameNumbers ≤ length frame
+  pub records : presetBytes ≤ length presets
+  pub valid : validRecord (headOfNumbers frame) (recordsIn presets) ≡ true
 
 -- ---- what is returned
 
@@ -84,17 +102,27 @@ abbrev pub planReturned : PlanAnswer → Returned
 planReturned (PlanAnswer.granted g) = accepts g
 planReturned (PlanAnswer.refused n r) = refuses n r
 
--- of a listing: the number of its bytes in the output
+-- of a listing or of rows: the number of its bytes in the output
 abbrev pub writtenReturned : writing.Answer → Returned
 writtenReturned (writing.written n) = accepts (n ∷ [])
 writtenReturned (writing.refused n r) = refuses n r
+
+-- of a text of rows: their number; or "returns the row"
+abbrev pub rowsReturned : reading.Reading → Returned
+rowsReturned (reading.accepted g n) = accepts (n ∷ [])
+rowsReturned (reading.refused n r) = refuses n r
+
+-- the same of the code's answer
+abbrev pub rowsAnswered : RowsAnswer → Returned
+rowsAnswered (Accepted n) = accepts (n ∷ [])
+rowsAnswered (Refused n r) = refuses n (refusalIn r)
 
 -- ---- planner_run_text
 
 -- What a text comes to: 10, then 8 of the frame and of the presets, then as beside the output, which is 8 of the output and of the table.
 unfoldable pub textOn : List ℕ → List ℕ → List ℕ → List ℕ → List ℕ → Whole
 textOn text frame presets t out =
-    elim (firstOf (try textTooLong (ltb mostBytes (length text)) ∷ shortCauses frame presets)) [ none ↦ wholeWithOutput text t out | some r ↦ notRead 0 r ]
+    elim (firstOf (textCauses text frame presets)) [ none ↦ wholeWithOutput text t out | some r ↦ notRead 0 r ]
 
 -- What a head and a clock make of a frame: all its numbers where the text ran, and after a refusal all but the reserved ones, which stay.
 abbrev pub frameLeft : End → record-of-head.Head → ℕ → List ℕ → List ℕ
@@ -198,3 +226,58 @@ pub record ListingLeaves (text t out t₁ out₁ : List ℕ) (n r : ℕ) : Type 
 pub record ListingWhole (text t out out₁ : List ℕ) (n : ℕ) : Type 0 where
   pub bytes : n ≡ value (writtenReturned (writing.answerOf (listingCause text t out) (length (listingOf (wholeOf text t)))))
   pub output : out₁ ≡ writing.outputOf (listingCause text t out) (listingOf (wholeOf text t)) out
+
+-- ---- planner_read_rows
+
+-- How rows read beside a frame and presets: 10, then 8 of the frame and of the presets, at row 0, then as beside the head.
+unfoldable pub rowsOn : List ℕ → List ℕ → List ℕ → reading.Reading
+rowsOn text frame presets =
+    reading.unless (firstOf (textCauses text frame presets)) 0 (rowsReading mostPresets (headOfNumbers frame) (recordsIn presets) text)
+
+-- The frame afterwards: "put them in place of the head's busy lines"; a refusal "leaves the head".
+unfoldable pub rowsFrame : reading.Reading → List ℕ → List ℕ
+rowsFrame (reading.accepted g n) frame = masksOver (g .busy) frame
+rowsFrame (reading.refused n r) frame = frame
+
+-- What `planner_read_rows` answers (r and n, the `row`) and leaves where the rows read as x: of the frame f only the masks change, of the presets nothing.
+pub record RowsLeaves (x : reading.Reading) (f f₁ : List ℕ) (n r : ℕ) : Type 0 where
+  pub answer : r ≡ rowsReturned x .number
+  pub row : n ≡ value (rowsReturned x)
+  pub frame : f₁ ≡ rowsFrame x f
+
+pub record RowsPromise (text frame presets frame₁ : List ℕ) (n r : ℕ) : Type 0 where
+  -- "returns the row and leaves the head"
+  pub unchanged : 0 < r → frame₁ ≡ frame
+  -- the frame afterwards stands for the head that was read
+  pub head : r ≡ 0 → rowsOn text frame presets ≡ reading.accepted (headOn frame₁ presets) n
+  -- what the paper says of the rows, where no cause is met before the first of them
+  pub meant : length text ≤ mostBytes → HeadPasses frame presets → RowsMean (headOn frame presets) text (rowsOn text frame presets)
+  -- a frame and presets that are long enough do not matter
+  pub long : frameNumbers ≤ length frame → presetBytes ≤ length presets → rowsOn text frame presets ≡ rowsReading mostPresets (headOfNumbers frame) (recordsIn presets) text
+
+-- ---- planner_write_rows
+
+-- Tried before anything is written: 8 of the frame and of the presets, then the causes of writing a head, 8 of the output and 2.
+abbrev pub rowsWriteCauses : List ℕ → List ℕ → List ℕ → List (Option Refusal)
+rowsWriteCauses frame presets out = shortCauses frame presets ++ writing.writeCauses (headOfNumbers frame) (recordsIn presets) out
+
+-- what is returned of the rows of the frame's busy cells
+unfoldable pub rowsWritten : List ℕ → List ℕ → List ℕ → Returned
+rowsWritten frame presets out =
+    writtenReturned (writing.answerOf (firstOf (rowsWriteCauses frame presets out)) (length (rowsText (headOfNumbers frame .busy))))
+
+-- What `planner_write_rows` answers (r and n, the `bytes`) and leaves of the output, f being the frame and p the presets, which do not change.
+pub record RowsWrittenLeaves (f p out out₁ : List ℕ) (n r : ℕ) : Type 0 where
+  pub answer : r ≡ rowsWritten f p out .number
+  pub bytes : n ≡ value (rowsWritten f p out)
+  pub output : out₁ ≡ writing.outputOf (firstOf (rowsWriteCauses f p out)) (rowsText (headOfNumbers f .busy)) out
+
+pub record RowsWrittenPromise (frame presets out out₁ : List ℕ) (n r : ℕ) : Type 0 where
+  -- a refusal changes nothing
+  pub unchanged : 0 < r → out₁ ≡ out
+  -- so long are the longest rows
+  pub short : n ≤ 2240
+  -- "A head written to rows and read again has the same busy cells": read beside this frame and these presets, which pass, or beside others of the same slots and bridges
+  pub passes : r ≡ 0 → HeadPasses frame presets
+  pub again : r ≡ 0 → (f p : List ℕ) → HeadPasses f p → headOfNumbers f .slots ≡ headOfNumbers frame .slots → headOfNumbers f .bridges ≡ headOfNumbers frame .bridges
+      → rowsOn (take n out₁) f p ≡ reading.accepted (withBusy (headOn f p) (headOfNumbers frame .busy)) (length (maskRows 1 (headOfNumbers frame .busy)))

@@ -2,7 +2,7 @@
 -- writing are inverse is proved in proofs/RoundTrip.antt.
 --
 -- In order: the bytes of preset records, read (`recordsIn`) and written (`bytesOver`); the numbers of a frame, read (`headOfNumbers`, `clockOfNumbers`) and
--- written (`headOver`, `reservedCleared`, `numbersOver`, `clockOver`).
+-- written (`headOver`, `reservedCleared`, `numbersOver`, `clockOver`, `masksOver`).
 -- Assumes nothing.
 use Prim.Native.Nat.{ℕ, zero, suc, _+_, _*_}
 use mathlib.Core.List.{List, [], _∷_}
@@ -76,3 +76,7 @@ numbersOver head clock l = reservedCleared (headOver head clock l)
 -- and with a clock alone
 abbrev pub clockOver : ℕ → List ℕ → List ℕ
 clockOver clock l = set l 3 clock
+
+-- or with the masks of the busy slots alone
+abbrev pub masksOver : List ℕ → List ℕ → List ℕ
+masksOver ms l = sets l 4 ms

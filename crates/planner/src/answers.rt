@@ -2,6 +2,7 @@
 use frame::text::Ended;
 use frame::types::Answer;
 use station::causes::cause_number;
+use station::rows::RowsAnswer;
 use station::types::Refusal;
 use station::write::Writing;
 ghost use mathlib.Core.Path.{_≡_};
@@ -10,7 +11,7 @@ ghost use Rattle.station.specs.Types.{refusalIn};
 ghost use Rattle.station.specs.WriteHead as writing;
 ghost use Rattle.frame.specs.Types.{answerIn};
 ghost use Rattle.frame.specs.TextDone.{endIn};
-ghost use Rattle.planner.specs.Exports.{endReturned, value, answerReturned, writtenReturned};
+ghost use Rattle.planner.specs.Exports.{endReturned, value, answerReturned, writtenReturned, rowsAnswered};
 
 // The paper's number of a cause.
 pub(crate) fn refusal_number(cause: Refusal) -> u32
@@ -61,7 +62,7 @@ pub(crate) fn answer_count(answer: Answer) -> u64
     }
 }
 
-// Whether a listing was written.
+// Whether a listing or rows were written.
 pub(crate) fn written_number(answer: Writing) -> u32
     ensures { λ r. ⌜ r ≡ writtenReturned (writing.answerIn answer) .number ⌝ }
 {
@@ -71,12 +72,32 @@ pub(crate) fn written_number(answer: Writing) -> u32
     }
 }
 
-// How many bytes of a listing were written; or the line of the refusal.
+// How many bytes of a listing or of rows were written; or the line of the refusal.
 pub(crate) fn written_count(answer: Writing) -> u64
     ensures { λ r. ⌜ r ≡ value (writtenReturned (writing.answerIn answer)) ⌝ }
 {
     match answer {
         Writing::Written(n) => n as u64,
         Writing::Refused(line, _) => line as u64,
+    }
+}
+
+// Whether rows were read.
+pub(crate) fn rows_number(answer: RowsAnswer) -> u32
+    ensures { λ r. ⌜ r ≡ rowsAnswered answer .number ⌝ }
+{
+    match answer {
+        RowsAnswer::Accepted(_) => 0,
+        RowsAnswer::Refused(_, cause) => refusal_number(cause),
+    }
+}
+
+// How many rows were read; or the row at fault.
+pub(crate) fn rows_count(answer: RowsAnswer) -> u64
+    ensures { λ r. ⌜ r ≡ value (rowsAnswered answer) ⌝ }
+{
+    match answer {
+        RowsAnswer::Accepted(n) => n as u64,
+        RowsAnswer::Refused(row, _) => row as u64,
     }
 }

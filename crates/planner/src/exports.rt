@@ -1,16 +1,19 @@
-// The functions that firmware in C or Rust calls, over numbers and slices alone. Each answers 0, or the number 1 to 11 of the refusal, and takes every input:
+// The functions that firmware in C or Rust calls, over numbers and slices alone. Each answers 0, or the number 1 to 12 of the refusal, and takes every input:
 // short slices and bad records have their numbers. The causes are tried in the order in which a function's comment names them.
 use crate::answers::answer_count;
 use crate::answers::answer_number;
 use crate::answers::end_number;
 use crate::answers::end_place;
 use crate::answers::refusal_number;
+use crate::answers::rows_count;
+use crate::answers::rows_number;
 use crate::answers::written_count;
 use crate::answers::written_number;
 use crate::grants::save_grants;
 use crate::numbers::clock_of;
 use crate::numbers::head_of;
 use crate::numbers::save_clock;
+use crate::numbers::save_masks;
 use crate::numbers::save_run;
 use crate::presets::load_presets;
 use crate::presets::save_presets;
@@ -24,9 +27,11 @@ use placing::plan::PlanAnswer;
 use placing::plan::plan_by_value;
 use station::limits::MOST_BYTES;
 use station::limits::MOST_PRESETS;
+use station::rows::read_rows_by_value;
+use station::rows::text::write_rows_by_value;
 ghost use Prim.Native.Nat.{_≤_};
 ghost use lib.ListN.{length};
-ghost use Rattle.planner.specs.Exports.{textOn, TextLeaves, TextPromise, eventOn, EventLeaves, EventPromise, planOn, PlanLeaves, PlanPromise, ListingLeaves, ListingWhole};
+ghost use Rattle.planner.specs.Exports.{textOn, TextLeaves, TextPromise, eventOn, EventLeaves, EventPromise, planOn, PlanLeaves, PlanPromise, ListingLeaves, ListingWhole, rowsOn, RowsLeaves, RowsPromise, RowsWrittenLeaves, RowsWrittenPromise};
 
 // Document 01's numbers of "text above 32,768 bytes" and of what is lent too short.
 const TEXT_TOO_LONG: u32 = 10;
@@ -149,6 +154,66 @@ pub extern "C" fn planner_listing(
     ensures whole { λ _. ⌜ (655360 ≤ length (now (out .entry)) → ListingWhole (now (text .entry)) (now (table .entry)) (now (out .entry)) (now (out .exit)) (now (bytes .exit))) ⌝ }
 {
     let written = write_listing(text, table, out);
+    *bytes = written_count(written);
+    written_number(written)
+}
+
+// Puts the rows of a text in place of the frame's busy times: 10 for more than 32,768 bytes, 8 for a frame below 16 numbers or presets below 128 bytes, 2 for a head that no text
+// yields, then of the first row at fault 12 or 2. Where they are read, the masks of the frame are those of the rows, its other numbers stay, and `row` is how many rows there are. Where
+// they are refused, `row` is the row at fault, 0 before any row, and nothing else changes.
+#[no_mangle]
+pub extern "C" fn planner_read_rows(
+    text: &[u8],
+    frame: &mut [u64],
+    presets: &[u8],
+    row: &mut u64,
+) -> u32
+    ensures done { λ r. ⌜ RowsLeaves (rowsOn (now (text .entry)) (now (frame .entry)) (now (presets .entry))) (now (frame .entry)) (now (frame .exit)) (now (row .exit)) r ⌝ }
+    ensures claim { λ r. ⌜ RowsPromise (now (text .entry)) (now (frame .entry)) (now (presets .entry)) (now (frame .exit)) (now (row .exit)) r ⌝ }
+{
+    *row = 0;
+    if MOST_BYTES < text.len() {
+        return TEXT_TOO_LONG;
+    }
+    if frame.len() < FRAME_NUMBERS {
+        return TOO_SHORT;
+    }
+    if presets.len() < PRESETS_BYTES {
+        return TOO_SHORT;
+    }
+    let head = head_of(frame);
+    let copied = load_presets(presets);
+    let read = read_rows_by_value(text, head, copied);
+    let answer = read.answer;
+    let found = read.head;
+    let busy = found.busy;
+    save_masks(frame, busy);
+    *row = rows_count(answer);
+    rows_number(answer)
+}
+
+// Writes the rows of the frame's busy times at the start of the output: 8 for a frame below 16 numbers, presets below 128 bytes or an output below 8,192 bytes, 2 for a head that no
+// text yields. `bytes` is how many bytes they have, and 0 with a refusal, which changes nothing else; bytes past them stay.
+#[no_mangle]
+pub extern "C" fn planner_write_rows(
+    frame: &[u64],
+    presets: &[u8],
+    out: &mut [u8],
+    bytes: &mut u64,
+) -> u32
+    ensures done { λ r. ⌜ RowsWrittenLeaves (now (frame .entry)) (now (presets .entry)) (now (out .entry)) (now (out .exit)) (now (bytes .exit)) r ⌝ }
+    ensures claim { λ r. ⌜ RowsWrittenPromise (now (frame .entry)) (now (presets .entry)) (now (out .entry)) (now (out .exit)) (now (bytes .exit)) r ⌝ }
+{
+    *bytes = 0;
+    if frame.len() < FRAME_NUMBERS {
+        return TOO_SHORT;
+    }
+    if presets.len() < PRESETS_BYTES {
+        return TOO_SHORT;
+    }
+    let head = head_of(frame);
+    let copied = load_presets(presets);
+    let written = write_rows_by_value(head, copied, out);
     *bytes = written_count(written);
     written_number(written)
 }

@@ -6,9 +6,8 @@ use station::types::Head;
 use station::types::NO_HEAD;
 ghost use mathlib.Core.Path.{_≡_};
 ghost use lib.ListN.{getD, set};
-ghost use lib.Seq.{sets};
 ghost use Rattle.frame.specs.TextDone.{endIn};
-ghost use Rattle.planner.specs.Layout.{headOfNumbers, clockOfNumbers, headOver, reservedCleared, clockOver};
+ghost use Rattle.planner.specs.Layout.{headOfNumbers, clockOfNumbers, headOver, reservedCleared, clockOver, masksOver};
 ghost use Rattle.planner.specs.Exports.{frameLeft};
 
 // The number at a place; 0 past the end.
@@ -66,9 +65,9 @@ pub(crate) fn save_clock(frame: &mut [u64], clock: usize)
     set_number(frame, 3, clock as u64);
 }
 
-// Writes the masks of the busy slots to their places.
-fn save_masks(frame: &mut [u64], busy: [u64; MOST_BRIDGES])
-    ensures { λ _. ⌜ now (frame .exit) ≡ sets (now (frame .entry)) 4 busy ⌝ }
+// Writes the masks of the busy slots to their places, and nothing else.
+pub(crate) fn save_masks(frame: &mut [u64], busy: [u64; MOST_BRIDGES])
+    ensures { λ _. ⌜ now (frame .exit) ≡ masksOver busy (now (frame .entry)) ⌝ }
 {
     let mut b = 0;
     while b < MOST_BRIDGES {

@@ -11,7 +11,7 @@ use lib.ListN.{length, take, drop, getD}
 use lib.Seq.{drop-cons, drop-length, getD-take, length-take-le}
 use Rattle.station.specs.declared.types.Preset.{Preset}
 use Rattle.station.specs.declared.types.Refusal.{Refusal}
-use Rattle.station.specs.declared.types.Refusal.the-variants.{NoForm, OutOfLimits, OutOfPlace, NumberUsed, MandatoryNotFeasible, ClockBack, CallNotFeasible, TooShort, TooMany, TextTooLong, NotWellFormed}
+use Rattle.station.specs.declared.types.Refusal.the-variants.{NoForm, OutOfLimits, OutOfPlace, NumberUsed, MandatoryNotFeasible, ClockBack, CallNotFeasible, TooShort, TooMany, TextTooLong, NotWellFormed, NoRow}
 use Rattle.station.specs.Refusal as cause
 use Rattle.station.specs.Types.{refusalIn, refusalOf, noRecord}
 
@@ -36,6 +36,7 @@ refusal-in TooShort = refl
 refusal-in TooMany = refl
 refusal-in TextTooLong = refl
 refusal-in NotWellFormed = refl
+refusal-in NoRow = refl
 
 pub refusal-of : (c : cause.Refusal) → refusalIn (refusalOf c) ≡ c
 refusal-of cause.noForm = refl
@@ -49,3 +50,4 @@ refusal-of cause.tooShort = refl
 refusal-of cause.tooMany = refl
 refusal-of cause.textTooLong = refl
 refusal-of cause.notWellFormed = refl
+refusal-of cause.noRow = refl

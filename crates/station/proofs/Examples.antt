@@ -16,7 +16,7 @@ use mathlib.Core.List.{List, [], _∷_, _++_, map}
 use lib.ListN.{replicate}
 use Rattle.station.specs.Head.{Head, Preset, presetOf, bareHead, withBusy, withPresets, valid, hasNumber, allInLimits, allDistinct, masksIn}
 use Rattle.station.specs.Refusal.{numberOf, firstOf, noForm, outOfLimits, outOfPlace, numberUsed, mandatoryNotFeasible, clockBack}
-use Rattle.station.specs.Refusal.{callNotFeasible, tooShort, tooMany, textTooLong, notWellFormed}
+use Rattle.station.specs.Refusal.{callNotFeasible, tooShort, tooMany, textTooLong, notWellFormed, noRow}
 use Rattle.station.specs.Text.{bytes, lines}
 use Rattle.station.specs.Decimal.{digits, digitsIn, digitCount, plain, valueFrom}
 use Rattle.station.specs.Form.{Form, form, print, brackets, starts, word, number, bracketsIn, readBrackets, frameIn, busyIn, presetIn, clockIn}
@@ -162,10 +162,10 @@ longest = refl
 
 -- "Number", row by row of the table of causes; and what the code answers goes by the same numbers
 pub cause-numbers : (map numberOf (noForm ∷ outOfLimits ∷ outOfPlace ∷ numberUsed ∷ mandatoryNotFeasible ∷ clockBack ∷ callNotFeasible ∷ tooShort
-    ∷ tooMany ∷ textTooLong ∷ notWellFormed ∷ []) ≡ 1 ∷ 2 ∷ 3 ∷ 4 ∷ 5 ∷ 6 ∷ 7 ∷ 8 ∷ 9 ∷ 10 ∷ 11 ∷ [])
+    ∷ tooMany ∷ textTooLong ∷ notWellFormed ∷ noRow ∷ []) ≡ 1 ∷ 2 ∷ 3 ∷ 4 ∷ 5 ∷ 6 ∷ 7 ∷ 8 ∷ 9 ∷ 10 ∷ 11 ∷ 12 ∷ [])
     × (map (λ r. numberOf (refusalIn r)) (code.NoForm ∷ code.OutOfLimits ∷ code.OutOfPlace ∷ code.NumberUsed ∷ code.MandatoryNotFeasible
-    ∷ code.ClockBack ∷ code.CallNotFeasible ∷ code.TooShort ∷ code.TooMany ∷ code.TextTooLong ∷ code.NotWellFormed ∷ [])
-    ≡ 1 ∷ 2 ∷ 3 ∷ 4 ∷ 5 ∷ 6 ∷ 7 ∷ 8 ∷ 9 ∷ 10 ∷ 11 ∷ [])
+    ∷ code.ClockBack ∷ code.CallNotFeasible ∷ code.TooShort ∷ code.TooMany ∷ code.TextTooLong ∷ code.NotWellFormed
+    ∷ code.NoRow ∷ []) ≡ 1 ∷ 2 ∷ 3 ∷ 4 ∷ 5 ∷ 6 ∷ 7 ∷ 8 ∷ 9 ∷ 10 ∷ 11 ∷ 12 ∷ [])
 cause-numbers = (refl, refl)
 
 -- ---- the limits of the lines of a head, accepted at the edge and refused one past it; the causes of a line two at a time

@@ -14,8 +14,6 @@ mod Reading
 mod Writing
 mod WrittenRead
 mod TextSize
--- Ahead of request 2026-01.
-mod rows
 -- The code's records; and steps of any walk by hand. The laws about one part of the code stand beside its proofs, in the folder of its name.
 mod CodeRecords
 mod WalkSteps

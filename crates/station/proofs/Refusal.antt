@@ -12,7 +12,7 @@ use mathlib.Core.Bool.{Bool, true, false}
 use mathlib.Core.Option.{Option, none, some}
 use mathlib.Core.List.{List, [], _∷_, _++_}
 use Rattle.laws.proofs.Tests.{none-some}
-use Rattle.station.specs.Refusal.{Refusal, noForm, outOfLimits, outOfPlace, numberUsed, mandatoryNotFeasible, clockBack, callNotFeasible, tooShort, tooMany, textTooLong, notWellFormed, numberOf, try, firstOf}
+use Rattle.station.specs.Refusal.{Refusal, noForm, outOfLimits, outOfPlace, numberUsed, mandatoryNotFeasible, clockBack, callNotFeasible, tooShort, tooMany, textTooLong, notWellFormed, noRow, numberOf, try, firstOf}
 
 -- ---- the numbers
 
@@ -28,6 +28,7 @@ number-small tooShort = omega arith
 number-small tooMany = omega arith
 number-small textTooLong = omega arith
 number-small notWellFormed = omega arith
+number-small noRow = omega arith
 
 pub number-some : (r : Refusal) → numberOf r ≡ 0 → ⊥
 number-some noForm e = omega (arith, e)
@@ -41,6 +42,7 @@ number-some tooShort e = omega (arith, e)
 number-some tooMany e = omega (arith, e)
 number-some textTooLong e = omega (arith, e)
 number-some notWellFormed e = omega (arith, e)
+number-some noRow e = omega (arith, e)
 
 -- ---- the first cause that holds
 

@@ -17,7 +17,9 @@ pub mod ReadHead
 pub mod WriteHead
 pub mod Entries
 pub mod Wrote
--- Ahead of request 2026-01: the meaning of rows.
-pub mod Rows
+-- Document 02, 2026-01: rows, reading them into a head, and the entries.
+pub mod Row
+pub mod ReadRows
+pub mod RowEntries
 -- What only the code's method needs.
 pub mod method

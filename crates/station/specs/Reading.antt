@@ -14,7 +14,7 @@ use Rattle.station.specs.Text.{lines}
 use Rattle.station.specs.Form.{Form, frameLine, busyLine, presetLine, clockLine, callLine, isEvent, print, form}
 use Rattle.station.specs.Writing.{maskOf, ordered}
 
--- a head and the number of its lines; or the line, counted from 1, and what it is refused for
+-- a head and the number of its lines, or of the rows that were put into it; or the line or row, counted from 1, and what it is refused for
 pub data Reading : Type 0 where
   accepted : Head → ℕ → Reading
   refused : ℕ → Refusal → Reading

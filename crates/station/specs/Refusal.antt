@@ -1,4 +1,4 @@
--- The refusals, and the number that document 01's table of causes gives each.
+-- The refusals, and the number that document 01's table of causes gives each, or the request of document 02 that brings it.
 -- Assumes nothing.
 use Prim.Native.Nat.{ℕ}
 use mathlib.Core.Bool.{Bool, true, false}
@@ -17,6 +17,7 @@ pub data Refusal : Type 0 where
   tooMany : Refusal  -- "33rd preset or 65th job"
   textTooLong : Refusal  -- "text above 32,768 bytes"
   notWellFormed : Refusal  -- "a table that is not sound, or a clock outside 1 to S + 1"
+  noRow : Refusal  -- document 02, 2026-01: "a row that is not three decimal fields with CR LF"
 
 -- the paper's numbers
 abbrev pub numberOf : Refusal → ℕ
@@ -31,6 +32,7 @@ numberOf tooShort = 8
 numberOf tooMany = 9
 numberOf textTooLong = 10
 numberOf notWellFormed = 11
+numberOf noRow = 12
 
 -- a cause that is tried: its refusal where its condition holds
 abbrev pub try : Refusal → Bool → Option Refusal

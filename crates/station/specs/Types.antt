@@ -12,7 +12,7 @@ use Rattle.station.specs.declared.types.Preset.{Preset}
 use Rattle.station.specs.declared.types.Job.{Job}
 use Rattle.station.specs.declared.types.Head.{Head}
 use Rattle.station.specs.declared.types.Refusal.{Refusal}
-use Rattle.station.specs.declared.types.Refusal.the-variants.{NoForm, OutOfLimits, OutOfPlace, NumberUsed, MandatoryNotFeasible, ClockBack, CallNotFeasible, TooShort, TooMany, TextTooLong, NotWellFormed}
+use Rattle.station.specs.declared.types.Refusal.the-variants.{NoForm, OutOfLimits, OutOfPlace, NumberUsed, MandatoryNotFeasible, ClockBack, CallNotFeasible, TooShort, TooMany, TextTooLong, NotWellFormed, NoRow}
 
 -- the cause that an answer names
 abbrev pub refusalIn : Refusal → refusal.Refusal
@@ -27,6 +27,7 @@ refusalIn TooShort = refusal.tooShort
 refusalIn TooMany = refusal.tooMany
 refusalIn TextTooLong = refusal.textTooLong
 refusalIn NotWellFormed = refusal.notWellFormed
+refusalIn NoRow = refusal.noRow
 
 -- the answer that names a cause: the other way round
 abbrev pub refusalOf : refusal.Refusal → Refusal
@@ -41,6 +42,7 @@ refusalOf refusal.tooShort = TooShort
 refusalOf refusal.tooMany = TooMany
 refusalOf refusal.textTooLong = TextTooLong
 refusalOf refusal.notWellFormed = NotWellFormed
+refusalOf refusal.noRow = NoRow
 
 -- the preset of a record
 abbrev pub presetIn : Preset → head.Preset

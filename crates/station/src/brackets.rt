@@ -112,7 +112,7 @@ fn not_ordered() -> Stretches
 }
 
 // The mask of the slots from `first` to `last`, both included. It is put together so that it fits where `last` is 64.
-fn stretch_mask(first: u32, last: u32) -> u64
+pub(crate) fn stretch_mask(first: u32, last: u32) -> u64
     requires { ⌜ (1 ≤ first) × (first ≤ last) × (last ≤ mostSlots) ⌝ }
     ensures { λ r. ⌜ r ≡ maskTo first last ⌝ }
 {

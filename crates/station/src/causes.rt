@@ -20,5 +20,6 @@ pub fn cause_number(cause: Refusal) -> u8
         Refusal::TooMany => 9,
         Refusal::TextTooLong => 10,
         Refusal::NotWellFormed => 11,
+        Refusal::NoRow => 12,
     }
 }

@@ -49,7 +49,7 @@ pub const NO_HEAD: Head = Head {
     count: 0,
 };
 
-// The causes, in the order of their numbers, 1 to 11.
+// The causes, in the order of their numbers, 1 to 12.
 pub enum Refusal {
     NoForm,
     OutOfLimits,
@@ -62,4 +62,5 @@ pub enum Refusal {
     TooMany,
     TextTooLong,
     NotWellFormed,
+    NoRow,
 }

@@ -42,7 +42,7 @@ fn frame_line(out: &mut [u8], at: usize, slots: u8, bridges: u8) -> usize
 }
 
 // The first busy slot of a mask from slot `from` on, counted from 0; 64 where there is none, `from` where it is past 64.
-fn next_busy(mask: u64, from: usize) -> usize
+pub(crate) fn next_busy(mask: u64, from: usize) -> usize
     ensures { λ r. ⌜ r ≡ busyFrom (mostSlots - from) mask from ⌝ }
 {
     let mut i = from;
@@ -56,7 +56,7 @@ fn next_busy(mask: u64, from: usize) -> usize
 }
 
 // The first free slot of a mask from slot `from` on, counted from 0; 64 where there is none, `from` where it is past 64.
-fn next_free(mask: u64, from: usize) -> usize
+pub(crate) fn next_free(mask: u64, from: usize) -> usize
     ensures { λ r. ⌜ r ≡ freeFrom (mostSlots - from) mask from ⌝ }
 {
     let mut i = from;

@@ -15,7 +15,10 @@ use placing::plan::Planned;
 use placing::plan::plan;
 use station::entries::HeadAnswer;
 use station::entries::read_head;
+use station::entries::read_rows;
 use station::entries::write_head;
+use station::entries::write_rows;
+use station::rows::RowsRead;
 use station::types::Head;
 use station::types::Job;
 use station::types::Preset;
@@ -37,6 +40,16 @@ pub fn lent_records(text: &[u8], head: Head, presets: [Preset; 32]) -> [Preset; 
 // Writes a head, whose presets stand in the list.
 pub fn lent_write_head(head: Head, presets: [Preset; 32], out: &mut [u8]) -> Writing {
     write_head(head, &presets, out)
+}
+
+// What reading rows into a head answers, and the head.
+pub fn lent_read_rows(text: &[u8], head: Head, presets: [Preset; 32]) -> RowsRead {
+    read_rows(text, head, &presets)
+}
+
+// Writes the rows of a head.
+pub fn lent_write_rows(head: Head, presets: [Preset; 32], out: &mut [u8]) -> Writing {
+    write_rows(head, &presets, out)
 }
 
 // Plans a head.

@@ -62,8 +62,8 @@ fn show_read(read: HeadAnswer) {
     }
 }
 
-// Writes the head that was written, or the line.
-fn show_written(written: Writing, out: &[u8]) {
+// Writes what was written, or the line.
+pub fn show_written(written: Writing, out: &[u8]) {
     match written {
         Writing::Written(n) => write_first(out, n),
         Writing::Refused(n, cause) => line(b"refused", n as u64, cause_number(cause) as u64),

@@ -1,14 +1,14 @@
--- Laws of the entries read_head and write_head.
+-- Laws of the entries read_head, write_head and write_rows.
 --
--- In order: of writing, fewer than 32 records (`write-few`), enough of them (`write-enough`, and back, `enough-written`), and what was written of the first 32 records by
--- value is what the list has (`write-list`); of reading, a text that is too long (`read-long`), fewer than 32 records (`read-few`), enough of them (`reading-enough`,
+-- In order: of writing, the cause (`entry-few`, `entry-enough`), fewer than 32 records (`write-few`), enough of them (`write-enough`, and back, `enough-written`), of rows the same
+-- (`write-rows-few`, `write-rows-enough`), the head of the list (`head-list`), and what was written of the first 32 records by value is what the list has (`write-list`, `write-rows-list`); of reading, a text that is too long (`read-long`), fewer than 32 records (`read-few`), enough of them (`reading-enough`,
 -- `read-enough`), a head that was accepted (`entry-accepted`), and what is left of the first 32 by value, written back, is what the list is to be (`read-list`).
 -- Assumes nothing.
 use Prim.Native.Nat.{ℕ, _≤_, _<_}
 use native.Mathlib.Omega.{arith}
 use mathlib.Core.Path.{_≡_, refl, sym, _∙_, ap}
 use mathlib.Core.Bool.{Bool, true, false}
-use mathlib.Core.Option.{some}
+use mathlib.Core.Option.{Option, some}
 use mathlib.Core.List.{List, [], _∷_, map}
 use lib.ListN.{length, length-map}
 use lib.Dec.{ltb, leb}
@@ -30,47 +30,80 @@ use Rattle.station.proofs.Writing.{read-valid}
 use Rattle.station.specs.ReadHead.{recordOf, headRead}
 use Rattle.station.specs.Records.{loaded, saved}
 use Rattle.station.proofs.records.CopiedLoops.{loaded-whole, saved-loaded, saved-over}
-use Rattle.station.specs.WriteHead.{WroteHead, writeAnswer, writeOutput, answerOf, outputOf}
-use Rattle.station.specs.Entries.{entryAnswer, entryOutput, WroteEntry, entryReading, entryRead, refusedAtStart, leftBy, answerOf as answerWith}
+use Rattle.station.specs.WriteHead.{WroteHead, writeCauses, writeAnswer, writeOutput, answerOf, outputOf}
+use Rattle.station.specs.Row.{rowsText}
+use Rattle.station.specs.RowEntries.{WroteRows}
+use Rattle.station.specs.Entries.{entryCauses, WroteEntry, entryReading, entryRead, refusedAtStart, leftBy, answerOf as answerWith}
 
 -- ---- writing
 
 module _ (records : ℕ) (h : Head) (ps : List Preset) (out : List ℕ) where
-  pub write-few : records < 32 → WroteEntry records h ps out (Refused 0 TooShort) out
+  -- the cause: 8 for fewer than 32 records, else that of the head by value
+  pub entry-few : records < 32 → firstOf (entryCauses records h ps out) ≡ some tooShort
   unfolding firstOf
-  write-few l = let q = ltb-yes records 32 l in record { answer = rw q refl; output = rw q refl }
+  entry-few l = rw (ltb-yes records 32 l) refl
+
+  pub entry-enough : 32 ≤ records → firstOf (entryCauses records h ps out) ≡ firstOf (writeCauses h ps out)
+  unfolding firstOf
+  entry-enough l = rw (ltb-no records 32 l) refl
+
+  pub write-few : records < 32 → WroteEntry records h ps out (Refused 0 TooShort) out
+  write-few l = let q = entry-few l in record { answer = rw q refl; output = rw q refl }
 
   pub write-enough : {r : Writing} {after : List ℕ} → 32 ≤ records → WroteHead h ps out r after → WroteEntry records h ps out r after
-  unfolding writeAnswer writeOutput firstOf
-  write-enough l w = let q = ltb-no records 32 l in record { answer = rw q (w .answer); output = rw q (w .output) }
+  unfolding writeAnswer writeOutput
+  write-enough l w = let q = entry-enough l in record { answer = rw q (w .answer); output = rw q (w .output) }
 
   pub enough-written : {r : Writing} {after : List ℕ} → 32 ≤ records → WroteEntry records h ps out r after → WroteHead h ps out r after
-  unfolding writeAnswer writeOutput firstOf
-  enough-written l w = let q = ltb-no records 32 l in record { answer = w .answer ∙ (rw q refl); output = w .output ∙ (rw q refl) }
+  unfolding writeAnswer writeOutput
+  enough-written l w = let q = entry-enough l in record { answer = w .answer ∙ (rw q refl); output = w .output ∙ (rw q refl) }
+
+  pub write-rows-few : records < 32 → WroteRows records h ps out (Refused 0 TooShort) out
+  write-rows-few l = let q = entry-few l in record { answer = rw q refl; output = rw q refl }
+
+  pub write-rows-enough : {r : Writing} {after : List ℕ} → 32 ≤ records → WroteRows 32 h ps out r after → WroteRows records h ps out r after
+  unfolding firstOf
+  write-rows-enough l w = let q = ltb-no records 32 l in record { answer = rw q (w .answer); output = rw q (w .output) }
+
+-- two causes, each with a text, come to the same answer and output
+abbrev Same : Option Refusal → Option Refusal → List ℕ → List ℕ → List ℕ → Type 0
+Same c d t u out = (answerOf c (length t) ≡ answerOf d (length u)) × (outputOf c t out ≡ outputOf d u out)
 
 -- where the last cause holds there is a refusal, and no text is looked at
-refused-any : (a b : Bool) (t u out : List ℕ) → let c = firstOf (try tooShort a ∷ try tooShort b ∷ some outOfLimits ∷ []) in (answerOf c (length t) ≡ answerOf c (length u)) × (outputOf c t out ≡ outputOf c u out)
+refused-any : (a b : Bool) (t u out : List ℕ) → let c = firstOf (try tooShort a ∷ try tooShort b ∷ some outOfLimits ∷ []) in Same c c t u out
 unfolding firstOf
 refused-any true b t u out = (refl, refl)
 refused-any false true t u out = (refl, refl)
 refused-any false false t u out = (refl, refl)
 
 -- the head of a record with at most 32 presets is that of the list
-head-list : (h : Head) (ps : List Preset) → h .count ≤ 32 → 32 ≤ length ps → headIn h (loaded ps) ≡ headIn h ps
+pub head-list : (h : Head) (ps : List Preset) → h .count ≤ 32 → 32 ≤ length ps → headIn h (loaded ps) ≡ headIn h ps
 head-list h ps few long = rw (loaded-whole ps long, take-take (h .count) 32 ps few) refl
 
--- Fewer than 32 records are refused whatever they are, and so is a count above 32; else no record past the first 32 is looked at.
-write-same : (h : Head) (ps : List Preset) (out : List ℕ) → (entryAnswer (length ps) h (loaded ps) out ≡ entryAnswer (length ps) h ps out) × (entryOutput (length ps) h (loaded ps) out ≡ entryOutput (length ps) h ps out)
+-- Fewer than 32 records are refused whatever they are, and so is a count above 32; else no record past the first 32 is looked at, and the text t of those is the list's, u.
+write-same : (h : Head) (ps : List Preset) (out t u : List ℕ) → (h .count ≤ 32 → 32 ≤ length ps → t ≡ u)
+    → Same (firstOf (entryCauses (length ps) h (loaded ps) out)) (firstOf (entryCauses (length ps) h ps out)) t u out
 unfolding firstOf
-write-same h ps out = go (is (ltb (length ps) 32)) (is (leb (h .count) 32))
+write-same h ps out t u same = go (is (ltb (length ps) 32)) (is (leb (h .count) 32))
   where
-    go : Is (ltb (length ps) 32) → Is (leb (h .count) 32) → (entryAnswer (length ps) h (loaded ps) out ≡ entryAnswer (length ps) h ps out) × (entryOutput (length ps) h (loaded ps) out ≡ entryOutput (length ps) h ps out)
+    go : Is (ltb (length ps) 32) → Is (leb (h .count) 32) → Same (firstOf (entryCauses (length ps) h (loaded ps) out)) (firstOf (entryCauses (length ps) h ps out)) t u out
     go (is-true e) c = rw e (refl, refl)
-    go (is-false e) (is-true c) = rw (head-list h ps (le-of (h .count) 32 c) (ge-of (length ps) 32 e)) (refl, refl)
-    go (is-false e) (is-false c) = rw c (refused-any (ltb (length ps) 32) (ltb (length out) 8192) (textOf (headIn h (loaded ps))) (textOf (headIn h ps)) out)
+    go (is-false e) (is-true c) =
+        let few = le-of (h .count) 32 c in
+        let long = ge-of (length ps) 32 e in
+        rw (head-list h ps few long, same few long) (refl, refl)
+    go (is-false e) (is-false c) = rw c (refused-any (ltb (length ps) 32) (ltb (length out) 8192) t u out)
 
-pub write-list : (h : Head) (ps : List Preset) (out : List ℕ) {r : Writing} {after : List ℕ} → WroteEntry (length ps) h (loaded ps) out r after → WroteEntry (length ps) h ps out r after
-write-list h ps out w = let same = write-same h ps out in record { answer = w .answer ∙ same .0; output = w .output ∙ same .1 }
+module _ (h : Head) (ps : List Preset) (out : List ℕ) {r : Writing} {after : List ℕ} where
+  pub write-list : WroteEntry (length ps) h (loaded ps) out r after → WroteEntry (length ps) h ps out r after
+  write-list w =
+      let same = write-same h ps out (textOf (headIn h (loaded ps))) (textOf (headIn h ps)) (λ few long. ap textOf (head-list h ps few long)) in
+      record { answer = w .answer ∙ same .0; output = w .output ∙ same .1 }
+
+  pub write-rows-list : WroteRows (length ps) h (loaded ps) out r after → WroteRows (length ps) h ps out r after
+  write-rows-list w =
+      let same = write-same h ps out (rowsText (h .busy)) (rowsText (h .busy)) (λ few long. refl) in
+      record { answer = w .answer ∙ same .0; output = w .output ∙ same .1 }
 
 -- ---- reading
 

@@ -1,19 +1,21 @@
 -- Laws of the first line of a text.
 --
--- In order: it is a front of the text (`line-front`, `line-length`) and not empty where the text is not (`line-some`); the lines of a text one
+-- In order: it is a front of the text (`line-front`, `line-length`) and not empty where the text is not (`line-some`), and the rest follows (`line-rest`);
+-- a line before a text (`line-before`, `line-bytes`); the lines of a text one
 -- after the other (`lines-first`), and from a place on (`lines-at`, `lines-past`); how long the line at a place is (`line-here`, `line-further`,
 -- `line-past`), and that it is a part of the text (`line-none`, `line-within`, `line-part`, `line-short`).
 -- Assumes nothing.
 use Prim.Native.Nat.{ℕ, suc, _+_, _≤_, _<_}
 use native.Mathlib.Omega.{arith}
-use mathlib.Core.Path.{_≡_, refl, _∙_, ap}
-use mathlib.Core.List.{List, [], _∷_}
-use lib.ListN.{length, take, drop, getD, drop-of-length-le, length-drop, length-take}
+use mathlib.Core.Path.{_≡_, refl, sym, _∙_, ap}
+use mathlib.Core.Bool.{true, not}
+use mathlib.Core.List.{List, [], _∷_, _++_}
+use lib.ListN.{length, take, drop, getD, drop-of-length-le, length-drop, length-take, take-append-drop}
 use lib.Seq.{drop-cons, drop-drop}
 use lib.Dec.{eqb}
-use Rattle.laws.proofs.Tests.{Is, is, is-true, is-false}
+use Rattle.laws.proofs.Tests.{Is, is, is-true, is-false, clash, left-of, right-of, false-of-not}
 use Rattle.laws.proofs.Comparisons.{eqb-yes, eqb-no}
-use Rattle.station.specs.Text.{lines, onto}
+use Rattle.station.specs.Text.{isLine, lines, onto}
 use Rattle.station.specs.Line.{lineOf}
 
 -- the first line is a front of the text
@@ -43,6 +45,24 @@ line-some (b ∷ t) h = go (is (eqb b 10))
     go : Is (eqb b 10) → 0 < length (lineOf (b ∷ t))
     go (is-true e) = rw e (omega arith)
     go (is-false e) = rw e (omega arith)
+
+-- the first line and then the rest is the text
+pub line-rest : (t : List ℕ) → t ≡ lineOf t ++ drop (length (lineOf t)) t
+line-rest t = sym (take-append-drop (length (lineOf t)) t) ∙ ap (λ (l : List ℕ). l ++ drop (length (lineOf t)) t) (line-front t)
+
+-- a line before a text is its first line, and not empty
+pub line-before : (l t : List ℕ) → isLine l ≡ true → lineOf (l ++ t) ≡ l
+unfolding isLine lineOf
+line-before [] t h = absurd (clash (sym h))
+line-before (b ∷ []) t h = rw h refl
+line-before (b ∷ (c ∷ l)) t h =
+    rw (false-of-not (eqb b 10) (left-of (not (eqb b 10)) (isLine (c ∷ l)) h))
+    (ap (λ (x : List ℕ). b ∷ x) (line-before (c ∷ l) t (right-of (not (eqb b 10)) (isLine (c ∷ l)) h)))
+
+pub line-bytes : (l : List ℕ) → isLine l ≡ true → 0 < length l
+unfolding isLine
+line-bytes [] h = absurd (clash (sym h))
+line-bytes (b ∷ l) h = omega arith
 
 -- ---- the lines of a text one after the other
 

@@ -1,7 +1,8 @@
 -- Laws of the steps of a recogniser at a place of a text: what each of them makes of what the code found there.
 --
--- In order: a word (`word-yes`, `word-no`); a number (`number-yes`, `number-no`); a word that ends the text (`ends-yes`, `ends-no`); a number and
--- a word after it (`then-yes`, `then-no`, `then-value`, `then-next`); a number that ends the line (`last-yes`, `last-no`, `last-value`).
+-- In order: a word (`word-yes`, `word-no`); a number (`number-yes`, `number-no`); a word that ends the text (`ends-yes`, `ends-no`); what was
+-- picked (`picked`, `passed-over`, `same-picked`); a number and a word after it (`then-yes`, `then-no`, `then-value`, `then-next`); a number
+-- that ends the line (`last-yes`, `last-no`, `last-value`).
 -- Assumes nothing.
 use Prim.Native.Nat.{ℕ, _+_, _≤_, _<_}
 use mathlib.Core.Path.{_≡_, refl, sym, _∙_, ap}
@@ -61,15 +62,15 @@ module _ {A : Type 0} (t : List ℕ) where
 
 -- ---- a number and what follows it
 
-picked : (b : Bool) (n r : Numeral) → r ≡ pickNumeral b n → r .found ≡ true → b ≡ true
+pub picked : (b : Bool) (n r : Numeral) → r ≡ pickNumeral b n → r .found ≡ true → b ≡ true
 picked true n r e f = refl
 picked false n r e f = absurd (clash (sym f ∙ ap (λ (x : Numeral). x .found) e))
 
-passed-over : (b : Bool) (n r : Numeral) → n .found ≡ true → r ≡ pickNumeral b n → r .found ≡ false → b ≡ false
+pub passed-over : (b : Bool) (n r : Numeral) → n .found ≡ true → r ≡ pickNumeral b n → r .found ≡ false → b ≡ false
 passed-over true n r y e f = absurd (clash (sym y ∙ sym (ap (λ (x : Numeral). x .found) e) ∙ f))
 passed-over false n r y e f = refl
 
-same-picked : (b : Bool) (n r : Numeral) → r ≡ pickNumeral b n → r .found ≡ true → r ≡ n
+pub same-picked : (b : Bool) (n r : Numeral) → r ≡ pickNumeral b n → r .found ≡ true → r ≡ n
 same-picked true n r e f = e
 same-picked false n r e f = absurd (clash (sym f ∙ ap (λ (x : Numeral). x .found) e))
 

@@ -1,21 +1,37 @@
--- Rows by computing: the lines that have a row's form and those that have none; texts as they are cut; unions; what is written.
+-- Rows by computing: the lines that have a row's form and those that have none; texts read into a head, accepted with its masks or refused at the first row at fault; what
+-- is written of masks; what the entries try before any row.
 --
--- In order: what computes (`readsRow`, `readsRows`, `writesRows`, for `unfolding` lines); lines read (`lines-read`); whole texts up to the first row at fault, cut at byte 10
--- and at CR LF (`texts-read`, `texts-cut`); unions, and what is written of them (`unions-read`, `unions-written`); the
--- longest text (`rows-longest`).
+-- In order: what computes (`readsRow`, `readsRows`, `writesRows`, `triesRecord`, for `unfolding` lines); lines read (`lines-read`); where a text is cut (`text-cut`); whole
+-- texts read into a head of 4 slots and 2 bridges with a busy slot (`texts-read`), and into one of 64 slots and 8 bridges (`widest-read`); what is written (`masks-written`,
+-- `rows-longest`); the entries (`entries-too-long`, `entries-tried`, `entries-left`, `entries-wrote`).
 -- Assumes nothing.
 use Prim.Native.Nat.{ℕ}
 use Prim.Native.String.{String}
 use mathlib.Core.Path.{_≡_, refl}
+use mathlib.Core.Bool.{Bool}
 use mathlib.Core.Option.{Option, none, some}
-use mathlib.Core.List.{List, [], _∷_, map}
+use mathlib.Core.List.{List, [], _∷_, _++_, map}
 use lib.ListN.{length, replicate}
+use Rattle.station.specs.Head.{Head, presetOf, bareHead, withBusy, withPresets, valid, hasNumber, allInLimits, allDistinct, masksIn}
+use Rattle.station.specs.Refusal.{Refusal, noRow, outOfLimits, tooShort, textTooLong, firstOf}
 use Rattle.station.specs.Text.{bytes, lines}
 use Rattle.station.specs.Decimal.{digits, digitsIn, digitCount, plain, valueFrom}
-use Rattle.station.specs.Form.{starts, word, number, made}
+use Rattle.station.specs.Form.{starts, word, number}
+use Rattle.station.specs.Reading.{Reading, accepted, refused}
 use Rattle.station.specs.Writing.{stretches}
-use Rattle.station.specs.Rows.{Row, row, printRow, fieldIn, rowOf, cutsAfter, cuts, toFault, allRows, rowsOf, withRow, busyWith, rowsBusy, stretchRows, maskRows, bare}
-use Rattle.station.specs.Rows.{rowsText}
+use Rattle.station.specs.Row.{Row, row, printRow, fieldIn, rowOf, cutsAfter, cuts, withRow, stretchRows, maskRows, bare, rowsText}
+use Rattle.station.specs.ReadRows.{readRowsFrom, readRows}
+use Rattle.station.specs.declared.types.Preset as record-of-preset
+use Rattle.station.specs.declared.types.Head as record-of-head
+use Rattle.station.specs.declared.types.Refusal.the-variants as code
+use Rattle.station.specs.declared.rows.RowsAnswer.the-variants.{Accepted, Refused}
+use Rattle.station.specs.declared.rows.RowsRead.{RowsRead}
+use Rattle.station.specs.declared.write.Writing.{Writing}
+use Rattle.station.specs.Types.{validRecord}
+use Rattle.station.specs.WriteHead as write
+use Rattle.station.specs.WriteHead.{answerIn}
+use Rattle.station.specs.RowEntries.{rowsReading, rowsRead, WroteRows}
+use Rattle.station.proofs.Examples.{recordsTo}
 
 -- ---- what computes
 
@@ -23,13 +39,17 @@ unfoldable pub readsRow : List ℕ → Option Row
 unfolding bytes plain digitCount valueFrom starts word number fieldIn rowOf
 readsRow l = rowOf l
 
-unfoldable pub readsRows : List ℕ → Option (List ℕ)
-unfolding readsRow lines allRows rowsOf withRow busyWith rowsBusy
-readsRows t = made rowsBusy (rowsOf t)
+unfoldable pub readsRows : Head → List ℕ → Reading
+unfolding readsRow lines firstOf withRow readRowsFrom readRows
+readsRows h t = readRows h t
 
 unfoldable pub writesRows : List ℕ → List ℕ
 unfolding bytes digits digitsIn printRow stretches stretchRows maskRows bare rowsText
 writesRows ms = rowsText ms
+
+unfoldable pub triesRecord : record-of-head.Head → List record-of-preset.Preset → Bool
+unfolding recordsTo valid hasNumber allInLimits allDistinct masksIn firstOf
+triesRecord h ps = validRecord h ps
 
 -- ---- lines
 
@@ -82,72 +102,162 @@ pub lines-read : map (λ c. rowOf (bytes (c .text))) someLines ≡ map (λ c. c 
 unfolding readsRow
 lines-read = refl
 
--- ---- whole texts: the rows up to the first at fault, cut at byte 10 and at CR LF
+-- ---- where a text is cut: after byte 10 that follows byte 13, and nowhere else
 
+pub text-cut : cuts (bytes "1,1,1\r\n1,2,2\n1,3,3\r1\r\n\r\n\n1") ≡ map bytes ("1,1,1\r\n" ∷ "1,2,2\n1,3,3\r1\r\n" ∷ "\r\n" ∷ "\n1" ∷ [])
+unfolding bytes cutsAfter
+text-cut = refl
+
+-- ---- whole texts: the head is that of `(frame 4 2)`, `(busy 1 (4 4))` and a preset
+
+-- 4 slots and 2 bridges, with these slots of bridge 1 and of bridge 2 busy
+abbrev busyOn : ℕ → ℕ → Head
+busyOn m n = withPresets (withBusy (bareHead 4 2) (m ∷ n ∷ replicate 6 0)) (presetOf 7 1 2 3 ∷ [])
+
+-- a text, and what the paper says of it
 record Text : Type 0 where
   text : String
-  rows : List (Option Row)
+  said : Reading
 
-abbrev has : String → List (Option Row) → Text
-has t rs = record { text = t; rows = rs }
+-- so many rows, and the slots that are busy then
+abbrev takes : String → ℕ → ℕ → ℕ → Text
+takes t n m₁ m₂ = record { text = t; said = accepted (busyOn m₁ m₂) n }
+
+-- the row at fault, and its cause
+abbrev fails : String → ℕ → Refusal → Text
+fails t n c = record { text = t; said = refused n c }
 
 abbrev someTexts : List Text
 someTexts =
-    -- no rows at all
-    has "" []
-    ∷ has "2,3,4\r\n1,1,1\r\n" (some (row 2 3 4) ∷ some (row 1 1 1) ∷ [])
-    -- row 1 has its form, whatever its values; row 2 has none
-    ∷ has "3,1,1\r\n1,1\r\n1,1,1\r\n" (some (row 3 1 1) ∷ none ∷ [])
-    -- a last row without its end; an empty row; byte 10 without 13
-    ∷ has "1,1,1\r\n1,2,2" (some (row 1 1 1) ∷ none ∷ [])
-    ∷ has "1,1,1\r\n\r\n1,2,2\r\n" (some (row 1 1 1) ∷ none ∷ [])
-    ∷ has "1,1,1\r\n1,2,2\n1,3,3\r\n" (some (row 1 1 1) ∷ none ∷ [])
+    -- no rows at all: no busy line is left; nor is it by rows of another bridge
+    takes "" 0 0 0
+    ∷ takes "2,1,1\r\n" 1 0 1
+    -- touching rows are one stretch
+    ∷ takes "1,1,2\r\n1,3,4\r\n" 2 15 0
+    -- any sequence, overlap, quotes; the same row twice; a gap
+    ∷ takes "2,3,4\r\n1,1,1\r\n\"2\",\"1\",2\r\n" 3 1 15
+    ∷ takes "1,2,3\r\n1,3,4\r\n1,2,2\r\n" 3 14 0
+    ∷ takes "1,4,4\r\n1,1,2\r\n1,4,4\r\n" 3 11 0
+    -- bridge from 1 to 2, first from 1, last to 4, first not above last: at the edge and one past it
+    ∷ fails "0,1,1\r\n" 1 outOfLimits
+    ∷ takes "1,1,1\r\n" 1 1 0
+    ∷ takes "2,4,4\r\n" 1 0 8
+    ∷ fails "3,1,1\r\n" 1 outOfLimits
+    ∷ fails "1,0,1\r\n" 1 outOfLimits
+    ∷ takes "1,1,4\r\n" 1 15 0
+    ∷ fails "1,1,5\r\n" 1 outOfLimits
+    ∷ fails "1,5,5\r\n" 1 outOfLimits
+    ∷ fails "1,0,0\r\n" 1 outOfLimits
+    ∷ takes "1,3,3\r\n" 1 4 0
+    ∷ fails "1,3,2\r\n" 1 outOfLimits
+    -- a number of any length never wraps
+    ∷ fails "18446744073709551617,1,1\r\n" 1 outOfLimits
+    ∷ fails "1,18446744073709551617,1\r\n" 1 outOfLimits
+    ∷ fails "1,1,18446744073709551617\r\n" 1 outOfLimits
+    ∷ fails "1,1,99999999999999999999\r\n" 1 outOfLimits
+    -- no three decimal fields with CR LF
+    ∷ fails "9,9\r\n" 1 noRow
+    ∷ fails "1,01,1\r\n" 1 noRow
+    ∷ fails "\"1,1\",1\r\n" 1 noRow
+    ∷ fails "1,1,1,1\r\n" 1 noRow
+    ∷ fails "1, 1,1\r\n" 1 noRow
+    ∷ fails "1,\"1\"\",1\r\n" 1 noRow
+    ∷ fails "bridge,first,last\r\n1,1,1\r\n" 1 noRow
+    ∷ fails "\r\n" 1 noRow
+    ∷ fails "1,1,1\n" 1 noRow
+    ∷ fails "1,1,1" 1 noRow
+    -- in a row 12 comes before 2
+    ∷ fails "9,9,9\n" 1 noRow
+    ∷ fails "3,2,1,\r\n" 1 noRow
+    -- the first row at fault decides
+    ∷ fails "3,1,1\r\n1,1\r\n" 1 outOfLimits
+    ∷ fails "1,1\r\n3,1,1\r\n" 1 noRow
+    ∷ fails "1,1,1\r\n2,1,1\r\n1,5,5\r\n1,1\r\n" 3 outOfLimits
+    ∷ fails "1,1,1\r\n2,1,1\r\n1,1\r\n1,5,5\r\n" 3 noRow
+    -- a last row without its end; an empty row; byte 10 without 13, byte 13 without 10
+    ∷ fails "1,1,1\r\n1,2,2" 2 noRow
+    ∷ fails "1,1,1\r\n\r\n1,2,2\r\n" 2 noRow
+    ∷ fails "1,1,1\r\n\r\n" 2 noRow
+    ∷ fails "1,1,1\r\n1,2,2\n1,3,3\r\n" 2 noRow
+    ∷ fails "1,1,1\r\n1,2,2\r1,3,3\r\n" 2 noRow
     -- a quoted CR LF: the row in which the quote opens
-    ∷ has "1,1,1\r\n1,\"2\r\n\",2\r\n" (some (row 1 1 1) ∷ none ∷ [])
+    ∷ fails "1,1,1\r\n1,\"2\r\n\",2\r\n" 2 noRow
     ∷ []
 
-pub texts-read : map (λ c. toFault (map rowOf (lines (bytes (c .text))))) someTexts ≡ map (λ c. c .rows) someTexts
-unfolding readsRows toFault
+pub texts-read : map (λ c. readRows (busyOn 8 0) (bytes (c .text))) someTexts ≡ map (λ c. c .said) someTexts
+unfolding readsRows
 texts-read = refl
 
-pub texts-cut : map (λ c. toFault (map rowOf (cuts (bytes (c .text))))) someTexts ≡ map (λ c. c .rows) someTexts
-unfolding readsRows toFault cutsAfter
-texts-cut = refl
-
--- ---- unions of a frame of two bridges, and what is written of them
-
-record Union : Type 0 where
-  text : String
-  masks : List ℕ
-  written : String
-
-abbrev gives : String → ℕ → ℕ → String → Union
-gives t m n w = record { text = t; masks = m ∷ n ∷ replicate 6 0; written = w }
-
-abbrev unions : List Union
-unions =
-    gives "" 0 0 ""
-    -- touching rows are one stretch
-    ∷ gives "1,1,2\r\n1,3,4\r\n" 15 0 "1,1,4\r\n"
-    -- any sequence, overlap, quotes
-    ∷ gives "2,3,4\r\n1,1,1\r\n\"2\",\"1\",2\r\n" 1 15 "1,1,1\r\n2,1,4\r\n"
-    ∷ gives "1,2,3\r\n1,3,4\r\n1,2,2\r\n" 14 0 "1,2,4\r\n"
-    -- the same row twice; a gap; the later row before the earlier
-    ∷ gives "1,4,4\r\n1,1,2\r\n1,4,4\r\n" 11 0 "1,1,2\r\n1,4,4\r\n"
-    -- all slots
-    ∷ gives "1,1,64\r\n" 18446744073709551615 0 "1,1,64\r\n"
-    ∷ gives "1,64,64\r\n2,1,1\r\n" 9223372036854775808 1 "1,64,64\r\n2,1,1\r\n"
+-- every slot of the most, and the last of the most bridges; one past each
+pub widest-read :
+    map (λ t. readRows (bareHead 64 8) (bytes t)) ("1,1,64\r\n" ∷ "8,64,64\r\n8,1,1\r\n" ∷ "1,1,65\r\n" ∷ "9,1,1\r\n" ∷ [])
+    ≡ accepted (withBusy (bareHead 64 8) (18446744073709551615 ∷ replicate 7 0)) 1
+    ∷ accepted (withBusy (bareHead 64 8) (replicate 7 0 ++ (9223372036854775809 ∷ []))) 2
+    ∷ refused 1 outOfLimits
+    ∷ refused 1 outOfLimits
     ∷ []
-
-pub unions-read : map (λ c. made rowsBusy (rowsOf (bytes (c .text)))) unions ≡ map (λ c. some (c .masks)) unions
 unfolding readsRows
-unions-read = refl
+widest-read = refl
 
-pub unions-written : map (λ c. rowsText (c .masks)) unions ≡ map (λ c. bytes (c .written)) unions
+-- ---- what is written of masks: by bridge, then by slot, bare
+
+pub masks-written :
+    map (λ ms. rowsText (ms ++ replicate 6 0))
+    ((0 ∷ 0 ∷ []) ∷ (15 ∷ 0 ∷ []) ∷ (1 ∷ 15 ∷ []) ∷ (11 ∷ 8 ∷ []) ∷ (18446744073709551615 ∷ 0 ∷ []) ∷ (9223372036854775809 ∷ 1 ∷ []) ∷ [])
+    ≡ map bytes
+    ("" ∷ "1,1,4\r\n" ∷ "1,1,1\r\n2,1,4\r\n" ∷ "1,1,2\r\n1,4,4\r\n2,4,4\r\n" ∷ "1,1,64\r\n" ∷ "1,1,1\r\n1,64,64\r\n2,1,1\r\n" ∷ [])
 unfolding writesRows
-unions-written = refl
+masks-written = refl
 
 -- the longest: slots 2, 4 and so on to 64 of every bridge, each alone
 pub rows-longest : length (rowsText (replicate 8 12297829382473034410)) ≡ 2240
 unfolding writesRows
 rows-longest = refl
+
+-- ---- the entries over a list of records: 10, then 8, then 2 of the head record, all at row 0 before any row
+
+-- a head record of 4 slots and 2 bridges with this mask for bridge 1, slot 5 being past the last, that counts so many presets
+abbrev counting : ℕ → ℕ → record-of-head.Head
+counting m n = record { slots = 4; bridges = 2; busy = m ∷ replicate 7 0; count = n }
+
+pub entries-too-long : (rowsReading 31 (counting 16 0) [] (replicate 40000 10) ≡ refused 0 textTooLong)
+    × (rowsReading 32 (counting 16 0) [] (replicate 40000 10) ≡ refused 0 textTooLong)
+    × (rowsReading 31 (counting 8 0) [] (replicate 32769 10) ≡ refused 0 textTooLong)
+    × (rowsReading 32 (counting 8 0) [] (replicate 32769 10) ≡ refused 0 textTooLong)
+    × (rowsReading 31 (counting 8 0) [] (replicate 32768 10) ≡ refused 0 tooShort)
+    × (rowsReading 32 (counting 8 0) [] (replicate 32768 10) ≡ refused 1 noRow)
+unfolding readsRows triesRecord
+entries-too-long = (refl, refl, refl, refl, refl, refl)
+
+pub entries-tried : (rowsReading 31 (counting 16 0) [] (bytes "nonsense") ≡ refused 0 tooShort)
+    × (rowsReading 32 (counting 16 0) [] (bytes "nonsense") ≡ refused 0 outOfLimits)
+    × (rowsReading 32 (counting 15 0) [] (bytes "nonsense") ≡ refused 1 noRow)
+    × (rowsReading 31 (counting 8 0) [] (bytes "1,1,2\r\n") ≡ refused 0 tooShort)
+    × (rowsReading 32 (counting 8 1) (recordsTo 32) (bytes "1,1,2\r\n")
+    ≡ accepted (withPresets (withBusy (bareHead 4 2) (3 ∷ replicate 7 0)) (presetOf 32 0 0 0 ∷ [])) 1)
+    × (rowsReading 33 (counting 8 33) (recordsTo 33) (bytes "1,1,2\r\n") ≡ refused 0 outOfLimits)
+    × (rowsReading 32 (counting 8 33) (recordsTo 32) [] ≡ refused 0 outOfLimits)
+unfolding readsRows triesRecord
+entries-tried = (refl, refl, refl, refl, refl, refl, refl)
+
+-- what is answered, and the head record afterwards: other masks, or the one handed in
+abbrev entryLeaves : ℕ → List ℕ → RowsRead
+entryLeaves records t = rowsRead (rowsReading records (counting 8 32) (recordsTo 32) t) (counting 8 32)
+
+pub entries-left : (entryLeaves 32 (bytes "2,1,2\r\n2,4,4\r\n")
+    ≡ record { answer = Accepted 2; head = record { slots = 4; bridges = 2; busy = 0 ∷ 11 ∷ replicate 6 0; count = 32 } })
+    × (entryLeaves 32 (bytes "2,1,2\r\n2,5,5\r\n") ≡ record { answer = Refused 2 code.OutOfLimits; head = counting 8 32 })
+    × (entryLeaves 32 (bytes "2,1,2\n") ≡ record { answer = Refused 1 code.NoRow; head = counting 8 32 })
+    × (entryLeaves 31 [] ≡ record { answer = Refused 0 code.TooShort; head = counting 8 32 })
+unfolding readsRows triesRecord
+entries-left = (refl, refl, refl, refl)
+
+-- what is written: the length of the rows, and the rows before the bytes that stay; or 8, then 2, and the output as it was
+pub entries-wrote : (r : Writing) (after : List ℕ)
+    → (WroteRows 32 (counting 11 0) [] (replicate 8192 7) r after → (answerIn r ≡ write.written 14) × (after ≡ bytes "1,1,2\r\n1,4,4\r\n" ++ replicate 8178 7))
+    × (WroteRows 32 (counting 16 0) [] (replicate 8192 7) r after → (answerIn r ≡ write.refused 0 outOfLimits) × (after ≡ replicate 8192 7))
+    × (WroteRows 32 (counting 16 0) [] (replicate 8191 7) r after → (answerIn r ≡ write.refused 0 tooShort) × (after ≡ replicate 8191 7))
+    × (WroteRows 31 (counting 16 0) [] (replicate 8192 7) r after → (answerIn r ≡ write.refused 0 tooShort) × (after ≡ replicate 8192 7))
+unfolding writesRows triesRecord
+entries-wrote r after =
+    (λ w. (w .answer, w .output), λ w. (w .answer, w .output), λ w. (w .answer, w .output), λ w. (w .answer, w .output))

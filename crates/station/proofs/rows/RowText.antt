@@ -1,6 +1,6 @@
 -- Laws of the texts of rows: reading inverts printing, both ways; and a text may be cut at byte 10.
 --
--- In order: one field (`field-self`, `field-had`); `row-self` and `row-had`; a printed row ends as a line does and as a cut does (`row-line`, `row-cut`); up to the first row
+-- In order: one field (`plain-bare`, `field-self`, `field-had`); a row before a text (`row-first`, `first-had`), `row-self` and `row-had`; a printed row ends as a line does and as a cut does (`row-line`, `row-cut`); up to the first row
 -- at fault, cutting at byte 10 and cutting at CR LF give the same rows (`cut-same`).
 -- Assumes nothing.
 use Prim.Native.Nat.{ℕ, suc}
@@ -8,33 +8,38 @@ use native.Mathlib.Omega.{arith}
 use mathlib.Core.Path.{_≡_, refl, sym, _∙_, ap}
 use mathlib.Core.Bool.{Bool, true, false, _&&_, and-false}
 use mathlib.Core.Option.{Option, none, some}
-use mathlib.Core.List.{List, [], _∷_, _++_, map, append-assoc}
+use mathlib.Core.List.{List, [], _∷_, _++_, map, append-assoc, append-nil}
 use lib.ListN.{length}
 use lib.Dec.{eqb}
 use Rattle.laws.proofs.Tests.{Is, is-true, is-false, is, left-of, none-some}
 use Rattle.laws.proofs.Comparisons.{eqb-no}
 use Rattle.station.specs.Text.{bytes, _then_, isLine, join, onto, lines}
 use Rattle.station.specs.Decimal.{digits, digitCount, isDigit, plain}
-use Rattle.station.specs.Form.{starts, word, number, _orElse_}
-use Rattle.station.specs.Rows.{Row, row, quote, field, printRow, TextOfRow, fieldIn, rowOf, cutsAfter, cuts, toFault}
+use Rattle.station.specs.Form.{starts, word, number, whole, _orElse_}
+use Rattle.station.specs.Row.{Row, row, quote, field, printRow, TextOfRow, fieldIn, rowOf, cutsAfter, cuts}
+use Rattle.station.proofs.rows.RowLists.{toFault}
 use Rattle.station.proofs.Decimal.{digit-low, all-digits, digits-count, plain-digits, number-digits, number-had}
 use Rattle.station.proofs.Text.{isLine-cons, lines-join, lines-line, join-onto}
 use Rattle.station.proofs.Form.{word-had, whole-had, or-had}
 
 -- ---- one field
 
+-- what begins with a number does not begin with a quote
+pub plain-bare : (l : List ℕ) → plain l ≡ true → starts quote l ≡ false
+unfolding starts plain
+plain-bare [] e = refl
+plain-bare (b ∷ l) e =
+    let low = digit-low b (left-of (isDigit b) _ e) in
+    rw (eqb-no 34 b (λ q. omega arith)) refl
+
 module _ {A : Type 0} where
-  or-none : (x : Option A) → (x orElse none) ≡ x
+  pub or-none : (x : Option A) → (x orElse none) ≡ x
   or-none none = refl
   or-none (some a) = refl
 
-  -- what begins with a number does not begin with a quote
   number-bare : (l : List ℕ) (k : List ℕ → Option A) → plain l ≡ true → word quote l k ≡ none
-  unfolding word starts plain
-  number-bare [] k e = refl
-  number-bare (b ∷ l) k e =
-      let low = digit-low b (left-of (isDigit b) _ e) in
-      rw (eqb-no 34 b (λ q. omega arith)) refl
+  unfolding word
+  number-bare l k e = rw (plain-bare l e) refl
 
   -- a field printed, and no digit after it, reads as its number
   pub field-self : (q : Bool) (n : ℕ) (r : List ℕ) (k : ℕ → List ℕ → Option A) → digitCount r ≡ 0 → fieldIn (field q n ++ r) k ≡ k n r
@@ -56,26 +61,57 @@ module _ {A : Type 0} where
 
 -- ---- the two inverses
 
+-- the parts of a printed row before a text
+row-parts : (p q r : Bool) (x : Row) (l : List ℕ)
+    → printRow p q r x ++ l ≡ field p (x .bridge) then bytes "," then field q (x .first) then bytes "," then field r (x .last) then bytes "\r\n" then l
+unfolding printRow bytes
+row-parts p q r x l =
+    rw (
+      append-assoc (field p (x .bridge)) (bytes "," then field q (x .first) then bytes "," then field r (x .last) then bytes "\r\n") l,
+      append-assoc (field q (x .first)) (bytes "," then field r (x .last) then bytes "\r\n") l,
+      append-assoc (field r (x .last)) (bytes "\r\n") l,
+    )
+    refl
+
+module _ {A : Type 0} where
+  -- a row, then what k makes of it and the rest: `rowOf` leaves no rest
+  unfoldable pub rowThen : List ℕ → (Row → List ℕ → Option A) → Option A
+  rowThen l k =
+      fieldIn l (λ b l₁. word (bytes ",") l₁ (λ l₂. fieldIn l₂ (λ f l₃. word (bytes ",") l₃ (λ l₄. fieldIn l₄ (λ t l₅.
+      word (bytes "\r\n") l₅ (k (row b f t)))))))
+
+  -- a printed row before a text is read back
+  pub row-first : (p q r : Bool) (x : Row) (l : List ℕ) (k : Row → List ℕ → Option A) → rowThen (printRow p q r x ++ l) k ≡ k x l
+  unfolding rowThen bytes word starts digitCount
+  row-first p q r x l k =
+      rw (row-parts p q r x l)
+      (field-self p (x .bridge) (bytes "," then field q (x .first) then bytes "," then field r (x .last) then bytes "\r\n" then l) _ refl
+      ∙ field-self q (x .first) (bytes "," then field r (x .last) then bytes "\r\n" then l) _ refl
+      ∙ field-self r (x .last) (bytes "\r\n" then l) _ refl)
+
+  -- a text that a row is read from begins with that row printed
+  pub first-had : {G : Type 0} (l : List ℕ) (k : Row → List ℕ → Option A) (a : A) → rowThen l k ≡ some a
+      → ((p q r : Bool) (x : Row) (m : List ℕ) → l ≡ printRow p q r x ++ m → k x m ≡ some a → G) → G
+  unfolding rowThen
+  first-had l k a e g =
+      field-had l _ a e (λ p b l₁ h₁ e₁. word-had (bytes ",") l₁ _ a e₁ (λ l₂ h₂ e₂. field-had l₂ _ a e₂ (λ q f l₃ h₃ e₃.
+      word-had (bytes ",") l₃ _ a e₃ (λ l₄ h₄ e₄. field-had l₄ _ a e₄ (λ r t l₅ h₅ e₅. word-had (bytes "\r\n") l₅ _ a e₅ (λ l₆ h₆ e₆.
+      g p q r (row b f t) l₆ (rw (h₁, h₂, h₃, h₄, h₅, h₆) (sym (row-parts p q r (row b f t) l₆))) e₆))))))
+
 -- a printed row is read back
 pub row-self : (p q r : Bool) (x : Row) → rowOf (printRow p q r x) ≡ some x
-unfolding rowOf printRow bytes word starts digitCount
-row-self p q r x =
-    field-self p (x .bridge) (bytes "," then field q (x .first) then bytes "," then field r (x .last) then bytes "\r\n") _ refl
-    ∙ field-self q (x .first) (bytes "," then field r (x .last) then bytes "\r\n") _ refl
-    ∙ field-self r (x .last) (bytes "\r\n") _ refl
+unfolding rowOf rowThen
+row-self p q r x = ap rowOf (sym (append-nil (printRow p q r x))) ∙ row-first p q r x [] whole
 
 -- a line that is read is that row printed
 pub row-had : (l : List ℕ) (x : Row) → rowOf l ≡ some x → TextOfRow l x
-unfolding rowOf printRow bytes
-row-had l x e =
-    field-had l _ x e (λ p b l₁ h₁ e₁. word-had (bytes ",") l₁ _ x e₁ (λ l₂ h₂ e₂. field-had l₂ _ x e₂ (λ q f l₃ h₃ e₃.
-    word-had (bytes ",") l₃ _ x e₃ (λ l₄ h₄ e₄. field-had l₄ _ x e₄ (λ r t l₅ h₅ e₅. word-had (bytes "\r\n") l₅ _ x e₅ (λ l₆ h₆ e₆.
-    whole-had (row b f t) l₆ x e₆ (λ h₇ e₇. record {
-      bridge-quoted = p;
-      first-quoted = q;
-      last-quoted = r;
-      text = rw (h₁, h₂, h₃, h₄, h₅, h₆, h₇, ← e₇) refl;
-    })))))))
+unfolding rowOf rowThen
+row-had l x e = first-had l whole x e (λ p q r y m h k. whole-had y m x k (λ none-left same. record {
+  bridge-quoted = p;
+  first-quoted = q;
+  last-quoted = r;
+  text = h ∙ (rw (none-left, same) (append-nil (printRow p q r x)));
+}))
 
 -- ---- a printed row ends as a line and as a cut
 

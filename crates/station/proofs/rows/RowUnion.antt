@@ -1,8 +1,8 @@
 -- Laws of the union of rows: a cell is busy exactly if some row takes it.
 --
 -- In order: the bits of a union (`hasBit-or`); a row within the frame, as a test (`rowIn-of`, `of-rowIn`); the bits of one row's mask (`hasBit-row`); one row more
--- (`withRow-cells`); `rows-cells`, and the shape of the masks (`rows-length`, `rows-below`, `rows-past`), by which a valid head stays valid with them (`rows-valid`).
--- Up to 64 slots no bit is lost: `rows-cells` holds of the 64th too, and `row-whole` says it of a row over all slots.
+-- (`withRow-cells`); `union-cells`, and the shape of the masks (`union-length`, `union-below`, `union-past`), by which a valid head stays valid with them (`busy-valid`, `union-valid`).
+-- Up to 64 slots no bit is lost: `union-cells` holds of the 64th too, and `row-whole` says it of a row over all slots.
 -- Assumes nothing.
 use Prim.Native.Nat.{ℕ, zero, suc, _+_, _-_, _*_, _/_, _%_, _^_, _≤_, _<_, max}
 use native.Mathlib.Omega.{arith}
@@ -21,7 +21,8 @@ use Rattle.laws.proofs.Comparisons.{eq-of, ne-of, eqb-yes, eqb-no}
 use Rattle.station.specs.Head.{Head, Valid, hasBit, within, withBusy}
 use Rattle.station.specs.Form.{last}
 use Rattle.station.specs.Writing.{maskTo, maskOf, ordered, covers}
-use Rattle.station.specs.Rows.{Row, row, RowIn, rowIn, withRow, busyWith, rowsBusy, rowTakes, rowsTake}
+use Rattle.station.specs.Row.{Row, row, RowIn, rowIn, withRow, rowTakes, rowsTake}
+use Rattle.station.proofs.rows.RowLists.{busyWith, rowsBusy}
 use Rattle.station.proofs.Stretches.{stretch-of, of-stretch, mask-lt}
 use Rattle.station.proofs.ValidHead.{within-low, within-high, of-within}
 use Rattle.station.proofs.BusyCells.{hasBit-mask}
@@ -166,27 +167,27 @@ no-bit : (s : ℕ) → hasBit 0 s ≡ false
 no-bit s = let e : 0 / 2 ^ s ≡ 0 = zero-div (2 ^ s) in rw e refl
 
 -- there is a mask for each of eight bridges
-pub rows-length : (xs : List Row) → length (rowsBusy xs) ≡ 8
+pub union-length : (xs : List Row) → length (rowsBusy xs) ≡ 8
 unfolding rowsBusy
-rows-length xs = with-length xs (replicate 8 0)
+union-length xs = with-length xs (replicate 8 0)
 
 module _ (slots bridges : ℕ) (high : slots ≤ 64) (most : bridges ≤ 8) (xs : List Row) (w : All (RowIn slots bridges) xs) where
   -- a cell is busy after reading exactly if some row takes it, slot and bridge counted from 1 there
-  pub rows-cells : (s b : ℕ) → s < 64 → hasBit (getD (rowsBusy xs) b 0) s ≡ rowsTake xs (suc b) (suc s)
+  pub union-cells : (s b : ℕ) → s < 64 → hasBit (getD (rowsBusy xs) b 0) s ≡ rowsTake xs (suc b) (suc s)
   unfolding rowsBusy
-  rows-cells s b l =
+  union-cells s b l =
       with-cells slots bridges high xs (replicate 8 0) b s w most l
       ∙ ap (λ (k : Bool). k || rowsTake xs (suc b) (suc s)) (ap (λ (k : ℕ). hasBit k s) (no-mask 8 b) ∙ no-bit s)
 
   -- no bit stands past the last slot
-  pub rows-below : (b : ℕ) → getD (rowsBusy xs) b 0 < 2 ^ slots
+  pub union-below : (b : ℕ) → getD (rowsBusy xs) b 0 < 2 ^ slots
   unfolding rowsBusy
-  rows-below b = with-below slots bridges high xs (replicate 8 0) b w most (omega (arith, no-mask 8 b, pow-pos slots))
+  union-below b = with-below slots bridges high xs (replicate 8 0) b w most (omega (arith, no-mask 8 b, pow-pos slots))
 
   -- nor any on a bridge past the last
-  pub rows-past : (b : ℕ) → bridges ≤ b → getD (rowsBusy xs) b 0 ≡ 0
+  pub union-past : (b : ℕ) → bridges ≤ b → getD (rowsBusy xs) b 0 ≡ 0
   unfolding rowsBusy
-  rows-past b h = with-past slots bridges high xs (replicate 8 0) b w most h ∙ no-mask 8 b
+  union-past b h = with-past slots bridges high xs (replicate 8 0) b w most h ∙ no-mask 8 b
 
 -- a row over all slots takes every bit of its mask, up to the 64th
 pub row-whole : (slots b : ℕ) → 1 ≤ slots → slots ≤ 64 → b < 8 → getD (rowsBusy (row (suc b) 1 slots ∷ [])) b 0 ≡ 2 ^ slots - 1
@@ -197,17 +198,24 @@ row-whole slots b low high l =
     withRow-here slots 8 (row (suc b) 1 slots) high r (replicate 8 0) b (omega arith) refl
     ∙ ap (λ (k : ℕ). bitOr k (2 ^ slots - 1)) (no-mask 8 b) ∙ or-zero-l (2 ^ slots - 1)
 
--- a head that some text yields stays one with the rows in place of its busy lines
-pub rows-valid : (h : Head) (xs : List Row) → Valid h → All (RowIn (h .slots) (h .bridges)) xs → Valid (withBusy h (rowsBusy xs))
-rows-valid h xs v w = record {
+-- a head that some text yields stays one with other masks that lie in its frame
+pub busy-valid : (h : Head) (ms : List ℕ) → Valid h → length ms ≡ 8 → ((b : ℕ) → getD ms b 0 < 2 ^ h .slots) → ((b : ℕ) → h .bridges ≤ b → getD ms b 0 ≡ 0)
+    → Valid (withBusy h ms)
+busy-valid h ms v masks below past = record {
   slots-low = v .slots-low;
   slots-high = v .slots-high;
   bridges-low = v .bridges-low;
   bridges-high = v .bridges-high;
-  masks = rows-length xs;
-  in-frame = rows-below (h .slots) (h .bridges) (v .slots-high) (v .bridges-high) xs w;
-  no-bridge = rows-past (h .slots) (h .bridges) (v .slots-high) (v .bridges-high) xs w;
+  masks = masks;
+  in-frame = below;
+  no-bridge = past;
   number-of-presets = v .number-of-presets;
   limits = v .limits;
   distinct = v .distinct;
 }
+
+-- so with the rows in place of its busy lines
+pub union-valid : (h : Head) (xs : List Row) → Valid h → All (RowIn (h .slots) (h .bridges)) xs → Valid (withBusy h (rowsBusy xs))
+union-valid h xs v w =
+    busy-valid h (rowsBusy xs) v (union-length xs) (union-below (h .slots) (h .bridges) (v .slots-high) (v .bridges-high) xs w)
+    (union-past (h .slots) (h .bridges) (v .slots-high) (v .bridges-high) xs w)

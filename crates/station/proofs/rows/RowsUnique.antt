@@ -1,11 +1,10 @@
 -- Rows in order are the only ones with their cells: so writing gives the one list of stretches by bridge, then by slot.
 --
 -- In order: the cells of a row (`Takes`) and those past it (`Past`); the first row of a list in order (`cell-cases`); two lists in order with the same cells are the same
--- (`rows-unique`); rows in order are those written of their union (`rows-canonical`).
+-- (`rows-unique`); rows in order are those written of their union, so that their text is written as it was read (`rows-canonical`).
 -- Assumes nothing.
 use Prim.Native.Nat.{ℕ, zero, suc, _+_, _^_, _≤_, _<_}
 use native.Mathlib.Omega.{arith}
-use native.Mathlib.Numerals.{one-add}
 use mathlib.Core.Path.{_≡_, refl, sym, _∙_, ap}
 use mathlib.Core.Logic.{_⊎_, inl, inr}
 use mathlib.Core.Bool.{true}
@@ -16,12 +15,15 @@ use lib.Pow.{pow-mono}
 use Rattle.laws.proofs.Tests.{Is, is-true, is-false, is, clash, both, left-of, right-of, test-ext, or-left, or-right, or-cases}
 use Rattle.laws.proofs.Comparisons.{le-of, gt-of, eq-of, eqb-yes}
 use Rattle.laws.proofs.Lists.{All, none, more, Pairwise, first}
-use Rattle.station.specs.Head.{within}
-use Rattle.station.specs.Rows.{Row, row, RowIn, rowsBusy, rowTakes, rowsTake, maskRows, Before, lower-bridge, earlier-slot}
+use Rattle.station.specs.Head.{Head, Valid, within, withBusy}
+use Rattle.station.specs.Row.{Row, row, RowIn, rowTakes, rowsTake, maskRows, Before, lower-bridge, earlier-slot, bare, rowsText}
+use Rattle.station.specs.Reading.{accepted}
+use Rattle.station.specs.ReadRows.{readRows}
+use Rattle.station.proofs.rows.RowLists.{rowsBusy}
 use Rattle.station.proofs.ValidHead.{within-low, within-high, of-within}
-use Rattle.station.proofs.BusyCells.{stretches-hasBit}
-use Rattle.station.proofs.rows.RowUnion.{rows-cells, rows-below, rows-past}
-use Rattle.station.proofs.rows.RowsWritten.{maskRows-in, maskRows-take, maskRows-ordered}
+use Rattle.station.proofs.rows.RowUnion.{union-cells, union-below, union-past}
+use Rattle.station.proofs.rows.RowsWritten.{maskRows-in, maskRows-cells, maskRows-ordered}
+use Rattle.station.proofs.rows.RowsMeaning.{accepted-one, read-all, pass-bare}
 
 -- ---- the cells of a row, and those past it
 
@@ -197,28 +199,36 @@ module _ (slots bridges : ℕ) where
           (ih (λ b s l m h. test-ext (rowsTake xs b s) (rowsTake ys b s)
           (rest-implied x xs ys w c b s l m h) (rest-implied x ys xs d (turned (x ∷ xs) (x ∷ ys) c) b s l m h))))
 
--- Rows within the frame that are in order are those written of their union: what was written so is read and written again byte for byte.
+-- ---- rows in order are those written of their union
+
 module _ (slots bridges : ℕ) (high : slots ≤ 64) (most : bridges ≤ 8) (xs : List Row) (w : All (RowIn slots bridges) xs) where
   ms : List ℕ
   ms = rowsBusy xs
 
   below : (b : ℕ) → getD ms b 0 < 2 ^ slots
-  below b = unfold ms in (rows-below slots bridges high most xs w b)
+  below b = unfold ms in (union-below slots bridges high most xs w b)
 
   within-frame : All (RowIn slots bridges) (maskRows 1 ms)
   within-frame =
-      maskRows-in slots high bridges 1 ms (omega arith) below (λ b l. unfold ms in (rows-past slots bridges high most xs w b (omega arith)))
+      maskRows-in slots high bridges 1 ms (omega arith) below (λ b l. unfold ms in (union-past slots bridges high most xs w b (omega arith)))
 
   same-cells : (b s : ℕ) → 1 ≤ b → 1 ≤ s → s ≤ slots → rowsTake (maskRows 1 ms) b s ≡ rowsTake xs b s
   same-cells zero s l m h = absurd (omega arith)
   same-cells (suc b) zero l m h = absurd (omega arith)
   same-cells (suc b) (suc s) l m h =
       let top : 2 ^ slots ≤ 2 ^ 64 = pow-mono high in
-      (rw (← one-add b, ← one-add s) (maskRows-take 1 ms b (1 + s)))
-      ∙ stretches-hasBit 64 1 (getD ms b 0) s (omega (arith, below b)) (omega arith)
-      ∙ (unfold ms in (rows-cells slots bridges high most xs w s b (omega arith)))
+      maskRows-cells ms s b (omega (arith, below b)) (omega arith)
+      ∙ (unfold ms in (union-cells slots bridges high most xs w s b (omega arith)))
 
-  pub rows-canonical : Pairwise Before xs → maskRows 1 (rowsBusy xs) ≡ xs
+  union-rows : Pairwise Before xs → maskRows 1 (rowsBusy xs) ≡ xs
   unfolding ms
-  rows-canonical v =
+  union-rows v =
       rows-unique slots bridges (maskRows 1 (rowsBusy xs)) xs within-frame w (maskRows-ordered slots high 1 (rowsBusy xs) below) v same-cells
+
+-- A text of bare rows within the frame, in order, is written again byte for byte from the head that it makes.
+pub rows-canonical : (h : Head) (xs : List Row) (g : Head) (n : ℕ) → Valid h → All (RowIn (h .slots) (h .bridges)) xs → Pairwise Before xs
+    → readRows h (bare xs) ≡ accepted g n → rowsText (g .busy) ≡ bare xs
+unfolding rowsText
+rows-canonical h xs g n v w o e =
+    let made : g ≡ withBusy h (rowsBusy xs) = accepted-one (sym e ∙ read-all h (bare xs) (pass-bare h xs w)) in
+    ap (λ (k : Head). bare (maskRows 1 (k .busy))) made ∙ ap bare (union-rows (h .slots) (h .bridges) (v .slots-high) (v .bridges-high) xs w o)

@@ -1,37 +1,34 @@
--- Laws of writing rows: how long they are, and that reading what is written gives the masks back.
+-- Laws of writing rows: which rows are written of masks, how long they are, and that they are in order. That they are read back is in RowsMeaning.
 --
--- In order: the rows of a mask lie in the frame (`maskRows-in`) and take the mask's ones (`maskRows-take`); masks with the same ones are the same (`mask-ext`); rows printed
--- are read (`rows-read`); `rows-round`, `rows-again`; rows that take the same cells leave the same masks (`rows-one`); how long a text of rows is (`rows-fit`); the rows are in order (`rows-ordered`).
+-- In order: the rows of a mask lie in the frame (`maskRows-in`) and take the mask's ones (`maskRows-cells`); masks with the same ones are the same (`mask-ext`); the rows of a
+-- head lie in its frame (`rows-in`); the text of some rows and then others (`bare-append`), and how long a text of rows is (`rows-fit`); the rows are in order (`rows-ordered`).
 -- Assumes nothing.
 use Prim.Native.Nat.{ℕ, zero, suc, _+_, _-_, _*_, _/_, _%_, _^_, _≤_, _<_, max}
 use native.Mathlib.Omega.{arith}
-use native.Mathlib.Nat.{pow-suc, div-one, le-refl}
+use native.Mathlib.Nat.{pow-suc, le-refl}
 use native.Mathlib.Numerals.{one-add}
 use mathlib.Core.Path.{_≡_, refl, sym, _∙_, ap}
 use mathlib.Core.Bool.{Bool, true, false, _&&_, _||_, or-assoc, or-false, and-false}
 use mathlib.Core.Option.{Option, some}
 use mathlib.Core.Option as option
-use mathlib.Core.List.{List, [], _∷_, _++_, map}
+use mathlib.Core.List.{List, [], _∷_, _++_, map, map-append}
 use lib.ListN.{length, getD, length-append}
-use lib.Seq.{ext-getD}
 use lib.Dec.{eqb, ltb, leb}
-use lib.Pow.{pow-mono, shr-shr}
+use lib.Pow.{pow-mono}
 use Rattle.laws.proofs.Tests.{Is, is-true, is-false, is}
 use Rattle.laws.proofs.Lists.{All, none, more, all-imp, all-append, Pairwise, empty, first, pairwise-append}
 use Rattle.laws.proofs.Comparisons.{lt-of, ge-of, le-of, gt-of, eq-of, ne-of, eqb-yes, eqb-no}
-use Rattle.station.specs.Head.{Head, Valid, hasBit, within, withBusy}
-use Rattle.station.specs.Text.{bytes, _then_, join, Lines, no-lines, line-then}
+use Rattle.station.specs.Head.{Head, Valid, hasBit, within}
+use Rattle.station.specs.Text.{bytes, _then_, join}
 use Rattle.station.specs.Decimal.{digits}
-use Rattle.station.specs.Form.{Pairs, last, next, made}
+use Rattle.station.specs.Form.{Pairs, last, next}
 use Rattle.station.specs.Writing.{ordered, stretches, covers}
-use Rattle.station.specs.Rows.{Row, row, printRow, rowOf, alsoRow, allRows, rowsOf, RowIn, rowsBusy, rowTakes, rowsTake, stretchRows, bridgeRows, maskRows, bare}
-use Rattle.station.specs.Rows.{Before, lower-bridge, earlier-slot, rowsText}
+use Rattle.station.specs.Row.{Row, row, printRow, RowIn, rowTakes, rowsTake, stretchRows, bridgeRows, maskRows, bare}
+use Rattle.station.specs.Row.{Before, lower-bridge, earlier-slot, rowsText}
 use Rattle.station.proofs.Decimal.{digits-length}
-use Rattle.station.proofs.Text.{lines-of-join}
+use Rattle.station.proofs.output.Runs.{join-append}
 use Rattle.station.proofs.Stretches.{first-stretch, rest-ordered, last-stretch, stretches-ordered, stretches-zero}
 use Rattle.station.proofs.BusyCells.{someCovers, stretches-hasBit, hasBit-suc, hasBit-zero}
-use Rattle.station.proofs.rows.RowText.{row-self, row-line}
-use Rattle.station.proofs.rows.RowUnion.{rows-cells, rows-below, rows-length, rows-valid}
 
 -- ---- the rows of a mask lie in the frame
 
@@ -98,7 +95,7 @@ later-take c (m ∷ ms) b s h =
     rowsTake-append (bridgeRows c (stretches 64 1 m)) (maskRows (suc c) ms) b s
     ∙ (rw (bridgeRows-take c (stretches 64 1 m) b s, eqb-no c b (λ q. omega arith)) (later-take (suc c) ms b s (omega arith)))
 
-pub maskRows-take : (c : ℕ) (ms : List ℕ) (b s : ℕ) → rowsTake (maskRows c ms) (c + b) s ≡ someCovers (stretches 64 1 (getD ms b 0)) s
+maskRows-take : (c : ℕ) (ms : List ℕ) (b s : ℕ) → rowsTake (maskRows c ms) (c + b) s ≡ someCovers (stretches 64 1 (getD ms b 0)) s
 unfolding maskRows
 maskRows-take c [] b s = unfold rowsTake in (ap (λ (o : Option Pairs). someCovers o s) (sym (stretches-zero 64 1)))
 maskRows-take c (m ∷ ms) zero s =
@@ -109,6 +106,11 @@ maskRows-take c (m ∷ ms) (suc b) s =
     let at : c + suc b ≡ suc c + b = omega arith in
     rowsTake-append (bridgeRows c (stretches 64 1 m)) (maskRows (suc c) ms) (c + suc b) s
     ∙ (rw (bridgeRows-take c (stretches 64 1 m) (c + suc b) s, eqb-no c (c + suc b) (λ q. omega arith), at) (maskRows-take (suc c) ms b s))
+
+-- the rows of masks take a cell exactly if its bit is 1, slot and bridge counted from 1 there
+pub maskRows-cells : (ms : List ℕ) (s b : ℕ) → getD ms b 0 < 2 ^ 64 → s < 64 → rowsTake (maskRows 1 ms) (suc b) (suc s) ≡ hasBit (getD ms b 0) s
+maskRows-cells ms s b h l =
+    (rw (← one-add b, ← one-add s) (maskRows-take 1 ms b (1 + s))) ∙ stretches-hasBit 64 1 (getD ms b 0) s h l
 
 -- ---- masks with the same ones are the same
 
@@ -131,60 +133,11 @@ mask-ext (suc k) a b h l e =
     let odd : a % 2 ≡ b % 2 = odd-ext a b (sym (hasBit-zero a) ∙ e 0 (omega arith) ∙ hasBit-zero b) in
     omega arith
 
--- ---- rows printed are read
+-- ---- the rows of a head
 
-bare-shape : (xs : List Row) → Lines (map (printRow false false false) xs)
-bare-shape [] = no-lines
-bare-shape (x ∷ xs) = line-then (row-line false false false x) (bare-shape xs)
-
-all-read : (xs : List Row) → allRows (map rowOf (map (printRow false false false) xs)) ≡ some xs
-unfolding allRows
-all-read [] = refl
-all-read (x ∷ xs) = rw row-self (ap (alsoRow x) (all-read xs))
-
-pub rows-read : (xs : List Row) → rowsOf (bare xs) ≡ some xs
-unfolding rowsOf bare
-rows-read xs = ap (λ (ls : List (List ℕ)). allRows (map rowOf ls)) (lines-of-join (bare-shape xs)) ∙ all-read xs
-
--- ---- reading what is written
-
-module _ (h : Head) (v : Valid h) where
-  -- the rows written of a head lie in its frame
-  pub rows-in : All (RowIn (h .slots) (h .bridges)) (maskRows 1 (h .busy))
-  rows-in = maskRows-in (h .slots) (v .slots-high) (h .bridges) 1 (h .busy) (le-refl 1) (v .in-frame) (λ b l. v .no-bridge b (omega arith))
-
-  same-mask : (b : ℕ) → getD (rowsBusy (maskRows 1 (h .busy))) b 0 ≡ getD (h .busy) b 0
-  same-mask b =
-      let top : 2 ^ h .slots ≤ 2 ^ 64 = pow-mono (v .slots-high) in
-      let xs : List Row = maskRows 1 (h .busy) in
-      let m : ℕ = getD (h .busy) b 0 in
-      let below : m < 2 ^ h .slots = v .in-frame b in
-      let read : getD (rowsBusy xs) b 0 < 2 ^ h .slots = rows-below (h .slots) (h .bridges) (v .slots-high) (v .bridges-high) xs rows-in b in
-      mask-ext 64 (getD (rowsBusy xs) b 0) m (omega arith) (omega arith)
-      (λ s l. rows-cells (h .slots) (h .bridges) (v .slots-high) (v .bridges-high) xs rows-in s b l
-      ∙ (rw (← one-add b, ← one-add s) (maskRows-take 1 (h .busy) b (1 + s))) ∙ stretches-hasBit 64 1 m s (omega arith) l)
-
-  -- "A head written to rows and read again has the same busy cells."
-  pub rows-round : made rowsBusy (rowsOf (rowsText (h .busy))) ≡ some (h .busy)
-  unfolding rowsText
-  rows-round =
-      ap (made rowsBusy) (rows-read (maskRows 1 (h .busy)))
-      ∙ ap some (ext-getD 0 (rowsBusy (maskRows 1 (h .busy))) (h .busy) (rows-length (maskRows 1 (h .busy)) ∙ sym (v .masks)) (λ b l. same-mask b))
-
--- What is written of rows that were read, in place of a head's busy lines, reads as they did: not the bytes that came, but the same busy cells.
-pub rows-again : (h : Head) (xs : List Row) → Valid h → All (RowIn (h .slots) (h .bridges)) xs
-    → made rowsBusy (rowsOf (rowsText (rowsBusy xs))) ≡ some (rowsBusy xs)
-rows-again h xs v w = rows-round (withBusy h (rowsBusy xs)) (rows-valid h xs v w)
-
--- Rows that take the same cells leave the same masks, whatever their sequence, and so the same text is written of them.
-module _ (slots bridges : ℕ) (high : slots ≤ 64) (most : bridges ≤ 8) (xs ys : List Row) (w : All (RowIn slots bridges) xs) (z : All (RowIn slots bridges) ys) where
-  pub rows-one : ((s b : ℕ) → rowsTake xs (suc b) (suc s) ≡ rowsTake ys (suc b) (suc s)) → rowsBusy xs ≡ rowsBusy ys
-  rows-one e =
-      let top : 2 ^ slots ≤ 2 ^ 64 = pow-mono high in
-      ext-getD 0 (rowsBusy xs) (rowsBusy ys) (rows-length xs ∙ sym (rows-length ys)) (λ b l.
-      mask-ext 64 (getD (rowsBusy xs) b 0) (getD (rowsBusy ys) b 0)
-      (omega (arith, rows-below slots bridges high most xs w b)) (omega (arith, rows-below slots bridges high most ys z b))
-      (λ s n. rows-cells slots bridges high most xs w s b n ∙ e s b ∙ sym (rows-cells slots bridges high most ys z s b n)))
+-- the rows written of a head lie in its frame
+pub rows-in : (h : Head) → Valid h → All (RowIn (h .slots) (h .bridges)) (maskRows 1 (h .busy))
+rows-in h v = maskRows-in (h .slots) (v .slots-high) (h .bridges) 1 (h .busy) (le-refl 1) (v .in-frame) (λ b l. v .no-bridge b (omega arith))
 
 -- ---- how long a text of rows is
 
@@ -233,9 +186,9 @@ bare-none : length (bare []) ≡ 0
 unfolding bare
 bare-none = refl
 
-bare-append : (xs ys : List Row) → length (bare (xs ++ ys)) ≡ length (bare xs) + length (bare ys)
-bare-append [] ys = omega (arith, bare-none)
-bare-append (x ∷ xs) ys = omega (arith, bare-cons x (xs ++ ys), bare-cons x xs, bare-append xs ys)
+pub bare-append : (xs ys : List Row) → bare (xs ++ ys) ≡ bare xs ++ bare ys
+unfolding bare
+bare-append xs ys = ap join (map-append (printRow false false false) xs ys) ∙ join-append (map (printRow false false false) xs) (map (printRow false false false) ys)
 
 stretchRows-size : (lo b : ℕ) (p : Pairs) → b < 10 → 1 ≤ lo → ordered lo 64 p ≡ true → length (bare (stretchRows b p)) ≤ bytesFrom lo
 unfolding stretchRows
@@ -260,7 +213,7 @@ maskRows-size c (m ∷ ms) h f = go (maskRows-size (suc c) ms (omega arith) (λ 
     go ih (some p) e =
         omega (
           arith,
-          bare-append (stretchRows c p) (maskRows (suc c) ms),
+          ap length (bare-append (stretchRows c p) (maskRows (suc c) ms)) ∙ length-append (bare (stretchRows c p)) (bare (maskRows (suc c) ms)),
           stretchRows-size 1 c p (omega arith) (le-refl 1) (stretches-ordered 64 m p (le-refl 64) (f 0) e),
         )
 

@@ -1,12 +1,14 @@
 -- Laws of a head's text, line by line, as the writer's loops meet it.
 --
 -- In order: the busy lines from one bridge on (`busy-lines-step`); the preset lines from one record on (`preset-lines-step`); the
--- whole text (`head-text`); the answer and output, by the cause that holds (`too-short`, `out-of-limits`, `head-written`).
+-- whole text (`head-text`); a text that was written (`text-written`); the cause of writing (`cause-short`, `cause-outside`, `cause-none`), and the answer and output by
+-- the cause that holds (`too-short`, `out-of-limits`, `head-written`).
 -- Assumes nothing.
 use Prim.Native.Nat.{ℕ, suc, _≤_, _<_}
 use native.Mathlib.Omega.{arith}
 use mathlib.Core.Path.{_≡_, refl, _∙_, ap}
 use mathlib.Core.Bool.{true, false}
+use mathlib.Core.Option.{Option, none, some}
 use mathlib.Core.List.{List, _++_, map, map-append}
 use lib.ListN.{length, take, drop, getD}
 use lib.Seq.{drop-cons}
@@ -16,13 +18,13 @@ use Rattle.station.specs.declared.types.Head.{Head as Record}
 use Rattle.station.specs.declared.write.Writing.the-variants.{Written, Refused}
 use Rattle.station.specs.declared.types.Refusal.the-variants.{TooShort, OutOfLimits}
 use Rattle.station.specs.Head.{Head}
-use Rattle.station.specs.Refusal.{firstOf}
+use Rattle.station.specs.Refusal.{Refusal, outOfLimits, tooShort, firstOf}
 use Rattle.station.specs.Text.{join}
 use Rattle.station.specs.Form.{Form, frameLine, presetLine, print}
 use Rattle.station.specs.Writing.{stretches, busyLineOf, busyLines, formsOf, textOf}
 use Rattle.station.specs.Types.{presetIn, noRecord, headIn, validRecord}
 use Rattle.station.specs.Wrote.{Wrote}
-use Rattle.station.specs.WriteHead.{written, writeAnswer, writeOutput, WroteHead}
+use Rattle.station.specs.WriteHead.{written, writeCauses, answerOf, outputOf, writeAnswer, writeOutput, WroteHead}
 use Rattle.station.proofs.CodeRecords.{records-step}
 use Rattle.station.proofs.output.Runs.{join-append, wrote-fits}
 use Rattle.station.proofs.TextSize.{text-fits}
@@ -53,22 +55,38 @@ head-text h = ap (λ (l : List ℕ). print (frameLine (h .slots) (h .bridges)) +
 
 -- ---- the entry's answer and output, by the cause that holds
 
+-- no cause holds, and a text that finds room was written
+pub text-written : (c : Option Refusal) (t out after : List ℕ) (n : ℕ) → c ≡ none → length t ≤ length out → Wrote out 0 t after n
+    → (written n ≡ answerOf c (length t)) × (after ≡ outputOf c t out)
+text-written c t out after n e fits w = let both = wrote-fits w fits in rw e (ap written (both .1), both .0)
+
 module _ (h : Record) (ps : List Preset) (out : List ℕ) where
   -- 8: the output is too short
-  pub too-short : length out < 8192 → WroteHead h ps out (Refused 0 TooShort) out
-  unfolding writeAnswer writeOutput firstOf
-  too-short l = let q = ltb-yes (length out) 8192 l in record { answer = rw q refl; output = rw q refl }
+  pub cause-short : length out < 8192 → firstOf (writeCauses h ps out) ≡ some tooShort
+  unfolding firstOf
+  cause-short l = rw (ltb-yes (length out) 8192 l) refl
 
   -- 2: no text yields the record
+  pub cause-outside : 8192 ≤ length out → validRecord h ps ≡ false → firstOf (writeCauses h ps out) ≡ some outOfLimits
+  unfolding firstOf
+  cause-outside l v = rw (ltb-no (length out) 8192 l, v) refl
+
+  pub cause-none : 8192 ≤ length out → validRecord h ps ≡ true → firstOf (writeCauses h ps out) ≡ none
+  unfolding firstOf
+  cause-none l v = rw (ltb-no (length out) 8192 l, v) refl
+
+  pub too-short : length out < 8192 → WroteHead h ps out (Refused 0 TooShort) out
+  unfolding writeAnswer writeOutput
+  too-short l = let q = cause-short l in record { answer = rw q refl; output = rw q refl }
+
   pub out-of-limits : 8192 ≤ length out → validRecord h ps ≡ false → WroteHead h ps out (Refused 0 OutOfLimits) out
-  unfolding writeAnswer writeOutput firstOf
-  out-of-limits l v = let q = ltb-no (length out) 8192 l in record { answer = rw (q, v) refl; output = rw (q, v) refl }
+  unfolding writeAnswer writeOutput
+  out-of-limits l v = let q = cause-outside l v in record { answer = rw q refl; output = rw q refl }
 
   -- no cause holds, and the text was written
   pub head-written : (n : ℕ) (after : List ℕ) → 8192 ≤ length out → validRecord h ps ≡ true → Wrote out 0 (textOf (headIn h ps)) after n → WroteHead h ps out (Written n) after
-  unfolding writeAnswer writeOutput firstOf
+  unfolding writeAnswer writeOutput
   head-written n after l v w =
-      let q = ltb-no (length out) 8192 l in
       let fits : length (textOf (headIn h ps)) ≤ length out = omega (arith, text-fits (headIn h ps) (valid-head h ps v)) in
-      let both = wrote-fits w fits in
-      record { answer = rw (q, v) (ap written (both .1)); output = rw (q, v) (both .0) }
+      let both = text-written (firstOf (writeCauses h ps out)) (textOf (headIn h ps)) out after n (cause-none l v) fits w in
+      record { answer = both .0; output = both .1 }

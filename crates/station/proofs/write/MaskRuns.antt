@@ -2,8 +2,8 @@
 --
 -- In order: one slot further (`from-free`, `from-busy`); the ends of the scan for a busy slot (`busy-here`, `busy-next`, `busy-end`) and for a free
 -- one (`free-here`, `free-next`, `free-end`); where they lie (`busy-low`, `busy-high`, `busy-found`, `free-low`, `free-high`, `free-after`); the stretches
--- from the next busy slot on (`from-next-busy`), from a busy slot on (`from-run`), and the slot after it where the next run begins (`next-run`); the
--- same of a busy line's brackets (`bracket-step`) and of the whole line (`busy-text`).
+-- from the next busy slot on (`from-next-busy`), from a busy slot on (`from-run`), the slot after it where the next run begins (`next-run`), and both
+-- together (`run-step`); the same of a busy line's brackets (`bracket-step`) and of the whole line (`busy-text`).
 -- Assumes nothing.
 use Prim.Native.Nat.{ℕ, zero, suc, _+_, _-_, _/_, _^_, _≤_, _<_}
 use native.Mathlib.Numerals.{add-one}
@@ -239,6 +239,15 @@ next-run m i t n h e to after =
       found = λ l. let k : n < t + (64 - t) = omega arith in rw after (busy-found (64 - t) m t (rw after at k));
     }
 
+-- the stretches from the busy slot i on: its run, which ends in slot t, and those from the next busy slot n on
+pub run-step : (m i t n : ℕ) → i < 64 → hasBit m i ≡ true → t ≡ freeFrom (64 - i) m i → n ≡ busyFrom (64 - t) m t
+    → stretchesFrom (64 - i) m i ≡ some (runThen (suc i) t (stretchesFrom (64 - n) m n))
+run-step m i t n h e to after =
+    let low : t ≤ i + (64 - i) = rw to (free-high (64 - i) m i) in
+    let run : stretchesFrom (64 - i) m i ≡ some (runThen (suc i) t (stretchesFrom (64 - t) m t)) = rw to (from-run (64 - i) m i 64 (omega arith) h e) in
+    let rest : stretchesFrom (64 - t) m t ≡ stretchesFrom (64 - n) m n = rw after (from-next-busy (64 - t) m t 64 (omega arith)) in
+    run ∙ ap (λ (o : Option Pairs). some (runThen (suc i) t o)) rest
+
 -- ---- the brackets of a busy line, one run of busy slots after the other
 
 abbrev isSome : Option Pairs → Bool
@@ -273,13 +282,8 @@ more-from hi m n found = go (is (ltb n hi))
 pub bracket-step : (m i t n : ℕ) → i < 64 → hasBit m i ≡ true → t ≡ freeFrom (64 - i) m i → n ≡ busyFrom (64 - t) m t
     → bracketsOf (stretchesFrom (64 - i) m i) ≡ bracketText (suc i) t (ltb n 64) ++ bracketsOf (stretchesFrom (64 - n) m n)
 bracket-step m i t n h e to after =
-    let low : t ≤ i + (64 - i) = rw to (free-high (64 - i) m i) in
-    let run : stretchesFrom (64 - i) m i ≡ some (runThen (suc i) t (stretchesFrom (64 - t) m t)) = rw to (from-run (64 - i) m i 64 (omega arith) h e) in
-    let rest : stretchesFrom (64 - t) m t ≡ stretchesFrom (64 - n) m n = rw after (from-next-busy (64 - t) m t 64 (omega arith)) in
-    ap bracketsOf run
-    ∙ ap (λ (o : Option Pairs). brackets (runThen (suc i) t o)) rest
-    ∙ text-run (suc i) t (stretchesFrom (64 - n) m n) (ltb n 64)
-    (more-from 64 m n (λ l. rw after (busy-found (64 - t) m t (rw (← after) (omega arith)))))
+    ap bracketsOf (run-step m i t n h e to after)
+    ∙ text-run (suc i) t (stretchesFrom (64 - n) m n) (ltb n 64) (more-from 64 m n (next-run m i t n h e to after .found))
 
 -- the busy line of a mask that is not 0
 pub busy-text : (b m : ℕ) → m < 2 ^ 64 → (m ≡ 0 → ⊥)

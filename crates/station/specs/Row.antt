@@ -1,7 +1,7 @@
 -- Busy times as rows of comma-separated text. Document 02, request 2026-01: "Read rows of three fields, bridge, first slot, last slot, quoted or bare, with CR LF ends and no
 -- header, and put them in place of the head's busy lines; write them back from a head, bare."
--- The meaning of rows alone, ahead of the request: no code and no cause cites it yet, and it is to be believed when the request lands.
--- In order: a row and its texts; reading a line; the rows of a text, cut at byte 10 or at CR LF; the union; writing.
+-- In order: a row and its texts (`printRow`, `TextOfRow`); reading a line (`rowOf`); a text cut at CR LF (`cuts`); the frame, and one row more (`RowIn`, `withRow`, `rowsTake`);
+-- writing (`maskRows`, `rowsText`). How a whole text reads is in ReadRows.
 -- Assumes nothing.
 use Prim.Native.Nat.{ℕ, suc, _+_, _-_, _≤_, _<_}
 use mathlib.Core.Path.{_≡_}
@@ -61,7 +61,7 @@ rowOf l =
     fieldIn l (λ b l₁. word (bytes ",") l₁ (λ l₂. fieldIn l₂ (λ f l₃. word (bytes ",") l₃ (λ l₄. fieldIn l₄ (λ t l₅.
     word (bytes "\r\n") l₅ (whole (row b f t)))))))
 
--- ---- the rows of a text: its lines, since a row has byte 10 at its end only
+-- ---- the rows of a text
 
 -- "CR LF ends": a text cut after each byte 10 that follows a byte 13; the Bool says that the byte before was 13
 unfoldable pub cutsAfter : Bool → List ℕ → List (List ℕ)
@@ -72,27 +72,6 @@ cutsAfter cr (b ∷ t) =
 
 abbrev pub cuts : List ℕ → List (List ℕ)
 cuts t = cutsAfter false t
-
--- "the first row at fault decides": the rows up to the first that has no row's form, that one included
-unfoldable pub toFault : List (Option Row) → List (Option Row)
-toFault [] = []
-toFault (none ∷ rs) = none ∷ []
-toFault (some x ∷ rs) = some x ∷ toFault rs
-
--- one more row before the others
-abbrev pub alsoRow : Row → Option (List Row) → Option (List Row)
-alsoRow x none = none
-alsoRow x (some xs) = some (x ∷ xs)
-
--- all rows, where each has its form
-unfoldable pub allRows : List (Option Row) → Option (List Row)
-allRows [] = some []
-allRows (none ∷ rs) = none
-allRows (some x ∷ rs) = alsoRow x (allRows rs)
-
--- the rows of a text
-unfoldable pub rowsOf : List ℕ → Option (List Row)
-rowsOf t = allRows (map rowOf (lines t))
 
 -- ---- the union: "Rows may come in any sequence and may overlap or touch; the head holds their union."
 
@@ -111,15 +90,6 @@ rowIn slots bridges x = within 1 bridges (x .bridge) && (leb 1 (x .first) && leb
 -- one row more
 unfoldable pub withRow : List ℕ → Row → List ℕ
 withRow ms x = set ms (x .bridge - 1) (bitOr (getD ms (x .bridge - 1) 0) (maskTo (x .first) (x .last)))
-
--- the masks after some rows more
-unfoldable pub busyWith : List ℕ → List Row → List ℕ
-busyWith ms [] = ms
-busyWith ms (x ∷ xs) = busyWith (withRow ms x) xs
-
--- "in place of the head's busy lines": the rows start from no busy cell
-unfoldable pub rowsBusy : List Row → List ℕ
-rowsBusy xs = busyWith (replicate mostBridges 0) xs
 
 -- the row takes slot s of bridge b, both counted from 1
 abbrev pub rowTakes : Row → ℕ → ℕ → Bool

@@ -1,0 +1,2 @@
+-- The program `rows`. What a reader must believe: what is printed of an input.
+pub mod Printed
