@@ -19,8 +19,8 @@ use Rattle.station.specs.Text.{onto, lines}
 use Rattle.station.specs.Writing.{textOf}
 use Rattle.station.specs.Reading.{Reading, accepted, refused, headOf}
 use Rattle.station.proofs.Theorems.{lines-join}
-use Rattle.rows.specs.Printed.{Input, headAlone, headAndRows, before, partsOf, ofReading, rowsBeside, printedOf, rowsPrinted}
-use Rattle.rows.proofs.InputParts.{before-both, not-empty}
+use Rattle.rows.specs.Printed.{Input, headAlone, headAndRows, prefixed, partsOf, ofReading, rowsBeside, printedOf, rowsPrinted}
+use Rattle.rows.proofs.InputParts.{prefixed-both, not-empty}
 
 -- ---- byte by byte
 
@@ -28,19 +28,19 @@ use Rattle.rows.proofs.InputParts.{before-both, not-empty}
 unfoldable parted : Bool → List ℕ → Input
 parted s [] = headAlone []
 parted s (b ∷ t) =
-    let rest = before (b ∷ []) (parted (eqb b 10) t) in
+    let rest = prefixed (b ∷ []) (parted (eqb b 10) t) in
     cond (s && eqb b 10) (headAndRows [] t) rest
 
 -- a byte more before a line that is not empty
-onto-parts : (b c : ℕ) (ls : List (List ℕ)) → eqb c 10 ≡ false → partsOf (onto b (onto c ls)) ≡ before (b ∷ []) (partsOf (onto c ls))
+onto-parts : (b c : ℕ) (ls : List (List ℕ)) → eqb c 10 ≡ false → partsOf (onto b (onto c ls)) ≡ prefixed (b ∷ []) (partsOf (onto c ls))
 unfolding partsOf
 onto-parts b c [] e = rw e refl
-onto-parts b c (l ∷ ls) e = rw (not-empty c l e) (sym (before-both (b ∷ []) (c ∷ l) (partsOf ls)))
+onto-parts b c (l ∷ ls) e = rw (not-empty c l e) (sym (prefixed-both (b ∷ []) (c ∷ l) (partsOf ls)))
 
 -- of a text that begins with a line, and of one that goes on with a line whose first byte is b
 record ByBytes (t : List ℕ) : Type 0 where
   begins : partsOf (lines t) ≡ parted true t
-  goes-on : (b : ℕ) → eqb b 10 ≡ false → partsOf (onto b (lines t)) ≡ before (b ∷ []) (parted false t)
+  goes-on : (b : ℕ) → eqb b 10 ≡ false → partsOf (onto b (lines t)) ≡ prefixed (b ∷ []) (parted false t)
 
 both-by-bytes : (t : List ℕ) → ByBytes t
 unfolding lines partsOf parted
@@ -50,11 +50,11 @@ both-by-bytes (c ∷ t) = go (both-by-bytes t) (is (eqb c 10))
     go : ByBytes t → Is (eqb c 10) → ByBytes (c ∷ t)
     go k (is-true q) = record {
       begins = rw q (rw q (ap (headAndRows []) (lines-join t)));
-      goes-on = λ b e. rw q (rw (k .begins) (sym (before-both (b ∷ []) (c ∷ []) (parted true t))));
+      goes-on = λ b e. rw q (rw (k .begins) (sym (prefixed-both (b ∷ []) (c ∷ []) (parted true t))));
     }
     go k (is-false q) = record {
       begins = rw q (k .goes-on c q);
-      goes-on = λ b e. rw q (onto-parts b c (lines t) q ∙ ap (before (b ∷ [])) (k .goes-on c q));
+      goes-on = λ b e. rw q (onto-parts b c (lines t) q ∙ ap (prefixed (b ∷ [])) (k .goes-on c q));
     }
 
 by-bytes : (t : List ℕ) → partsOf (lines t) ≡ parted true t
@@ -71,14 +71,14 @@ cut-none : (x : Input) → cutAt 0 x ≡ headAlone []
 cut-none (headAlone h) = refl
 cut-none (headAndRows h rs) = rw (ltb-no (length h) 0 (omega arith)) refl
 
-cut-byte : (n b : ℕ) (x : Input) → before (b ∷ []) (cutAt n x) ≡ cutAt (suc n) (before (b ∷ []) x)
+cut-byte : (n b : ℕ) (x : Input) → prefixed (b ∷ []) (cutAt n x) ≡ cutAt (suc n) (prefixed (b ∷ []) x)
 cut-byte n b (headAlone h) = refl
 cut-byte n b (headAndRows h rs) =
     let same : ltb (suc (length h)) (suc n) ≡ ltb (length h) n = ltb-iff (suc (length h)) (suc n) (length h) n (λ l. omega (arith, l)) (λ l. omega (arith, l)) in
     let rest : suc n - suc (suc (length h)) ≡ n - suc (length h) = omega arith in
     rw (same, rest) (go (ltb (length h) n))
   where
-    go : (c : Bool) → before (b ∷ []) (cond c (headAndRows h (take (n - suc (length h)) rs)) (headAlone (take n h)))
+    go : (c : Bool) → prefixed (b ∷ []) (cond c (headAndRows h (take (n - suc (length h)) rs)) (headAlone (take n h)))
         ≡ cond c (headAndRows (b ∷ h) (take (n - suc (length h)) rs)) (headAlone (b ∷ take n h))
     go true = refl
     go false = refl
@@ -90,8 +90,8 @@ parted-cut s (suc n) [] = refl
 parted-cut s (suc n) (b ∷ t) = go (s && eqb b 10) (parted-cut (eqb b 10) n t)
   where
     go : (c : Bool) → parted (eqb b 10) (take n t) ≡ cutAt n (parted (eqb b 10) t)
-        → cond c (headAndRows [] (take n t)) (before (b ∷ []) (parted (eqb b 10) (take n t)))
-        ≡ cutAt (suc n) (cond c (headAndRows [] t) (before (b ∷ []) (parted (eqb b 10) t)))
+        → cond c (headAndRows [] (take n t)) (prefixed (b ∷ []) (parted (eqb b 10) (take n t)))
+        ≡ cutAt (suc n) (cond c (headAndRows [] t) (prefixed (b ∷ []) (parted (eqb b 10) t)))
     go true ih =
         let less : suc n - 1 ≡ n = omega arith in
         rw (ltb-yes 0 (suc n) (omega arith), less) refl

@@ -15,17 +15,18 @@ use Rattle.laws.proofs.Comparisons.{ltb-yes, ltb-no, eqb-yes, eqb-no}
 use Rattle.station.specs.Text.{_then_, lines}
 use Rattle.station.specs.Line.{lineOf}
 use Rattle.station.proofs.Theorems.{lines-join, line-front, lines-first, line-some, line-within}
-use Rattle.rows.specs.Printed.{Input, headAlone, headAndRows, isEmpty, before, partsOf, partedAt}
+use Rattle.rows.specs.Printed.{Input, headAlone, headAndRows, isEmpty, prefixed, partsOf}
+use Rattle.rows.specs.method.Parts.{partedAt}
 
 -- ---- bytes before an input
 
-before-none : (x : Input) → before [] x ≡ x
-before-none (headAlone h) = refl
-before-none (headAndRows h rs) = refl
+prefixed-none : (x : Input) → prefixed [] x ≡ x
+prefixed-none (headAlone h) = refl
+prefixed-none (headAndRows h rs) = refl
 
-pub before-both : (a b : List ℕ) (x : Input) → before a (before b x) ≡ before (a then b) x
-before-both a b (headAlone h) = ap headAlone (sym (append-assoc a b h))
-before-both a b (headAndRows h rs) = ap (λ (l : List ℕ). headAndRows l rs) (sym (append-assoc a b h))
+pub prefixed-both : (a b : List ℕ) (x : Input) → prefixed a (prefixed b x) ≡ prefixed (a then b) x
+prefixed-both a b (headAlone h) = ap headAlone (sym (append-assoc a b h))
+prefixed-both a b (headAndRows h rs) = ap (λ (l : List ℕ). headAndRows l rs) (sym (append-assoc a b h))
 
 -- ---- the first line
 
@@ -40,7 +41,7 @@ not-empty b (c ∷ l) e = refl
 
 -- any other is the head's
 line-first : (b : ℕ) (t : List ℕ) → (b ≡ 10 → ⊥)
-    → partsOf (lines (b ∷ t)) ≡ before (lineOf (b ∷ t)) (partsOf (lines (drop (length (lineOf (b ∷ t))) (b ∷ t))))
+    → partsOf (lines (b ∷ t)) ≡ prefixed (lineOf (b ∷ t)) (partsOf (lines (drop (length (lineOf (b ∷ t))) (b ∷ t))))
 unfolding lineOf partsOf
 line-first b t n =
     let e = eqb-no b 10 n in
@@ -52,24 +53,24 @@ line-first b t n =
 -- the lines to the place at are the head's
 pub record AtLine (t : List ℕ) (at : ℕ) : Type 0 where
   pub inside : at ≤ length t
-  pub parts : partsOf (lines t) ≡ before (take at t) (partsOf (lines (drop at t)))
+  pub parts : partsOf (lines t) ≡ prefixed (take at t) (partsOf (lines (drop at t)))
 
 pub at-start : (t : List ℕ) → AtLine t 0
-at-start t = record { inside = omega arith; parts = sym (before-none (partsOf (lines t))) }
+at-start t = record { inside = omega arith; parts = sym (prefixed-none (partsOf (lines t))) }
 
 module _ {t : List ℕ} {at : ℕ} (a : AtLine t at) where
   pub out-empty : at < length t → getD t at 0 ≡ 10 → partsOf (lines t) ≡ partedAt t at
   out-empty h e =
       a .parts
-      ∙ ap (λ (l : List ℕ). before (take at t) (partsOf (lines l))) (drop-cons t at 0 h)
-      ∙ ap (before (take at t)) (empty-first (getD t at 0) (drop (suc at) t) e)
+      ∙ ap (λ (l : List ℕ). prefixed (take at t) (partsOf (lines l))) (drop-cons t at 0 h)
+      ∙ ap (prefixed (take at t)) (empty-first (getD t at 0) (drop (suc at) t) e)
       ∙ rw (ltb-yes at (length t) h) (ap (λ (l : List ℕ). headAndRows l (drop (suc at) t)) (append-nil (take at t)))
 
   pub out-end : length t ≤ at → partsOf (lines t) ≡ partedAt t at
   unfolding lines partsOf
   out-end h =
       a .parts
-      ∙ ap (λ (l : List ℕ). before (take at t) (partsOf (lines l))) (drop-of-length-le t h)
+      ∙ ap (λ (l : List ℕ). prefixed (take at t) (partsOf (lines l))) (drop-of-length-le t h)
       ∙ rw (ltb-no at (length t) h) (ap headAlone (append-nil (take at t)))
 
   module _ (h : at < length t) {l : List ℕ} (line : l ≡ lineOf (drop at t)) where
@@ -79,7 +80,7 @@ module _ {t : List ℕ} {at : ℕ} (a : AtLine t at) where
     pub line-bytes : 0 < length l
     line-bytes = rw line (line-some (drop at t) (omega (arith, length-drop at t)))
 
-    line-parts : (getD t at 0 ≡ 10 → ⊥) → partsOf (lines (drop at t)) ≡ before l (partsOf (lines (drop (at + length l) t)))
+    line-parts : (getD t at 0 ≡ 10 → ⊥) → partsOf (lines (drop at t)) ≡ prefixed l (partsOf (lines (drop (at + length l) t)))
     line-parts n =
         let c = drop-cons t at 0 h in
         rw (line, sym (drop-drop (length (lineOf (drop at t))) at t), c) (line-first (getD t at 0) (drop (suc at) t) n)
@@ -89,9 +90,9 @@ module _ {t : List ℕ} {at : ℕ} (a : AtLine t at) where
       inside = line-inside;
       parts =
           a .parts
-          ∙ ap (before (take at t)) (line-parts n)
-          ∙ before-both (take at t) l (partsOf (lines (drop (at + length l) t)))
-          ∙ ap (λ (x : List ℕ). before x (partsOf (lines (drop (at + length l) t)))) (sym front);
+          ∙ ap (prefixed (take at t)) (line-parts n)
+          ∙ prefixed-both (take at t) l (partsOf (lines (drop (at + length l) t)))
+          ∙ ap (λ (x : List ℕ). prefixed x (partsOf (lines (drop (at + length l) t)))) (sym front);
     }
       where
         front : take (at + length l) t ≡ take at t then l

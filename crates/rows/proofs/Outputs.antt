@@ -38,7 +38,8 @@ use Rattle.station.proofs.Theorems.{valid-of, of-valid, ReadAccepted, refusal-o
 use Rattle.frame.specs.declared.types.Answer.the-variants as reply
 use Rattle.frame.specs.Listing.{refusedLine, answerLine}
 use Rattle.frame.specs.WroteLine.{outputShort, lineWritten, answerWritten, WroteLine}
-use Rattle.rows.specs.Printed.{partsOf, ofReading, rowsBeside, printedOf, rowsPrinted, partedAt, Printed, lengthIn}
+use Rattle.rows.specs.Printed.{partsOf, ofReading, rowsBeside, printedOf, rowsPrinted}
+use Rattle.rows.specs.method.Parts.{partedAt, Printed, lengthIn}
 
 -- ---- what was written
 

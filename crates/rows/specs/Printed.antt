@@ -1,14 +1,12 @@
 -- What the program `rows` prints of its input. Document 02, 2026-01: "Read rows .. and put them in place of the head's busy lines; write them back from a head, bare." The paper
 -- leaves open how a program is handed both; the other words quoted here are those of docs/FORMAT.md, "Busy times from a spreadsheet".
 --
--- In order: the parts of an input (`Input`, `partsOf`); what is printed of it (`rowsPrinted`); how the code says both: an input parted at a place (`partedAt`), what stands at
--- the start of an output (`Printed`).
+-- In order: the parts of an input (`Input`, `partsOf`); what is printed of it (`rowsPrinted`).
 -- Assumes nothing.
-use Prim.Native.Nat.{ℕ, suc, _≤_}
-use mathlib.Core.Path.{_≡_}
+use Prim.Native.Nat.{ℕ}
 use mathlib.Core.Bool.{Bool, false, cond}
 use mathlib.Core.List.{List, [], _∷_}
-use lib.ListN.{length, take, drop}
+use lib.ListN.{length}
 use lib.Dec.{eqb, ltb}
 use Rattle.station.specs.Limits.{mostBytes}
 use Rattle.station.specs.Head.{Head}
@@ -18,8 +16,6 @@ use Rattle.station.specs.Writing.{textOf}
 use Rattle.station.specs.Reading.{Reading, accepted, refused, unless, headOf}
 use Rattle.station.specs.Row.{rowsText}
 use Rattle.station.specs.ReadRows.{readRows}
-use Rattle.station.specs.declared.write.Writing.{Writing}
-use Rattle.station.specs.declared.write.Writing.the-variants.{Written, Refused}
 use Rattle.frame.specs.Listing.{refusedLine}
 
 -- ---- the parts of an input
@@ -36,15 +32,15 @@ isEmpty (b ∷ []) = eqb b 10
 isEmpty (b ∷ (c ∷ l)) = false
 
 -- some bytes more before the head's text
-abbrev pub before : List ℕ → Input → Input
-before l (headAlone h) = headAlone (l then h)
-before l (headAndRows h rs) = headAndRows (l then h) rs
+abbrev pub prefixed : List ℕ → Input → Input
+prefixed l (headAlone h) = headAlone (l then h)
+prefixed l (headAndRows h rs) = headAndRows (l then h) rs
 
 -- The lines before the first empty line are the head's text, those after it the rows'; a later empty line is one of these.
 unfoldable pub partsOf : List (List ℕ) → Input
 partsOf [] = headAlone []
 partsOf (l ∷ ls) =
-    let rest = before l (partsOf ls) in
+    let rest = prefixed l (partsOf ls) in
     cond (isEmpty l) (headAndRows [] (join ls)) rest
 
 -- ---- what is printed
@@ -67,19 +63,3 @@ printedOf (headAndRows t rs) = ofReading (headOf t) (λ h. ofReading (rowsBeside
 -- what is printed of an input
 unfoldable pub rowsPrinted : List ℕ → List ℕ
 rowsPrinted t = printedOf (partsOf (lines t))
-
--- ---- as the code has it
-
--- an input parted at a place: the byte there is an empty line, and the rows come after it; at the end it is the head's text alone
-abbrev pub partedAt : List ℕ → ℕ → Input
-partedAt t n = cond (ltb n (length t)) (headAndRows (take n t) (drop (suc n) t)) (headAlone (take n t))
-
--- the first n bytes of an output are this text, all of it
-pub record Printed (text after : List ℕ) (n : ℕ) : Type 0 where
-  pub inside : n ≤ length after
-  pub bytes : take n after ≡ text
-
--- how many bytes were written; none where the writing was refused
-abbrev pub lengthIn : Writing → ℕ
-lengthIn (Written n) = n
-lengthIn (Refused n c) = 0

@@ -25,7 +25,8 @@ ghost use Rattle.station.specs.Writing.{textOf};
 ghost use Rattle.station.specs.Row.{rowsText};
 ghost use Rattle.station.specs.Types.{refusalIn, headIn, validRecord};
 ghost use Rattle.frame.specs.Listing.{refusedLine};
-ghost use Rattle.rows.specs.Printed.{partsOf, ofReading, rowsBeside, rowsPrinted, partedAt, Printed, lengthIn};
+ghost use Rattle.rows.specs.Printed.{partsOf, ofReading, rowsBeside, rowsPrinted};
+ghost use Rattle.rows.specs.method.Parts.{partedAt, Printed, lengthIn};
 
 // Where the first empty line of an input begins; its end where there is none.
 fn empty_line(input: &[u8]) -> usize
