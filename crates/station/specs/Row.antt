@@ -8,12 +8,12 @@ use mathlib.Core.Path.{_≡_}
 use mathlib.Core.Bool.{Bool, true, false, cond, _&&_, _||_}
 use mathlib.Core.Option.{Option, none, some}
 use mathlib.Core.List.{List, [], _∷_, _++_, map}
-use lib.ListN.{getD, set, replicate}
+use lib.ListN.{getD, set}
 use lib.Dec.{eqb, leb}
 use lib.Bits.{bitOr}
-use Rattle.station.specs.Limits.{mostSlots, mostBridges}
+use Rattle.station.specs.Limits.{mostSlots}
 use Rattle.station.specs.Head.{within}
-use Rattle.station.specs.Text.{bytes, _then_, join, onto, lines}
+use Rattle.station.specs.Text.{bytes, _then_, join, onto}
 use Rattle.station.specs.Decimal.{digits}
 use Rattle.station.specs.Form.{Pairs, last, next, word, number, whole, _orElse_}
 use Rattle.station.specs.Writing.{maskTo, stretches}

@@ -20,7 +20,7 @@ use Rattle.station.specs.declared.write.Writing.{Writing}
 use Rattle.station.specs.Refusal.{Refusal, outOfLimits, tooShort, try, firstOf}
 use Rattle.station.specs.Reading.{Reading}
 use Rattle.station.specs.Types.{headIn, validRecord}
-use Rattle.station.specs.WriteHead.{Answer, written, refused, answerIn, answerOf, outputOf, writeCauses}
+use Rattle.station.specs.WriteHead.{written, refused, answerIn, answerOf, outputOf, writeCauses}
 use Rattle.station.specs.Entries.{entryCauses}
 use Rattle.station.specs.Row.{maskRows, rowsText}
 use Rattle.station.specs.RowEntries.{rowsReading, rowsRead, rowsAccepted, WroteRows}

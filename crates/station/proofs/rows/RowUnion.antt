@@ -4,7 +4,7 @@
 -- (`withRow-cells`); `union-cells`, and the shape of the masks (`union-length`, `union-below`, `union-past`), by which a valid head stays valid with them (`busy-valid`, `union-valid`).
 -- Up to 64 slots no bit is lost: `union-cells` holds of the 64th too, and `row-whole` says it of a row over all slots.
 -- Assumes nothing.
-use Prim.Native.Nat.{ℕ, zero, suc, _+_, _-_, _*_, _/_, _%_, _^_, _≤_, _<_, max}
+use Prim.Native.Nat.{ℕ, suc, _+_, _-_, _*_, _/_, _%_, _^_, _≤_, _<_, max}
 use native.Mathlib.Omega.{arith}
 use native.Mathlib.Nat.{zero-div}
 use mathlib.Core.Path.{_≡_, refl, sym, _∙_, ap}

@@ -1,7 +1,7 @@
 -- What the code makes of one field and of one row at a place of a text. Document 02, 2026-01: "Read rows of three fields, .., quoted or bare".
 -- Assumes nothing.
 use Prim.Native.Nat.{ℕ, suc, _+_}
-use mathlib.Core.Bool.{Bool, true, false, cond, _&&_}
+use mathlib.Core.Bool.{true, false, cond, _&&_}
 use mathlib.Core.Option.{Option, none, some}
 use mathlib.Core.List.{List}
 use lib.ListN.{length, drop}
