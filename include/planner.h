@@ -23,9 +23,10 @@
 
 /*
  * The version of the layout below and of what the numbers mean. Whoever stores a frame stores this beside it, and restores no frame of another version: version 1 had 12 numbers in a
- * frame, later versions have wider cells (with the place of each cell in its preset or job), another range of the clock (from 0) and something to say in the reserved numbers of a frame.
+ * frame, version 2 did not look at the orders of ties, later versions have wider cells (with the place of each cell in its preset or job), another range of the clock (from 0) and something to
+ * say in the reserved numbers of a frame.
  */
-#define PLANNER_VERSION 2
+#define PLANNER_VERSION 3
 
 /* How many there are at most. */
 #define PLANNER_MAX_SLOTS 64
@@ -55,9 +56,9 @@
  */
 enum planner_cause {
     PLANNER_ACCEPTED = 0,
-    PLANNER_NO_FORM = 1,              /* a line that is not one of the five forms, or lacks its end */
+    PLANNER_NO_FORM = 1,              /* a line that is not one of the six forms, or lacks its end */
     PLANNER_OUT_OF_LIMITS = 2,        /* a value or busy stretch outside its limits, in a row outside the frame; a ninth job in a call; a clock below 1 or above S + 1; a head that no text yields */
-    PLANNER_OUT_OF_PLACE = 3,         /* a form out of its place; no frame on line 1 */
+    PLANNER_OUT_OF_PLACE = 3,         /* a form out of its place, (tie place) directly after the frame line among them; no frame on line 1 */
     PLANNER_NUMBER_USED = 4,          /* a number already used, or twice in a call */
     PLANNER_REQUIRED_DO_NOT_FIT = 5,  /* the required slots do not fit */
     PLANNER_CLOCK_BACK = 6,           /* a clock below the present one */
@@ -78,13 +79,22 @@ enum planner_frame_place {
     PLANNER_FRAME_BUSY = 4,    /* the busy slots of bridge 1 as a mask, slot 1 being the lowest bit; those of bridges 2 to 8 follow */
 
     /*
-     * Reserved for requests to come. This version does not look at these four: whatever stands there, every answer is the same. planner_run_text leaves 0 there where the text ran, and
-     * nothing else writes there; a frame that a program makes itself has 0 there too if it is to be stored.
+     * Reserved for requests to come, with PLANNER_FRAME_JOBS below. This version does not look at these two: whatever stands there, every answer is the same. planner_run_text leaves 0 there where the
+     * text ran, and nothing else writes there; a frame that a program makes itself has 0 there too if it is to be stored.
      */
-    PLANNER_FRAME_SUPPLY = 12,  /* how many motors the supply feeds at a time (request 2026-03) */
-    PLANNER_FRAME_TIE = 13,     /* the order of ties that the head asks for (request 2026-02) */
-    PLANNER_FRAME_TIE_NOW = 14, /* the order of ties in force (request 2026-02) */
-    PLANNER_FRAME_JOBS = 15     /* how many jobs were admitted (request 2026-06) */
+    PLANNER_FRAME_SUPPLY = 12, /* how many motors the supply feeds at a time (request 2026-03) */
+
+    /* Two orders of ties, each one of enum planner_tie: who goes first among presets or jobs that have the same number of slots still to get. */
+    PLANNER_FRAME_TIE = 13,     /* the head's, by which planner_plan plans: PLANNER_TIE_HOLD where (tie hold) stands directly after the frame line */
+    PLANNER_FRAME_TIE_NOW = 14, /* the one in force, by which the next call is placed; at the start the head's */
+
+    PLANNER_FRAME_JOBS = 15 /* reserved: how many jobs were admitted (request 2026-06) */
+};
+
+/* The orders of ties. Any number but PLANNER_TIE_PLACE is taken for PLANNER_TIE_HOLD. */
+enum planner_tie {
+    PLANNER_TIE_PLACE = 0, /* the earlier line, in a call the earlier job */
+    PLANNER_TIE_HOLD = 1   /* those with a cell in the slot just before, then the earlier line or job */
 };
 
 /* The presets are records of PLANNER_PRESET_BYTES bytes, in file order; record i, from 0, begins at i * PLANNER_PRESET_BYTES. The places of a record's bytes: */
@@ -123,11 +133,11 @@ extern "C" {
  * Causes: 10; 8 of the frame, the presets, the output and the table; those of the head's lines, of which the first line at fault decides: 1, 3, 2, 4, 9; 5.
  *
  * 0: the listing stands at the start of the output, as far as it has room for it; bytes past it are as they were. *end is the smaller of out_len and the number of the listing's bytes: below
- * out_len the listing is whole; equal to it, the listing may have been cut, unless out_len is PLANNER_LISTING_BYTES or more, when no listing is. The frame has the head and the clock that the text
- * left, and 0 for its reserved numbers, the presets its records, the table its cells: a running frame for planner_event, also where the listing was cut. Records past the last preset
+ * out_len the listing is whole; equal to it, the listing may have been cut, unless out_len is PLANNER_LISTING_BYTES or more, when no listing is. The frame has the head, the clock and the order of ties in force that
+ * the text left, and 0 for its reserved numbers, the presets its records, the table its cells: a running frame for planner_event, also where the listing was cut. Records past the last preset
  * are as they were. A line after the head that is refused has its line in the listing, changes nothing, and does not end the text.
  * Else *end is the line at fault, 0 for 10 and 8, and nothing else changes; but 5 (its line is the last of the head) leaves the head in the frame and its
- * records in the presets, and clock, reserved numbers, table and output as they were.
+ * records in the presets, and clock, order of ties in force, reserved numbers, table and output as they were.
  */
 uint32_t planner_run_text(const uint8_t *text, size_t text_len,
                           uint64_t *frame, size_t frame_len,
@@ -137,13 +147,13 @@ uint32_t planner_run_text(const uint8_t *text, size_t text_len,
                           uint64_t *end);
 
 /*
- * One event line, (clock t) or (call (n c) ..), its byte 10 included, on the running frame.
+ * One event line, (clock t), (call (n c) ..), (tie hold) or (tie place), its byte 10 included, on the running frame.
  *
- * Causes: 8 of the frame, the presets and the table; 2 of the head; 11; those of the line: 1, 3; of a clock 2, 6; of a call 2, 4, 9, 7. It is 7 exactly when none before it
+ * Causes: 8 of the frame, the presets and the table; 2 of the head; 11; those of the line: 1, 3; of a clock 2, 6; of a call 2, 4, 9, 7; of a tie none. It is 7 exactly when none before it
  * holds and the call has no place at all.
  *
- * 0: the clock in the frame, or the table, is the new one, and *number is the clock t (of a clock), or how many refinement cells were lost (of a call). No other place
- * of the call loses fewer, in all or among the presets of any one priority and better. A running frame stays one, so that 11 is never met after it.
+ * 0: the clock in the frame, the order of ties in force, or the table, is the new one, and *number is the clock t (of a clock), 1 for hold and 0 for place (of a tie), or how many refinement cells were
+ * lost (of a call). A call is placed by the order in force; on this frame it would cost the same under the other. No other place of the call loses fewer, in all or among the presets of any one priority and better. A running frame stays one, so that 11 is never met after it.
  * Else *number is 0, and nothing else changes.
  */
 uint32_t planner_event(uint64_t *frame, size_t frame_len,
@@ -153,7 +163,8 @@ uint32_t planner_event(uint64_t *frame, size_t frame_len,
                        uint64_t *number);
 
 /*
- * Plans a fresh frame. The clock in the frame is not looked at: with clock 1, frame, presets and the table that is left are a running frame for planner_event.
+ * Plans a fresh frame, by the head's order of ties. The clock and the order in force in the frame are not looked at: with clock 1 and the head's order for the one in force, frame, presets and the
+ * table that is left are a running frame for planner_event, as planner_run_text would start it.
  *
  * Causes: 8 of the frame, the presets, the grants and the table; 2 of the head; 5. It is 5 exactly when no valid plan exists.
  *
@@ -187,7 +198,7 @@ uint32_t planner_listing(const uint8_t *text, size_t text_len,
  * Causes: 10; 8 of the frame and the presets; 2 of the head; those of the rows, of which the first row at fault decides: 12, 2.
  *
  * 0: the masks at PLANNER_FRAME_BUSY are those of the rows, every other number of the frame is as it was, and *row is how many rows there are. No table is touched: one that was made for the old busy
- * times does not suit the new ones, and planner_event may meet 11 with it. Plan the frame again with planner_plan, which may meet 5, and set the clock to 1.
+ * times does not suit the new ones, and planner_event may meet 11 with it. Plan the frame again with planner_plan, which may meet 5, and set the clock to 1 and the order of ties in force to the head's.
  * Else *row is the row at fault, counted from 1, 0 for 10, 8 and the head's 2, and nothing else changes.
  */
 uint32_t planner_read_rows(const uint8_t *text, size_t text_len,

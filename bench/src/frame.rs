@@ -1,4 +1,4 @@
-//! A planned frame: its table, its clock, and the events that it takes.
+//! A planned frame: its table, its clock, its order of ties, and the events that it takes.
 //!
 //! Beside the table it keeps what a call asks for: the empty bridges of each slot, their numbers as a supply, and
 //! the optional cells of each preset. A refused event changes nothing.
@@ -29,6 +29,9 @@ pub enum Answer {
     Now(usize),
     /// How many optional cells were evicted.
     Taken(u32),
+    Tie {
+        hold: bool,
+    },
 }
 
 #[derive(Clone, Debug, PartialEq, Eq)]
@@ -38,6 +41,8 @@ pub struct Frame {
     presets: Vec<Preset>,
     ranking: Vec<usize>,
     clock: usize,
+    /// Whether the order of ties in force is hold.
+    hold: bool,
     table: Table,
     /// The empty bridges of each slot.
     empty: [u8; SLOTS],
@@ -50,8 +55,8 @@ pub struct Frame {
 }
 
 impl Frame {
-    /// Plans a head; yields the frame at clock 1 and the grants in file order. Refused: the mandatory slots are not
-    /// feasible.
+    /// Plans a head; yields the frame at clock 1, the head's order of ties in force, and the grants in file order.
+    /// Refused: the mandatory slots are not feasible.
     pub fn plan(head: &Head) -> Result<(Self, [u8; PRESETS]), Refusal> {
         let mut frame = Frame::unplanned(head);
         let grants = grants(head, &frame.ranking, &frame.supply).ok_or(Refusal::HeadInfeasible)?;
@@ -72,11 +77,24 @@ impl Frame {
         &self.table
     }
 
+    /// The slot that is about to begin.
+    pub fn now(&self) -> usize {
+        self.clock
+    }
+
+    pub fn hold(&self) -> bool {
+        self.hold
+    }
+
     /// Takes one line after the head.
     pub fn event(&mut self, form: Option<Form>) -> Result<Answer, Refusal> {
         match form.ok_or(Refusal::Malformed)? {
             Form::Clock(clock) => self.clock(usize::from(clock)).map(Answer::Now),
             Form::Call(call) => self.call(&call.ok_or(Refusal::OutOfLimits)?).map(Answer::Taken),
+            Form::Tie { hold } => {
+                self.hold = hold;
+                Ok(Answer::Tie { hold })
+            }
             Form::Frame { .. } | Form::Busy { .. } | Form::Preset { .. } => Err(Refusal::Misplaced),
         }
     }
@@ -123,6 +141,7 @@ impl Frame {
             presets: head.presets.clone(),
             ranking: head.ranking(),
             clock: 1,
+            hold: head.hold,
             table: [EMPTY; CELLS],
             empty: columns(&free),
             supply,
@@ -138,14 +157,14 @@ impl Frame {
 
     fn place_presets(&mut self, grants: &[u8; PRESETS]) {
         let needs = self.presets.iter().zip(grants).map(|(preset, grant)| preset.mandatory + grant);
-        let mut lrtf = Lrtf::new(needs);
+        let mut lrtf = Lrtf::new(needs, self.hold);
         let mut mandatory: [u8; PRESETS] = [0; PRESETS];
         mandatory.iter_mut().zip(&self.presets).for_each(|(left, preset)| *left = preset.mandatory);
         for slot in ones(self.supply.at_least(1)) {
             if lrtf.finished() {
                 break;
             }
-            let chosen = lrtf.choose(self.empty[slot].count_ones());
+            let chosen = lrtf.choose(slot, self.empty[slot].count_ones());
             let presets = &self.presets;
             let optional = &mut self.optional;
             fill(&mut self.table[slot * self.bridges..], &mut self.empty[slot], chosen, |place| {
@@ -197,12 +216,12 @@ impl Frame {
     }
 
     fn place_jobs(&mut self, call: &Call) {
-        let mut lrtf = Lrtf::new(call.jobs().iter().map(|job| job.length));
+        let mut lrtf = Lrtf::new(call.jobs().iter().map(|job| job.length), self.hold);
         for slot in ones(self.supply.at_least(1) & self.ahead()) {
             if lrtf.finished() {
                 break;
             }
-            let chosen = lrtf.choose(self.empty[slot].count_ones());
+            let chosen = lrtf.choose(slot, self.empty[slot].count_ones());
             fill(&mut self.table[slot * self.bridges..], &mut self.empty[slot], chosen, |job| {
                 CALL + u16::from(call.jobs()[job].number)
             });

@@ -1,4 +1,4 @@
-//! The head of a text: the frame, the busy stretches and the presets. The first line at fault decides.
+//! The head of a text: the frame, its order of ties, the busy stretches and the presets. The first line at fault decides.
 
 use std::iter::Peekable;
 
@@ -23,6 +23,8 @@ pub struct Preset {
 pub struct Head {
     pub slots: usize,
     pub bridges: usize,
+    /// Whether `(tie hold)` stands directly after the frame line.
+    pub hold: bool,
     /// For each bridge its busy slots, bit s - 1 for slot s.
     pub busy: [u64; BRIDGES],
     /// In file order.
@@ -33,11 +35,15 @@ pub struct Head {
     pub lines: u32,
 }
 
-/// Reads the head and leaves `lines` at the first line that has an event's form. Refused: the line and the cause.
+/// Reads the head and leaves `lines` at the first line that has an event's form, a tie line directly after the frame
+/// line aside. Refused: the line and the cause.
 pub fn read(lines: &mut Peekable<Lines<'_>>) -> Result<Head, (u32, Refusal)> {
     // Without any line, and with an event on line 1, the frame is missing on line 1.
     let first = lines.next().ok_or((1, Refusal::Misplaced))?;
     let mut reader = Reader::new(first).map_err(|refusal| (1, refusal))?;
+    if let Some(line) = lines.next_if(|line| matches!(line.form, Some(Form::Tie { .. }))) {
+        reader.admit(line).map_err(|refusal| (line.number, refusal))?;
+    }
     while let Some(line) = lines.next_if(|line| !line.form.is_some_and(|form| form.is_event())) {
         reader.admit(line).map_err(|refusal| (line.number, refusal))?;
     }
@@ -60,7 +66,8 @@ impl Reader {
             return Err(Refusal::OutOfLimits);
         }
         let presets = Vec::with_capacity(PRESETS);
-        let head = Head { slots, bridges, busy: [0; BRIDGES], presets, used: Numbers::default(), lines: 1 };
+        let (hold, busy) = (false, [0; BRIDGES]);
+        let head = Head { slots, bridges, hold, busy, presets, used: Numbers::default(), lines: 1 };
         Ok(Reader { head, last_bridge: 0 })
     }
 
@@ -71,8 +78,19 @@ impl Reader {
             Form::Preset { number, priority, mandatory, optional } => {
                 self.preset(number, priority, mandatory, optional)
             }
+            Form::Tie { hold } => self.tie(hold),
             Form::Frame { .. } | Form::Clock(_) | Form::Call(_) => Err(Refusal::Misplaced),
         }
+    }
+
+    /// Directly after the frame line; elsewhere a tie line ends the head. A head without one has the order by place,
+    /// so a second way to write that has no place.
+    fn tie(&mut self, hold: bool) -> Result<(), Refusal> {
+        if !hold {
+            return Err(Refusal::Misplaced);
+        }
+        self.head.hold = true;
+        Ok(())
     }
 
     fn busy(&mut self, bridge: u16, slots: Option<u64>) -> Result<(), Refusal> {
@@ -119,7 +137,7 @@ impl Head {
 
     /// Puts these busy slots, all of them the frame's, in place of those that it has.
     pub fn set_busy(&mut self, busy: [u64; BRIDGES]) {
-        let lines = busy.iter().filter(|&&slots| slots != 0).count();
+        let lines = busy.iter().filter(|&&slots| slots != 0).count() + usize::from(self.hold);
         self.busy = busy;
         self.lines = (1 + lines + self.presets.len()) as u32;
     }

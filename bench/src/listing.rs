@@ -18,6 +18,7 @@ impl Listing<'_> {
         match answer {
             Ok(Answer::Now(clock)) => self.form(b"(now ", &[clock as u32]),
             Ok(Answer::Taken(cells)) => self.form(b"(taken ", &[cells]),
+            Ok(Answer::Tie { hold }) => self.tie(hold),
             Err(refusal) => self.refused(line, refusal),
         }
     }
@@ -38,6 +39,9 @@ impl Listing<'_> {
     /// A head's one text.
     pub fn head(&mut self, head: &Head) {
         self.form(b"(frame ", &[head.slots as u32, head.bridges as u32]);
+        if head.hold {
+            self.tie(true);
+        }
         for (bridge, &busy) in head.busy.iter().enumerate().filter(|(_, &busy)| busy != 0) {
             self.out.extend_from_slice(b"(busy ");
             self.number(bridge as u32 + 1);
@@ -62,6 +66,10 @@ impl Listing<'_> {
                 self.out.extend_from_slice(b"\r\n");
             }
         }
+    }
+
+    fn tie(&mut self, hold: bool) {
+        self.out.extend_from_slice(if hold { b"(tie hold)\n" } else { b"(tie place)\n" });
     }
 
     fn cell(&mut self, cell: u16) {

@@ -45,6 +45,7 @@ pub fn events(bytes: usize) -> Vec<u8> {
     let mut rng = Rng::new(1);
     let mut station = Station::head_only(&mut rng, LARGEST);
     station.head.truncate(1);
+    station.ties = 0;
     station.fill(&mut rng, bytes - 30);
     let mut text = station.bytes();
     // A clock of many digits makes up for the rest.
@@ -87,6 +88,21 @@ pub fn head(slots: usize, presets: usize) -> Vec<u8> {
         let _ = writeln!(text, "(preset {} {priority} {} {optional})", place + 1, mandatory - less);
     }
     text.into_bytes()
+}
+
+/// The widest frame, filled by 32 presets of one length: remaining times are equal in every slot.
+pub fn equal_presets() -> Vec<u8> {
+    let mut text = "(frame 64 8)\n".to_owned();
+    for place in 1..=32 {
+        let _ = writeln!(text, "(preset {place} {} 8 8)", place % 10);
+    }
+    text.into_bytes()
+}
+
+/// The same head with `(tie hold)` directly after its frame line.
+pub fn held(head: Vec<u8>) -> Vec<u8> {
+    let frame = head.iter().position(|&byte| byte == b'\n').expect("a frame line") + 1;
+    [&head[..frame], b"(tie hold)\n", &head[frame..]].concat()
 }
 
 /// 56 slots at the end of 64 in which `bridges` bridges hold nothing but optional cells, of so many presets; all else

@@ -5,7 +5,7 @@
 pub const OUT: usize = 1 << 20;
 
 #[cfg(feature = "archive")]
-pub use archive::{event, listing, plan, read_rows, run_text, write_rows, Running, GRANTS};
+pub use archive::{event, listing, plan, read_rows, run_text, run_text_over, write_rows, Running, GRANTS};
 #[cfg(not(feature = "archive"))]
 pub use program::listing;
 pub use program::rows;
@@ -123,18 +123,27 @@ mod archive {
         bytes as usize
     }
 
-    /// A frame as it crosses the boundary: the head's numbers with the clock, the preset records, the table.
-    #[derive(Clone)]
+    /// A frame as it crosses the boundary: the head's numbers with the clock and the order of ties in force, the preset
+    /// records, the table.
+    #[derive(Clone, Debug, PartialEq, Eq)]
     pub struct Running {
-        frame: [u64; FRAME],
-        presets: [u8; PRESETS],
+        pub frame: [u64; FRAME],
+        pub presets: [u8; PRESETS],
         pub table: Table,
     }
 
     /// Runs a text, which must be a good one, and yields the frame that it leaves.
     pub fn run_text(text: &[u8]) -> Running {
         let mut running = Running { frame: [0; FRAME], presets: [0; PRESETS], table: [0; CELLS] };
-        let (mut out, mut end) = (vec![0; OUT], 0);
+        let (cause, _) = run_text_over(text, &mut running, &mut vec![0; OUT]);
+        assert_eq!(cause, 0, "the text is good");
+        running
+    }
+
+    /// Runs a text over whatever stands in a frame; yields the cause or 0, and how many bytes its listing has in `out` or
+    /// the line at fault.
+    pub fn run_text_over(text: &[u8], running: &mut Running, out: &mut [u8]) -> (u32, u64) {
+        let mut end = u64::MAX;
         let cause = unsafe {
             planner_run_text(
                 text.as_ptr(),
@@ -146,12 +155,11 @@ mod archive {
                 running.table.as_mut_ptr(),
                 CELLS,
                 out.as_mut_ptr(),
-                OUT,
+                out.len(),
                 &mut end,
             )
         };
-        assert_eq!(cause, 0, "the text is good");
-        running
+        (cause, end)
     }
 
     /// Plans the head of a frame into its table; the grants are in file order.
@@ -170,7 +178,8 @@ mod archive {
         }
     }
 
-    /// One event line on a frame, which is checked first: how many cells it evicts or the new clock, or the refusal.
+    /// One event line on a frame, which is checked first: how many cells it evicts, the new clock, or 1 for hold and 0 for
+    /// place; or the refusal.
     pub fn event(running: &mut Running, line: &[u8]) -> Result<u64, u32> {
         let mut number = 0;
         let cause = unsafe {

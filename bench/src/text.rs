@@ -72,11 +72,16 @@ pub enum Form {
     Clock(u16),
     /// None if a value is outside its limits or there is a ninth job.
     Call(Option<Call>),
+    /// An order of ties: whether it is hold, else place.
+    Tie {
+        hold: bool,
+    },
 }
 
 impl Form {
+    /// Whether it has an event's form. A tie has, although directly after the frame line it is a line of the head.
     pub fn is_event(&self) -> bool {
-        matches!(self, Form::Clock(_) | Form::Call(_))
+        matches!(self, Form::Clock(_) | Form::Call(_) | Form::Tie { .. })
     }
 }
 
@@ -130,6 +135,7 @@ impl Cursor<'_> {
             b'f' => self.frame()?,
             b'b' => self.busy()?,
             b'p' => self.preset()?,
+            b't' => self.tie()?,
             _ if self.expect(b"clock ").is_some() => Form::Clock(self.number()?),
             _ => self.call()?,
         };
@@ -174,6 +180,15 @@ impl Cursor<'_> {
         let mut within = true;
         self.pairs(|number, length| within &= call.push(number, length))?;
         Some(Form::Call(within.then_some(call)))
+    }
+
+    fn tie(&mut self) -> Option<Form> {
+        self.expect(b"tie ")?;
+        let hold = self.expect(b"hold").is_some();
+        if !hold {
+            self.expect(b"place")?;
+        }
+        Some(Form::Tie { hold })
     }
 
     /// One or more `(x y)`, parted by one blank.

@@ -10,6 +10,7 @@ mod places;
 pub mod rng;
 pub mod rows;
 pub mod station;
+mod ties;
 
 use rng::Rng;
 use station::{Size, Station, LARGE, LARGEST, MEDIUM, SMALL, TEXT_LIMIT, TINY};
@@ -40,6 +41,10 @@ const KINDS: &[Kind] = &[
     Kind { name: "many jobs", weight: 3, make: limits::many_jobs },
     Kind { name: "used number", weight: 6, make: places::used_number },
     Kind { name: "misplaced line", weight: 6, make: places::misplaced },
+    Kind { name: "equal needs", weight: 12, make: ties::equal_needs },
+    Kind { name: "tie in its place", weight: 6, make: ties::in_its_place },
+    Kind { name: "tie anywhere", weight: 6, make: ties::anywhere },
+    Kind { name: "tie damaged", weight: 5, make: ties::damaged },
     Kind { name: "huge number", weight: 5, make: numbers::huge_number },
     Kind { name: "bad number", weight: 4, make: numbers::bad_number },
     Kind { name: "length limit", weight: 1, make: limits::length_limit },
@@ -89,4 +94,16 @@ fn full_day(rng: &mut Rng) -> Vec<u8> {
     let length = if rng.chance(50) { TEXT_LIMIT } else { rng.within(4_000..=TEXT_LIMIT) };
     station.fill(rng, length);
     station.bytes()
+}
+
+/// The text with the order of ties by place throughout: a head's `(tie hold)` is gone, and in place of an event's stands one
+/// that changes nothing. So the two texts have different tables only by the order of ties.
+pub fn by_place(text: &[u8]) -> Vec<u8> {
+    let lines = text.split_inclusive(|&byte| byte == b'\n').enumerate();
+    let other = lines.map(|(place, line)| match (line, place) {
+        (b"(tie hold)\n", 1) => &b""[..],
+        (b"(tie hold)\n", _) => b"(clock 0)\n",
+        _ => line,
+    });
+    other.collect::<Vec<_>>().concat()
 }

@@ -1,11 +1,12 @@
 //! Small frames against the definitions themselves: feasible means that a placement exists, grants are tried from
-//! the highest down, and evicted cells are found by trying every set. Slow and plain on purpose.
+//! the highest down, evicted cells are found by trying every set, and each slot goes to the first of a sorted list. Slow
+//! and plain on purpose.
 
 use bench::frame::{Answer, Frame};
 use bench::head::{self, Head};
 use bench::text::{lines, Call, Form};
-use bench::texts::rng::Rng;
 use bench::texts::station::{Size, Station};
+use bench::texts::{self, rng::Rng};
 
 /// Whether tasks of these needs can be placed in different slots each: by augmenting paths, task by task.
 fn feasible(needs: &[usize], bridges: &[usize]) -> bool {
@@ -85,6 +86,54 @@ fn evicted(head: &Head, frame: &Frame, clock: usize, lengths: &[usize]) -> Optio
     sets.into_iter().find(enough).map(|set| set.iter().map(|&cell| cells[cell]).collect())
 }
 
+/// The rule by its definition: slot by slot from `from` on, the largest remaining times take the empty cells in ascending
+/// order; of equal ones, under hold, those with a cell in the slot just before come first, then the earlier. `content` says
+/// what the next cell of a task holds.
+fn fill(rows: &mut [Vec<u16>], from: usize, needs: &[usize], hold: bool, mut content: impl FnMut(usize, usize) -> u16) {
+    let mut left = needs.to_vec();
+    let mut before: Vec<usize> = Vec::new();
+    for row in &mut rows[from..] {
+        let mut order: Vec<usize> = (0..left.len()).filter(|&task| left[task] > 0).collect();
+        order.sort_by_key(|&task| (usize::MAX - left[task], hold && !before.contains(&task), task));
+        order.truncate(row.iter().filter(|&&cell| cell == 0).count());
+        order.sort_unstable();
+        for &task in &order {
+            let bridge = row.iter().position(|&cell| cell == 0).expect("as many as there are empty cells");
+            row[bridge] = content(task, needs[task] - left[task]);
+            left[task] -= 1;
+        }
+        before = order;
+    }
+}
+
+fn rows(frame: &Frame) -> Vec<Vec<u16>> {
+    (0..frame.slots()).map(|slot| frame.row(slot).to_vec()).collect()
+}
+
+/// The plan's table by the rule, the head's order of ties in force.
+fn plan_by_rule(head: &Head, grants: &[usize]) -> Vec<Vec<u16>> {
+    let busy = |slot: usize| (0..head.bridges).map(|b| if head.busy[b] >> slot & 1 == 1 { 256 } else { 0 }).collect();
+    let mut rows: Vec<Vec<u16>> = (0..head.slots).map(busy).collect();
+    let mandatory = |task: usize| usize::from(head.presets[task].mandatory);
+    let needs: Vec<usize> = grants.iter().enumerate().map(|(task, grant)| mandatory(task) + grant).collect();
+    fill(&mut rows, 0, &needs, head.hold, |task, cell| {
+        let kind = if cell < mandatory(task) { 2 } else { 3 };
+        kind * 256 + u16::from(head.presets[task].number)
+    });
+    rows
+}
+
+/// The call's table by the rule, after the evicted cells are gone.
+fn call_by_rule(before: &Frame, clock: usize, hold: bool, evicted: &[(usize, u16)], call: &Call) -> Vec<Vec<u16>> {
+    let mut rows = rows(before);
+    for &(slot, content) in evicted {
+        rows[slot].iter_mut().filter(|cell| **cell == content).for_each(|cell| *cell = 0);
+    }
+    let lengths: Vec<usize> = call.jobs().iter().map(|job| usize::from(job.length)).collect();
+    fill(&mut rows, clock - 1, &lengths, hold, |job, _| 4 * 256 + u16::from(call.jobs()[job].number));
+    rows
+}
+
 /// Whether the table after the call is the one before without these cells, and with the jobs in empty ones.
 fn placed(before: &Frame, after: &Frame, evicted: &[(usize, u16)], call: &Call) -> bool {
     let mut count = [0; 256];
@@ -111,6 +160,8 @@ struct Seen {
     refused: usize,
     /// By the number of evicted cells.
     accepted: [usize; MOST_CELLS + 1],
+    /// Plans and calls under hold whose table would be another under place.
+    held: usize,
 }
 
 /// Follows one text event by event.
@@ -123,13 +174,20 @@ fn follow(text: &[u8], seen: &mut Seen) {
     let (Ok((mut frame, granted)), Some(expected)) = (planned, expected) else {
         return;
     };
-    assert!(granted.iter().map(|&grant| usize::from(grant)).take(expected.len()).eq(expected));
-    let mut clock = 1;
+    assert!(granted.iter().map(|&grant| usize::from(grant)).take(expected.len()).eq(expected.iter().copied()));
+    assert_eq!(rows(&frame), plan_by_rule(&head, &expected));
+    seen.held += usize::from(rows(&frame) != plan_by_rule(&Head { hold: false, ..head.clone() }, &expected));
+    let (mut clock, mut hold) = (1, head.hold);
     for line in lines {
         let before = frame.clone();
         let answer = frame.event(line.form);
         match line.form {
             Some(Form::Clock(t)) if answer.is_ok() => clock = usize::from(t),
+            Some(Form::Tie { hold: now }) => {
+                assert_eq!(answer, Ok(Answer::Tie { hold: now }));
+                assert_eq!(frame.table(), before.table());
+                hold = now;
+            }
             Some(Form::Call(Some(call))) if answer.map_or_else(|refusal| refusal.number() == 7, |_| true) => {
                 if candidates(&head, &before, clock).len() > MOST_CELLS {
                     continue;
@@ -142,12 +200,14 @@ fn follow(text: &[u8], seen: &mut Seen) {
                     Some(cells) => {
                         seen.accepted[cells.len()] += 1;
                         assert!(placed(&before, &frame, &cells, &call));
+                        assert_eq!(rows(&frame), call_by_rule(&before, clock, hold, &cells, &call));
+                        seen.held += usize::from(rows(&frame) != call_by_rule(&before, clock, false, &cells, &call));
                     }
                 }
             }
             _ => {}
         }
-        assert_eq!(Frame::resume(&head, frame.table(), clock).as_ref(), Ok(&frame));
+        assert_eq!(Frame::resume(&head, frame.table(), clock, hold).as_ref(), Ok(&frame));
         assert!(answer.is_ok() || frame == before);
     }
 }
@@ -159,9 +219,49 @@ fn small_frames_follow_the_definitions() {
     for seed in 0..10_000 {
         follow(&Station::new(&mut Rng::new(seed), size).bytes(), &mut seen);
     }
-    let Seen { refused, accepted } = seen;
-    println!("refused {refused}, accepted by evicted cells {accepted:?}");
-    assert!(refused > 1_000 && accepted[..5].iter().all(|&calls| calls > 100));
+    let Seen { refused, accepted, held } = seen;
+    println!("refused {refused}, accepted by evicted cells {accepted:?}, {held} otherwise by the order of ties");
+    assert!(refused > 1_000 && accepted[..5].iter().all(|&calls| calls > 100) && held > 300);
+}
+
+/// The optional cells that are gone: of every one its slot and content.
+fn gone(before: &Frame, after: &Frame) -> Vec<(usize, u16)> {
+    let cells = (0..before.slots()).flat_map(|slot| before.row(slot).iter().map(move |&cell| (slot, cell)));
+    cells.filter(|&(slot, cell)| cell >> 8 == 3 && !after.row(slot).contains(&cell)).collect()
+}
+
+/// Follows the accepted events of one text, the evicted cells being taken from the table; yields how many plans and calls
+/// under hold would be placed otherwise under place.
+fn follow_rule(text: &[u8]) -> usize {
+    let mut lines = lines(text);
+    let Ok(head) = head::read(&mut lines) else {
+        return 0;
+    };
+    let Ok((mut frame, granted)) = Frame::plan(&head) else {
+        return 0;
+    };
+    let grants: Vec<usize> = granted[..head.presets.len()].iter().map(|&grant| usize::from(grant)).collect();
+    assert_eq!(rows(&frame), plan_by_rule(&head, &grants));
+    let mut held = usize::from(rows(&frame) != plan_by_rule(&Head { hold: false, ..head.clone() }, &grants));
+    for line in lines {
+        let before = frame.clone();
+        let answer = frame.event(line.form);
+        if let (Some(Form::Call(Some(call))), Ok(_)) = (line.form, answer) {
+            let cells = gone(&before, &frame);
+            assert_eq!(answer, Ok(Answer::Taken(cells.len() as u32)));
+            let placed = |hold| call_by_rule(&before, before.now(), hold, &cells, &call);
+            assert_eq!(rows(&frame), placed(before.hold()));
+            held += usize::from(rows(&frame) != placed(false));
+        }
+    }
+    held
+}
+
+#[test]
+fn frames_of_all_sizes_follow_the_rule() {
+    let held: usize = (0..4_000).map(|seed| follow_rule(&texts::text(seed).bytes)).sum();
+    println!("{held} plans and calls otherwise by the order of ties");
+    assert!(held > 500);
 }
 
 #[test]
@@ -172,9 +272,9 @@ fn a_table_at_fault_is_not_resumed() {
     let (mut frame, _) = Frame::plan(&head).expect("a feasible head");
     lines.for_each(|line| assert!(frame.event(line.form).is_ok()));
     let table = *frame.table();
-    assert!(Frame::resume(&head, &table, 4).is_ok());
-    assert!(Frame::resume(&head, &table, 0).is_err());
-    assert!(Frame::resume(&head, &table, 5).is_err());
+    assert!(Frame::resume(&head, &table, 4, true).is_ok());
+    assert!(Frame::resume(&head, &table, 0, false).is_err());
+    assert!(Frame::resume(&head, &table, 5, false).is_err());
     // Cells: m7 c9 / o7 - / o7 0.
     for (cell, content) in [
         (0, 0),
@@ -197,6 +297,6 @@ fn a_table_at_fault_is_not_resumed() {
     ] {
         let mut changed = table;
         changed[cell] = content;
-        assert!(Frame::resume(&head, &changed, 1).is_err(), "{cell} {content}");
+        assert!(Frame::resume(&head, &changed, 1, false).is_err(), "{cell} {content}");
     }
 }

@@ -299,7 +299,8 @@ fn records_that_no_text_yields() {
         lent.presets[place] = byte;
         assert_eq!(lent_rows(&lent, b"").0, Err((0, 2)), "{place} {byte}");
     }
-    // Clock, reserved numbers, records past the last one and whatever is lent beyond do not count.
+    // Clock, orders of ties (any number is one), reserved numbers, records past the last one and whatever is lent beyond do
+    // not count.
     let mut lent = good.clone();
     [3, 12, 13, 14, 15].into_iter().for_each(|place| lent.frame[place] = u64::MAX);
     lent.presets[8..].fill(255);

@@ -39,9 +39,25 @@ static int is_event(const uint8_t *line, size_t length)
     return cause != PLANNER_NO_FORM && cause != PLANNER_OUT_OF_PLACE;
 }
 
+/* Whether a line that has an event's form is a tie line. */
+static int is_tie(const uint8_t *line)
+{
+    return line[1] == 't';
+}
+
 static void print_refused(uint64_t line, uint32_t cause)
 {
     printf("(refused %llu %u)\n", (unsigned long long)line, (unsigned)cause);
+}
+
+/* An event that is accepted is (clock .., (call .. or (tie .., and a tie is printed as it came. */
+static void print_accepted(const uint8_t *line, uint64_t number)
+{
+    if (is_tie(line)) {
+        printf("(tie %s)\n", number == PLANNER_TIE_PLACE ? "place" : "hold");
+    } else {
+        printf("(%s %llu)\n", line[2] == 'l' ? "now" : "taken", (unsigned long long)number);
+    }
 }
 
 static void print_grants(const uint8_t *grants)
@@ -104,8 +120,7 @@ static void run(size_t length, size_t head_bytes, uint64_t head_lines)
         if (cause != PLANNER_ACCEPTED) {
             print_refused(lines, cause);
         } else {
-            /* An event that is accepted is (clock .. or (call .. */
-            printf("(%s %llu)\n", text[at + 2] == 'l' ? "now" : "taken", (unsigned long long)number);
+            print_accepted(text + at, number);
         }
     }
     print_table();
@@ -126,12 +141,12 @@ int main(int argc, char **argv)
     if (PLANNER_TEXT_BYTES < length) {
         print_refused(0, PLANNER_TEXT_TOO_LONG);
     } else {
-        /* The head ends before the first line that has an event's form, or with the text. */
+        /* The head ends before the first line that has an event's form, or with the text. A tie line on line 2 is the head's: either that is directly after the frame line, or line 1 is refused. */
         size_t head_bytes = 0;
         uint64_t head_lines = 0;
         while (head_bytes < length) {
             size_t bytes = line_length(text + head_bytes, length - head_bytes);
-            if (is_event(text + head_bytes, bytes)) {
+            if (is_event(text + head_bytes, bytes) && !(head_lines == 1 && is_tie(text + head_bytes))) {
                 break;
             }
             head_bytes += bytes;

@@ -55,9 +55,10 @@ static void plan_anew(size_t length)
         print_refused(row, cause);
         return;
     }
-    /* The table was made for the old busy times: a new plan, at the first clock, makes a running frame of it again. */
+    /* The table was made for the old busy times: a new plan, at the first clock and with the head's order of ties in force, makes a running frame of it again. */
     uint8_t grants[PLANNER_GRANTS_BYTES] = {0};
     frame[PLANNER_FRAME_CLOCK] = 1;
+    frame[PLANNER_FRAME_TIE_NOW] = frame[PLANNER_FRAME_TIE];
     cause = planner_plan(frame, PLANNER_FRAME_NUMBERS, presets, sizeof presets, table, PLANNER_TABLE_CELLS, grants, sizeof grants);
     if (cause != PLANNER_ACCEPTED) {
         print_refused(0, cause);

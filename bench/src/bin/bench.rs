@@ -79,6 +79,22 @@ fn planning() {
     table("the same, listing", &SLOTS.map(|s| named(s, Load::Listing(loads::head(s, 32)))));
     table("Planning 64 x 8, by presets", &PRESETS.map(|p| named(p, Load::Plan(loads::head(64, p)))));
     table("the same, listing", &PRESETS.map(|p| named(p, Load::Listing(loads::head(64, p)))));
+    ties();
+}
+
+/// The largest plan under both orders of ties, and as many equal needs as a frame can have, which all meet in every slot.
+fn ties() {
+    let both = |name: &str, head: Vec<u8>, load: fn(Vec<u8>) -> Load| {
+        let held = loads::held(head.clone());
+        [(format!("{name}, place"), load(head)), (format!("{name}, hold"), load(held))]
+    };
+    let rows = [
+        both("plan 64 x 8, 32 presets", loads::head(64, 32), Load::Plan),
+        both("listing", loads::head(64, 32), Load::Listing),
+        both("plan 64 x 8, 32 equal presets", loads::equal_presets(), Load::Plan),
+        both("listing", loads::equal_presets(), Load::Listing),
+    ];
+    table("The order of ties", &rows.into_iter().flatten().collect::<Vec<_>>());
 }
 
 fn rows() {

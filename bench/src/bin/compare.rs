@@ -1,11 +1,12 @@
-//! Compares the two planners on texts made by seed, every byte of what they print.
+//! Compares the two planners on texts made by seed, every byte of what they print. Says too how much the texts ask for:
+//! the causes that they meet, and how often the order of ties makes a difference.
 //!
 //! `compare [texts] [first seed]`: 100,000 texts from seed 0 unless told otherwise. Exit status 1 on any difference.
 
 use std::process::ExitCode;
 
 use bench::frame::CELLS;
-use bench::texts::{kinds, text, Text};
+use bench::texts::{by_place, kinds, text, Text};
 use bench::{planner, proved};
 
 /// Differences shown in full.
@@ -24,6 +25,12 @@ struct Tally {
     clocks: u64,
     calls: u64,
     evicting_calls: u64,
+    tie_events: u64,
+    /// Of the texts whose head is accepted: those with hold in it, those with hold anywhere, and of these the ones whose
+    /// table would be another under place.
+    tied_heads: u64,
+    held: u64,
+    held_otherwise: u64,
 }
 
 fn main() -> ExitCode {
@@ -94,13 +101,34 @@ impl Tally {
                 causes[last_number(line)] += 1;
             }
             self.clocks += u64::from(line.starts_with(b"(now "));
+            self.tie_events += u64::from(line.starts_with(b"(tie "));
             let call = line.starts_with(b"(taken ");
             self.calls += u64::from(call);
             self.evicting_calls += u64::from(call && last_number(line) > 0);
         }
         // What follows the last byte 10 is no line.
         self.lines -= 1;
+        if !refused_head {
+            self.add_ties(&text.bytes, listing);
+        }
     }
+
+    fn add_ties(&mut self, text: &[u8], listing: &[u8]) {
+        let other = by_place(text);
+        if other == text {
+            return;
+        }
+        let mut place = Vec::new();
+        planner::listing(&other, &mut place);
+        self.tied_heads += u64::from(text.split(|&byte| byte == b'\n').nth(1) == Some(b"(tie hold)"));
+        self.held += 1;
+        self.held_otherwise += u64::from(!slots(listing).eq(slots(&place)));
+    }
+}
+
+/// The lines of a listing that show the table.
+fn slots(listing: &[u8]) -> impl Iterator<Item = &[u8]> {
+    listing.split(|&byte| byte == b'\n').filter(|line| line.starts_with(b"(slot "))
 }
 
 /// The cause of a refused line, the cells of a taken one.
@@ -123,7 +151,10 @@ fn report(tallies: &[(&str, Tally)]) -> ExitCode {
         println!("{cause:<18}{heads:>9}{events:>14}");
     }
     let (clocks, calls, evicting) = (total(|t| t.clocks), total(|t| t.calls), total(|t| t.evicting_calls));
-    println!("\naccepted: {clocks} clocks, {calls} calls, {evicting} of them evicting");
+    let (ties, tied_heads) = (total(|t| t.tie_events), total(|t| t.tied_heads));
+    println!("\naccepted: {clocks} clocks, {calls} calls, {evicting} of them evicting, {ties} ties");
+    let (held, otherwise) = (total(|t| t.held), total(|t| t.held_otherwise));
+    println!("hold: in {tied_heads} heads, in {held} texts; {otherwise} of these have another table under place");
     let (texts, bytes, lines) = (total(|t| t.texts), total(|t| t.bytes), total(|t| t.lines));
     let different = total(|t| t.different);
     println!("{texts} texts of {bytes} bytes, {lines} lines of output: {different} differ");

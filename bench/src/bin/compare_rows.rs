@@ -20,9 +20,10 @@ struct Tally {
     bytes: u64,
     printed: u64,
     different: u64,
-    /// Heads written with rows in them, and heads written as rows.
+    /// Heads written with rows in them, heads written as rows, and how many of both have an order of ties.
     taken: u64,
     written: u64,
+    tied: u64,
     /// Refusals by cause, of heads and of rows.
     heads: [u64; CAUSES],
     rows: [u64; CAUSES],
@@ -65,9 +66,15 @@ impl Tally {
         let (text, rows) = rows::split(input);
         match (rows::read_head(text), rows) {
             (Err((_, refusal)), _) => self.heads[usize::from(refusal.number())] += 1,
-            (Ok(_), None) => self.written += 1,
+            (Ok(head), None) => {
+                self.written += 1;
+                self.tied += u64::from(head.hold);
+            }
             (Ok(mut head), Some(rows)) => match rows::read(rows, &mut head) {
-                Ok(_) => self.taken += 1,
+                Ok(_) => {
+                    self.taken += 1;
+                    self.tied += u64::from(head.hold);
+                }
                 Err((_, refusal)) => self.rows[usize::from(refusal.number())] += 1,
             },
         }
@@ -100,8 +107,10 @@ fn report(tallies: &[(&str, Tally)]) -> u64 {
         let rows: u64 = tallies.iter().map(|(_, tally)| tally.rows[cause]).sum();
         println!("{cause:<18}{heads:>9}{rows:>12}");
     }
-    let (taken, written) = (total(|t| t.taken), total(|t| t.written));
-    println!("\naccepted: {taken} with rows in place of the busy lines, {written} written as rows");
+    let (taken, written, tied) = (total(|t| t.taken), total(|t| t.written), total(|t| t.tied));
+    println!(
+        "\naccepted: {taken} with rows in place of the busy lines, {written} written as rows; {tied} heads with hold"
+    );
     let (inputs, bytes, printed) = (total(|t| t.inputs), total(|t| t.bytes), total(|t| t.printed));
     let different = total(|t| t.different);
     println!("{inputs} inputs of {bytes} bytes, {printed} bytes of output: {different} differ");

@@ -1,12 +1,12 @@
-//! A frame from a table and a clock handed over by somebody else. Nothing is taken on trust: the table must be
-//! well-formed for the head, else `TableNotWellFormed`.
+//! A frame from a table, a clock and an order of ties handed over by somebody else. Nothing is taken on trust: the table
+//! must be well-formed for the head, else `TableNotWellFormed`; any order of ties will do.
 
 use super::{Frame, Table, BUSY, CALL, EMPTY, JOBS, MANDATORY, OPTIONAL};
 use crate::head::{Head, PRESETS};
 use crate::refusal::Refusal;
 
 impl Frame {
-    pub fn resume(head: &Head, table: &Table, clock: usize) -> Result<Self, Refusal> {
+    pub fn resume(head: &Head, table: &Table, clock: usize, hold: bool) -> Result<Self, Refusal> {
         let mut frame = Frame::unplanned(head);
         let in_frame = (1..=head.slots + 1).contains(&clock);
         let mut check = Check::new(&frame);
@@ -14,6 +14,7 @@ impl Frame {
             return Err(Refusal::TableNotWellFormed);
         }
         frame.clock = clock;
+        frame.hold = hold;
         frame.table = *table;
         Ok(frame)
     }

@@ -5,7 +5,7 @@ use super::rng::Rng;
 use super::station::TEXT_LIMIT;
 
 /// The bytes that forms are made of, and some that they are not.
-const BYTES: &[u8] = b"()() \n0123456789framebusypresetclockcall-+.\t\r\0F\x0b\x1f\x80\xff";
+const BYTES: &[u8] = b"()() \n0123456789framebusypresetclockcalltieholdplace-+.\t\r\0F\x0b\x1f\x80\xff";
 
 pub fn byte_missing(rng: &mut Rng) -> Vec<u8> {
     spoilt(rng, |_, bytes, at| {
@@ -117,6 +117,12 @@ pub fn lacking_form(rng: &mut Rng) -> Vec<u8> {
         "(cal (5 1))",
         "(clock 1",
         "(call (5 1)",
+        "(tie)",
+        "(tie hold )",
+        "(tie Hold)",
+        "(tie hold place)",
+        "(tie 1)",
+        "(tie hold",
     ];
     let mut station = any_station(rng);
     for _ in 0..rng.within(1..=3) {
@@ -165,6 +171,13 @@ pub fn next_to_nothing(rng: &mut Rng) -> Vec<u8> {
         "(frame 1 1)\r\n",
         "(frame 1 1)\n(busy 1 (1 1))\n(call (1 1))\n",
         "(frame 1 1)\n(clock 2)\n(call (1 1))\n",
+        "(tie hold)\n",
+        "(tie place)\n(frame 1 1)\n",
+        "(frame 1 1)\n(tie hold)",
+        "(frame 1 1)\n(tie hold)\n",
+        "(frame 1 1)\n(tie place)\n",
+        "(frame 1 1)\n(tie hold)\n(tie hold)\n",
+        "(frame 1 1)\n(tie hold)\n(tie place)\n",
     ];
     rng.pick(TEXTS).as_bytes().to_vec()
 }

@@ -16,10 +16,10 @@ pub fn head_limit(rng: &mut Rng) -> Vec<u8> {
         1 => {
             // Mostly alone; beside other busy lines it may be out of its place as well.
             if rng.chance(70) {
-                station.head.drain(1..station.presets);
-                station.presets = 1;
+                station.head.drain(station.busy..station.presets);
+                station.presets = station.busy;
             }
-            let at = if rng.chance(50) { 1 } else { station.presets };
+            let at = if rng.chance(50) { station.busy } else { station.presets };
             let line = busy_limit(rng, slots, bridges);
             station.head.insert(at, line);
         }
@@ -118,7 +118,7 @@ fn many_jobs_call(rng: &mut Rng, station: &mut Station, count: usize) -> String 
 pub fn many_jobs(rng: &mut Rng) -> Vec<u8> {
     let mut station = Station::head_only(rng, LARGE);
     if rng.chance(70) {
-        station.head.truncate(1);
+        station.head.truncate(station.busy);
     }
     for _ in 0..rng.within(10..=90) {
         let count = rng.within(1..=8);
@@ -135,7 +135,8 @@ pub fn many_jobs(rng: &mut Rng) -> Vec<u8> {
 /// Mandatory slots around the largest sum that is feasible.
 pub fn near_full(rng: &mut Rng) -> Vec<u8> {
     let (slots, bridges) = (rng.within(1..=64), rng.within(1..=8));
-    let mut text = format!("(frame {slots} {bridges})\n");
+    let tie = if rng.chance(50) { "(tie hold)\n" } else { "" };
+    let mut text = format!("(frame {slots} {bridges})\n{tie}");
     let mut left = (slots * bridges) as i64 + rng.within(0..=2) as i64 - 1;
     let mut place = 1;
     while left > 0 && place <= 32 {

@@ -2,7 +2,7 @@
 
 use super::limits::{any_station, preset_limit};
 use super::rng::Rng;
-use super::station::{Station, MEDIUM, SMALL, TINY};
+use super::station::{tie_line, Station, MEDIUM, SMALL, TINY};
 
 /// Numbers of presets and jobs that come again: in the head, in a call, in a later call, after a refused call.
 pub fn used_number(rng: &mut Rng) -> Vec<u8> {
@@ -62,16 +62,17 @@ pub fn misplaced(rng: &mut Rng) -> Vec<u8> {
     station.bytes()
 }
 
-/// A line of any of the five forms, its values good or not.
+/// A line of any of the six forms, its values good or not.
 fn extra_line(rng: &mut Rng, station: &Station) -> String {
     let (slots, bridges) = (station.slots, station.bridges);
-    match rng.below(8) {
+    match rng.below(9) {
         0 => format!("(frame {slots} {bridges})"),
         1 => "(frame 0 99)".into(),
         2 | 3 => format!("(busy {} (1 1))", rng.within(0..=bridges + 1)),
         4 => format!("(busy {} (9 0) (70 80))", rng.within(0..=bridges + 1)),
         5 => preset_limit(rng),
         6 => format!("(clock {})", rng.within(0..=slots + 2)),
+        7 => tie_line(rng),
         _ => format!("(call ({} {}))", rng.within(0..=256), rng.within(0..=65)),
     }
 }

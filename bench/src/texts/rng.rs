@@ -9,6 +9,12 @@ impl Rng {
         Rng(seed)
     }
 
+    /// Another sequence, which starts where this one stands and leaves it there: what is drawn from it moves nothing
+    /// that is drawn later.
+    pub fn aside(&self) -> Rng {
+        Rng(!self.0)
+    }
+
     pub fn word(&mut self) -> u64 {
         self.0 = self.0.wrapping_add(0x9e37_79b9_7f4a_7c15);
         let mut z = self.0;

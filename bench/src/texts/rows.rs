@@ -213,7 +213,7 @@ fn every_other_slot(rng: &mut Rng) -> Vec<u8> {
         rng.shuffle(&mut sheet.rows);
         return sheet.bytes();
     }
-    station.head.splice(1..station.presets, busy);
+    station.head.splice(station.busy..station.presets, busy);
     station.bytes()
 }
 

@@ -8,6 +8,8 @@ pub const TEXT_LIMIT: usize = 32_768;
 pub struct Station {
     pub slots: usize,
     pub bridges: usize,
+    /// Where the busy lines start in `head`: after the frame line and the tie line, if there is one.
+    pub busy: usize,
     /// Where the presets' lines start in `head`.
     pub presets: usize,
     pub head: Vec<String>,
@@ -16,6 +18,8 @@ pub struct Station {
     pub unused: Vec<usize>,
     /// The clock that the events so far should have reached.
     pub clock: usize,
+    /// Of a hundred events, how many are ties.
+    pub ties: usize,
 }
 
 /// Ranges to draw a station's sizes from.
@@ -38,6 +42,7 @@ pub const LARGEST: Size = Size { slots: (64, 64), bridges: (8, 8), presets: (32,
 pub struct Style {
     /// Of a hundred events, how many are clocks.
     clocks: usize,
+    ties: usize,
     most_jobs: usize,
     longest: usize,
     /// Of a hundred job numbers, how many are drawn without regard to those used.
@@ -60,7 +65,9 @@ impl Station {
         let mut unused: Vec<usize> = (1..=255).collect();
         rng.shuffle(&mut unused);
         let head = vec![format!("(frame {slots} {bridges})")];
-        let mut station = Station { slots, bridges, presets: 1, head, events: Vec::new(), unused, clock: 1 };
+        let events = Vec::new();
+        let mut station = Station { slots, bridges, busy: 1, presets: 1, head, events, unused, clock: 1, ties: 0 };
+        station.add_ties(&mut rng.aside());
         let busy = station.add_busy(rng);
         station.presets = station.head.len();
         let presets = draw(rng, size.presets);
@@ -100,6 +107,7 @@ impl Station {
         let longest = self.slots.div_ceil(*rng.pick(&[1, 2, 4, 8, 16]));
         Style {
             clocks: *rng.pick(&[5, 20, 50]),
+            ties: self.ties,
             most_jobs: *rng.pick(&[1, 1, 2, 3, 5, 8]),
             longest,
             careless: *rng.pick(&[0, 5, 40]),
@@ -107,8 +115,20 @@ impl Station {
     }
 
     pub fn add_event(&mut self, rng: &mut Rng, style: Style) {
-        let event = if rng.chance(style.clocks) { self.clock_line(rng) } else { self.call_line(rng, style) };
+        let event = match rng.below(100) {
+            draw if draw < style.clocks => self.clock_line(rng),
+            draw if draw < style.clocks + style.ties => self.tie_event(rng),
+            _ => self.call_line(rng, style),
+        };
         self.events.push(event);
+    }
+
+    /// A tie line; directly after the frame line it is the head's, and only hold has its place there.
+    fn tie_event(&self, rng: &mut Rng) -> String {
+        if self.head.len() == 1 && self.events.is_empty() {
+            return "(tie hold)".into();
+        }
+        tie_line(rng)
     }
 
     fn clock_line(&mut self, rng: &mut Rng) -> String {
@@ -145,6 +165,21 @@ impl Station {
         self.unused.pop().unwrap_or_else(|| rng.within(1..=255))
     }
 
+    /// An order of ties in the head, among the events, in both or nowhere.
+    fn add_ties(&mut self, rng: &mut Rng) {
+        if rng.chance(50) {
+            self.hold();
+        }
+        self.ties = *rng.pick(&[0, 0, 5, 20]);
+    }
+
+    /// Puts `(tie hold)` into a head that has no tie line yet.
+    pub fn hold(&mut self) {
+        self.head.insert(1, "(tie hold)".into());
+        self.busy += 1;
+        self.presets += 1;
+    }
+
     /// Adds busy lines; yields how many cells they take.
     fn add_busy(&mut self, rng: &mut Rng) -> usize {
         let percent = *rng.pick(&[0, 0, 30, 70, 100]);
@@ -174,6 +209,11 @@ impl Station {
             self.head.push(format!("(preset {number} {priority} {mandatory} {optional})"));
         }
     }
+}
+
+/// Hold somewhat more often: place is what a frame has by itself.
+pub fn tie_line(rng: &mut Rng) -> String {
+    (*rng.pick(&["(tie hold)", "(tie hold)", "(tie place)"])).into()
 }
 
 fn draw(rng: &mut Rng, (from, to): (usize, usize)) -> usize {

@@ -23,12 +23,13 @@ use station::types::NO_HEAD;
 use station::types::NO_PRESETS;
 use station::types::Preset;
 
-// Draws a frame as the lines before the last event left it, and as this event leaves it. No event is one of no bytes: then it is the plan.
+// Draws a frame as the lines before the last event left it, with the clock and the order of ties, and as this event leaves it. No event is one of no bytes: then it is the plan.
 fn draw_frame(
     head: Head,
     presets: [Preset; 32],
     before: [Cell; 512],
     clock: usize,
+    hold: bool,
     event: &[u8],
     line: usize,
 ) {
@@ -39,7 +40,7 @@ fn draw_frame(
         return;
     }
     let mut after = before;
-    let done = event_by_value(head, presets, &mut after, clock, event);
+    let done = event_by_value(head, presets, &mut after, clock, hold, event);
     let answer = done.answer;
     both_frames(
         slots,
@@ -59,12 +60,20 @@ fn draw_text(text: &[u8], event: &[u8], line: usize) {
     let mut table = [0u16; 512];
     // the least output that is taken; the listing in it is not used
     let mut listing = [0u8; 8192];
-    let run = run_text_by_value(text, NO_HEAD, NO_PRESETS, &mut table, 1, &mut listing);
+    let run = run_text_by_value(
+        text,
+        NO_HEAD,
+        NO_PRESETS,
+        &mut table,
+        1,
+        false,
+        &mut listing,
+    );
     let ended = run.ended;
     let head = run.head;
     let presets = run.presets;
     match ended {
-        Ended::Ran(_) => draw_frame(head, presets, table, run.clock, event, line),
+        Ended::Ran(_) => draw_frame(head, presets, table, run.clock, run.hold, event, line),
         Ended::Refused(n, cause) => refused_text(n, cause),
     }
 }

@@ -47,10 +47,11 @@ fn refused(n: usize, cause: Refusal) {
     around(b"", cause_number(cause) as usize, b")");
 }
 
-// Writes what an event comes to, behind its line.
+// Writes what an event comes to, behind its line. An accepted clock or order of ties is that line.
 fn outcome(answer: Answer, n: usize) {
     match answer {
         Answer::Now(_) => {}
+        Answer::Tie(_) => {}
         Answer::Taken(lost) => around(b": ", lost, b" lost"),
         Answer::Refused(_, cause) => {
             put(b": <tspan font-family=\"monospace\" font-size=\"12\">");

@@ -10,20 +10,18 @@ use mathlib.Core.Bool.{true}
 use mathlib.Core.List.{List}
 use lib.ListN.{length, drop}
 use lib.Dec.{eqb}
-use Rattle.laws.specs.Eviction.{ones}
 use Rattle.laws.proofs.Tests.{Is, is-true, is-false, is, clash, neither-right, test-ext}
 use Rattle.laws.proofs.Comparisons.{lt-of, eq-of, ne-of, ltb-yes, eqb-yes}
 use Rattle.station.specs.Head.{Head, Job}
 use Rattle.placing.specs.Table.{Cells, cell, Each, kindOf, isCall, callCell, holding, hasJob, hasPreset, WellFormed}
 use Rattle.placing.specs.State.{State}
 use Rattle.placing.specs.Valid.{ValidCall, Change, usable, jobAt}
-use Rattle.placing.specs.Call.{evictedSet}
 use Rattle.placing.specs.Outcomes.{Cost, costOf, CallAnswer, callOf}
 use Rattle.placing.specs.Claims.{Running}
 use Rattle.placing.proofs.Theorems.{cells-pos, cells-ext, Good, hasJob-of, changed-call, changed-new-call, new-usable}
 use Rattle.placing.proofs.Theorems.{call-accepted, call-claim}
 use Rattle.frame.specs.Event.{Event, taken, Outcome, eventOf, runOf}
-use Rattle.frame.specs.Demands.{stateAt, answerAt, EventIs, stopped, clockSet, placed, CallAt, CallCells}
+use Rattle.frame.specs.Demands.{stateAt, answerAt, EventIs, stopped, clockSet, tieSet, placed, CallAt, CallCells}
 use Rattle.frame.proofs.EventList.{kept-over, run-rest, between}
 use Rattle.frame.proofs.OneEvent.{event-is, call-taken, call-table, event-running}
 use Rattle.frame.proofs.ListedCalls.{running-at, took, valid-at}
@@ -90,6 +88,7 @@ event-calls h st e = go (eventOf h st e) (event-is h st e) refl
     go : (o : Outcome) → EventIs h st e o → eventOf h st e ≡ o → KeptCalls h (st .table) (o .after .table)
     go _ (stopped r f) q = calls-same h (st .table)
     go _ (clockSet t asks f) q = calls-same h (st .table)
+    go _ (tieSet hold asks f) q = calls-same h (st .table)
     go _ (placed jobs asks f) q =
         let n = costOf h jobs st in
         subst (KeptCalls h (st .table)) (sym (call-table h st e jobs asks) ∙ ap (λ (o : Outcome). o .after .table) q)

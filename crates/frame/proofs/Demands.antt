@@ -14,10 +14,10 @@ use Rattle.station.specs.Head.{Head}
 use Rattle.station.specs.Refusal.{firstOf, mandatoryNotFeasible}
 use Rattle.station.specs.Reading.{Reading, headOf}
 use Rattle.station.proofs.Theorems.{read-means, read-valid, read-written, written-read, yielded}
-use Rattle.placing.specs.Table.{cell, cells}
+use Rattle.placing.specs.Table.{cells}
 use Rattle.placing.specs.State.{State, stateOf}
 use Rattle.placing.specs.Valid.{firstClock}
-use Rattle.placing.specs.Plan.{planned}
+use Rattle.placing.specs.Plan.{tieOf, planned}
 use Rattle.placing.specs.Outcomes.{PlanAnswer, planOf}
 use Rattle.placing.specs.Claims.{Running}
 use Rattle.placing.proofs.Theorems.{cell-written, grants-rule}
@@ -28,8 +28,8 @@ use Rattle.frame.specs.Text.{Whole, ran, startOf, eventsOf, wholeWithPla
 use Rattle.frame.specs.Demands.{stateAt, eventAt, answerAt, cellsAt, Ends, too-long, too-short, head-refused, is-not-planned, is-planned}
 use Rattle.frame.specs.Demands.{EventIs, Demand1, Demand2, OneText, Between, Demand3}
 use Rattle.frame.proofs.EventList.{answered, outcome-at, answer-at, state-next, state-end, between}
-use Rattle.frame.proofs.OneEvent.{event-is, refused-no-line, refused-leaves, clock-leaves, now-asks, event-never-eleven, seven-asks, event-running}
-use Rattle.frame.proofs.KeptCells.{Kept, Still, run-kept, run-still, run-counted, run-clock}
+use Rattle.frame.proofs.OneEvent.{event-is, refused-no-line, refused-leaves, clock-leaves, tie-leaves, now-asks, tie-asks, tie-said, event-never-eleven, seven-asks, event-running}
+use Rattle.frame.proofs.KeptCells.{Kept, Still, run-kept, run-still, run-counted, run-clock, run-tie}
 use Rattle.frame.proofs.ListedCalls.{running-at, callClaim, seven-at, took, rule-at, slots-at, valid-at, lost-at, reported-at, least-at}
 use Rattle.frame.proofs.CallCells.{call-cells}
 
@@ -70,10 +70,10 @@ ran-granted text t h n g r e = go (wholeOf text t) (text-ends text t) e
     go _ (is-planned p m a v) q = cc
 
 pub ran-is : (text t : List ℕ) (h : Head) (n : ℕ) (g : List ℕ) (r : Run) → wholeOf text t ≡ ran h n g r
-    → r ≡ runOf h (startOf (planOf h t .table)) (eventsOf text n)
+    → r ≡ runOf h (startOf h (planOf h t .table)) (eventsOf text n)
 ran-is text t h n g r e = go (wholeOf text t) (text-ends text t) e
   where
-    go : (w : Whole) → Ends text t w → w ≡ ran h n g r → r ≡ runOf h (startOf (planOf h t .table)) (eventsOf text n)
+    go : (w : Whole) → Ends text t w → w ≡ ran h n g r → r ≡ runOf h (startOf h (planOf h t .table)) (eventsOf text n)
     go _ (too-long p) q = cc
     go _ (too-short p s) q = cc
     go _ (head-refused p s m) q = cc
@@ -91,11 +91,11 @@ pub demand-1 : (text t : List ℕ) → Demand1 text t
 demand-1 text t = record {
   ends = text-ends text t;
   later = λ h n g r e j l.
-      rw (ran-is text t h n g r e) (event-at h (startOf (planOf h t .table)) (eventsOf text n) j l);
+      rw (ran-is text t h n g r e) (event-at h (startOf h (planOf h t .table)) (eventsOf text n) j l);
   left = λ h n g r e.
       rw (ran-is text t h n g r e) (
-        answered h (startOf (planOf h t .table)) (eventsOf text n),
-        sym (state-end h (startOf (planOf h t .table)) (eventsOf text n)),
+        answered h (startOf h (planOf h t .table)) (eventsOf text n),
+        sym (state-end h (startOf h (planOf h t .table)) (eventsOf text n)),
       );
 }
 
@@ -106,9 +106,9 @@ pub demand-2 : (h : Head) (t : List ℕ) → Demand2 h t
 demand-2 h t = record {
   grants = λ g q. let p = plan-granted h t g q in rw (p .0) (grants-rule (p .1));
   slots = plan-claim h t .slots;
-  cells = λ g q. rw (plan-granted h t g q .4) (cell-written h (planned h) t);
-  call-slots = λ clock jobs. call-claim h jobs (stateOf t clock) .slots;
-  call-cells = λ clock jobs n q. call-claim h jobs (stateOf t clock) .rule n q;
+  cells = λ g q. rw (plan-granted h t g q .4) (cell-written h (planned (tieOf (h .hold)) h) t);
+  call-slots = λ clock hold jobs. call-claim h jobs (stateOf t clock hold) .slots;
+  call-cells = λ clock hold jobs n q. call-claim h jobs (stateOf t clock hold) .rule n q;
 }
 
 -- reading and writing a head are inverse
@@ -141,11 +141,19 @@ demand-3 h st es start = record {
   reported = λ j jobs n here. reported-at h st es start j jobs here n;
   least = λ j jobs n here. least-at h st es start j jobs here n;
   nine-counts-all = λ j l u. let r = running-at h st es start j in nine-counts-all h (cellsAt h st es j) u (r .valid) (r .wellFormed .cells);
+  any-order = λ j jobs n here q. callClaim h st es start j jobs here .any-order n (took h st es start j jobs here n q);
   never-eleven = λ j l q.
       event-never-eleven h (stateAt h st es j) (eventAt es j) (running-at h st es start j) (sym (answer-at h st es j l) ∙ q);
   running = subst (Running h) (state-end h st es) (running-at h st es start (length es));
   clock = run-clock h st es;
   clock-asked = λ j t l q. now-asks h (stateAt h st es j) (eventAt es j) t (sym (answer-at h st es j l) ∙ q);
+  tie = run-tie h st es;
+  tie-accepted = λ j hold l. (
+    λ q. tie-asks h (stateAt h st es j) (eventAt es j) hold (sym (answer-at h st es j l) ∙ q),
+    λ q. answer-at h st es j l ∙ tie-said h (stateAt h st es j) (eventAt es j) hold (running-at h st es start j) q,
+  );
+  tie-leaves = λ j hold l q.
+      state-next h st es j l ∙ tie-leaves h (stateAt h st es j) (eventAt es j) hold (sym (answer-at h st es j l) ∙ q);
   no-line = λ j n r l q. refused-no-line h (stateAt h st es j) (eventAt es j) n r (sym (answer-at h st es j l) ∙ q);
   refused-leaves = λ j r l q.
       state-next h st es j l ∙ refused-leaves h (stateAt h st es j) (eventAt es j) r (sym (answer-at h st es j l) ∙ q);
@@ -162,7 +170,7 @@ demand-3 h st es start = record {
 }
 
 -- From a plan's start: "an accepted head with its plan and the first clock".
-pub planned-running : (h : Head) (t g : List ℕ) → planOf h t .answer ≡ PlanAnswer.granted g → Running h (startOf (planOf h t .table))
+pub planned-running : (h : Head) (t g : List ℕ) → planOf h t .answer ≡ PlanAnswer.granted g → Running h (startOf h (planOf h t .table))
 planned-running h t g q =
     let p = plan-granted h t g q in
     record {
@@ -172,5 +180,5 @@ planned-running h t g q =
     }
 
 pub demand-3-planned : (h : Head) (t g : List ℕ) → planOf h t .answer ≡ PlanAnswer.granted g → (es : List Event)
-    → Demand3 h (startOf (planOf h t .table)) es
-demand-3-planned h t g q es = demand-3 h (startOf (planOf h t .table)) es (planned-running h t g q)
+    → Demand3 h (startOf h (planOf h t .table)) es
+demand-3-planned h t g q es = demand-3 h (startOf h (planOf h t .table)) es (planned-running h t g q)

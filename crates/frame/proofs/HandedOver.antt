@@ -5,21 +5,20 @@
 use Prim.Native.Nat.{ℕ, _≤_}
 use mathlib.Core.Path.{_≡_, refl, sym, _∙_, ap}
 use mathlib.Core.Bool.{true}
-use mathlib.Core.Option.{none}
-use mathlib.Core.List.{List, [], _∷_}
+use mathlib.Core.List.{List, _∷_}
 use lib.ListN.{length}
 use lib.Dec.{ltb}
 use Rattle.laws.proofs.Comparisons.{ge-of}
 use Rattle.station.specs.Head.{Head, Job}
-use Rattle.station.specs.Refusal.{tooShort, firstOf}
+use Rattle.station.specs.Refusal.{tooShort}
 use Rattle.station.specs.Types.{headIn, validRecord}
 use Rattle.station.specs.declared.types.Preset as record-of-preset
 use Rattle.station.specs.declared.types.Head as record-of-head
 use Rattle.station.proofs.Theorems.{first-none}
-use Rattle.placing.specs.State.{State, stateOf}
+use Rattle.placing.specs.State.{State, stateOf, withTable}
 use Rattle.placing.specs.Claims.{Running}
 use Rattle.placing.specs.Outcomes.{CallOutcome, callOf}
-use Rattle.placing.specs.Causes.{causesOf, frameCausesOf, callJobs}
+use Rattle.placing.specs.Causes.{frameCausesOf, callJobs}
 use Rattle.placing.specs.declared.call.CallAnswer as reply
 use Rattle.placing.specs.CallDone.{callAnswerIn, callMeant}
 use Rattle.placing.specs.Entries.{CallEntry}
@@ -27,10 +26,9 @@ use Rattle.placing.proofs.Theorems.{causes-none, frame-running}
 use Rattle.frame.specs.declared.types.Outcome as result
 use Rattle.frame.specs.Event.{Event, line, clock, call, Answer, answerOf, Outcome, eventOf, runOf}
 use Rattle.frame.specs.Types.{answerIn}
-use Rattle.frame.specs.EventDone.{eventMeant, Yields}
 use Rattle.frame.specs.EventEntry.{eventOnSlice, EventEntry}
 use Rattle.frame.specs.HandedOver.{LetPass, Handed, no-more, by-event, by-set-clock, by-call, HandedClaim}
-use Rattle.frame.proofs.OneEvent.{event-call, call-clock}
+use Rattle.frame.proofs.OneEvent.{event-call, call-leaves}
 use Rattle.frame.proofs.Demands.{demand-3}
 use Rattle.frame.proofs.event.EventAnswers.{meant-event}
 use Rattle.frame.proofs.event.ListOfRecords.{listed-enough}
@@ -48,18 +46,16 @@ module _ (head : record-of-head.Head) (ps : List record-of-preset.Preset) where
 
   -- ---- one call of an entry
 
-  entry-step : 32 ≤ length ps → validRecord head ps ≡ true → (st : State) (e : Event) {u : List ℕ} {r : result.Outcome} → Running h st → EventEntry head ps st e u r → Step st e (answerIn (r .answer)) (stateOf u (r .clock))
-  entry-step long v st e {r = r} run p =
+  entry-step : 32 ≤ length ps → validRecord head ps ≡ true → (st : State) (e : Event) {u : List ℕ} {r : result.Outcome} → Running h st → EventEntry head ps st e u r → Step st e (answerIn (r .answer)) (stateOf u (r .clock) (r .hold))
+  entry-step long v st e run p =
       let o : eventOnSlice (length ps) head ps st e ≡ eventOf h st e =
       listed-enough (length ps) head ps st e long ∙ meant-event head ps st e (causes-none head ps (st .table) (run .long) v) in
       let left = ap (λ (x : Outcome). x .after) o in (
         p .done .answer ∙ ap (λ (x : Outcome). x .answer) o,
-        ap (λ (t : List ℕ). stateOf t (r .clock)) (p .done .table)
-            ∙ ap (stateOf (eventOnSlice (length ps) head ps st e .after .table)) (p .done .clock)
-            ∙ left,
+        rw (p .done .table, p .done .clock, p .done .hold) left,
       )
 
-  call-step : 32 ≤ length ps → validRecord head ps ≡ true → (st : State) (jobs : List Job) {u : List ℕ} {r : reply.CallAnswer} → Running h st → CallEntry head ps jobs st u r → Step st (call jobs) (answerOf (callAnswerIn r)) (stateOf u (st .clock))
+  call-step : 32 ≤ length ps → validRecord head ps ≡ true → (st : State) (jobs : List Job) {u : List ℕ} {r : reply.CallAnswer} → Running h st → CallEntry head ps jobs st u r → Step st (call jobs) (answerOf (callAnswerIn r)) (stateOf u (st .clock) (st .hold))
   unfolding callMeant
   call-step long v st jobs run p =
       let d = p .done .done long in
@@ -67,8 +63,8 @@ module _ (head : record-of-head.Head) (ps : List record-of-preset.Preset) where
       let o : callMeant head ps jobs st ≡ callOf h jobs st = rw (none-met, callMeant) refl in
       let as-event = event-call h st (call jobs) jobs refl in (
         ap answerOf (d .answer ∙ ap (λ (x : CallOutcome). x .answer) o) ∙ sym (ap (λ (x : Outcome). x .answer) as-event),
-        ap (λ (t : List ℕ). stateOf t (st .clock)) (d .table ∙ ap (λ (x : CallOutcome). x .after .table) o)
-            ∙ ap (stateOf (callOf h jobs st .after .table)) (sym (call-clock h jobs st))
+        ap (λ (t : List ℕ). withTable t st) (d .table ∙ ap (λ (x : CallOutcome). x .after .table) o)
+            ∙ sym (call-leaves h jobs st)
             ∙ sym (ap (λ (x : Outcome). x .after) as-event),
       )
 

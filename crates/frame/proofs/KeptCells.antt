@@ -2,27 +2,25 @@
 -- (Call cells: CallCells.antt.)
 --
 -- In order: what is kept (`Kept`), of nothing done (`kept-same`), of two steps in turn (`kept-twice`), of one event (`event-kept`), of a list
--- (`run-kept`); the same of the cells in slots gone by (`run-still`); the optional cells counted (`run-counted`); the clock (`run-clock`).
+-- (`run-kept`); the same of the cells in slots gone by (`run-still`); the optional cells counted (`run-counted`); the clock (`run-clock`) and the order of ties (`run-tie`).
 -- Assumes nothing.
 use Prim.Native.Nat.{ℕ, _+_, _≤_}
 use native.Mathlib.Omega.{arith}
 use mathlib.Core.Path.{_≡_, refl, sym, _∙_, ap, subst}
-use mathlib.Core.Bool.{true, false, _||_}
+use mathlib.Core.Bool.{Bool, true, false, _||_}
 use mathlib.Core.List.{List, [], _∷_}
-use Rattle.laws.specs.Eviction.{ones}
 use Rattle.laws.proofs.Comparisons.{gt-of, leb-no}
 use Rattle.station.specs.Head.{Head, Job}
 use Rattle.placing.specs.Table.{cell, Each, isBusy, isMandatory, isOptional}
 use Rattle.placing.specs.State.{State}
 use Rattle.placing.specs.Valid.{Change, usable, firstSlot, optionalCount}
-use Rattle.placing.specs.Call.{evictedSet}
 use Rattle.placing.specs.Outcomes.{Cost, costOf, CallAnswer, callOf}
 use Rattle.placing.specs.Claims.{Running, SamePast}
 use Rattle.placing.proofs.Theorems.{Good}
 use Rattle.placing.proofs.Theorems.{change-gone, changed-keeps-fixed, changed-kept-fixed, changed-optional, changed-optional-count}
 use Rattle.placing.proofs.Theorems.{call-accepted, call-claim}
-use Rattle.frame.specs.Event.{Event, Answer, clockNow, taken, refused, Outcome, eventOf, runOf}
-use Rattle.frame.specs.Demands.{EventIs, stopped, clockSet, placed, SameFixed, lastClock, totalTaken}
+use Rattle.frame.specs.Event.{Event, Answer, clockNow, tieNow, taken, refused, Outcome, eventOf, runOf}
+use Rattle.frame.specs.Demands.{EventIs, stopped, clockSet, tieSet, placed, SameFixed, lastClock, lastTie, totalTaken}
 use Rattle.frame.proofs.EventList.{kept-over}
 use Rattle.frame.proofs.OneEvent.{event-is, clock-set, call-taken, call-table, event-running}
 
@@ -85,6 +83,7 @@ event-kept h st e = go (eventOf h st e) (event-is h st e) refl
     go : (o : Outcome) → EventIs h st e o → eventOf h st e ≡ o → Kept h (st .table) (o .after .table)
     go _ (stopped r f) q = kept-same h (st .table)
     go _ (clockSet t asks f) q = kept-same h (st .table)
+    go _ (tieSet hold asks f) q = kept-same h (st .table)
     go _ (placed jobs asks f) q =
         let n = costOf h jobs st in
         subst (Kept h (st .table)) (sym (call-table h st e jobs asks) ∙ ap (λ (o : Outcome). o .after .table) q)
@@ -120,6 +119,7 @@ event-still h st e = go (eventOf h st e) (event-is h st e) refl
     go : (o : Outcome) → EventIs h st e o → eventOf h st e ≡ o → Still h st (o .after)
     go _ (stopped r f) q = still-same h st
     go _ (clockSet t asks f) q = record { later = clock-set h st e t asks f .1; cells = λ s b l m g. refl }
+    go _ (tieSet hold asks f) q = record { later = omega arith; cells = λ s b l m g. refl }
     go _ (placed jobs asks f) q =
         let n = costOf h jobs st in
         let table = sym (call-table h st e jobs asks) ∙ ap (λ (o : Outcome). o .after .table) q in
@@ -139,6 +139,7 @@ run-still h st es run =
 totalTaken-cons : (a : Answer) (answers : List Answer) → totalTaken (a ∷ answers) ≡ totalTaken (a ∷ []) + totalTaken answers
 unfolding totalTaken
 totalTaken-cons (clockNow t) answers = omega arith
+totalTaken-cons (tieNow hold) answers = omega arith
 totalTaken-cons (taken n) answers = omega arith
 totalTaken-cons (refused _ r) answers = omega arith
 
@@ -152,6 +153,7 @@ event-counted h st e = go (eventOf h st e) (event-is h st e) refl
         → optionalCount h (cell h (st .table)) ≡ optionalCount h (cell h (o .after .table)) + totalTaken (o .answer ∷ [])
     go _ (stopped r f) q = omega arith
     go _ (clockSet t asks f) q = omega arith
+    go _ (tieSet hold asks f) q = omega arith
     go _ (placed jobs asks f) q =
         let n = costOf h jobs st in
         omega (
@@ -177,6 +179,7 @@ run-counted h st (e ∷ es) =
 lastClock-cons : (c : ℕ) (a : Answer) (answers : List Answer) → lastClock c (a ∷ answers) ≡ lastClock (lastClock c (a ∷ [])) answers
 unfolding lastClock
 lastClock-cons c (clockNow t) answers = refl
+lastClock-cons c (tieNow hold) answers = refl
 lastClock-cons c (taken n) answers = refl
 lastClock-cons c (refused _ r) answers = refl
 
@@ -187,6 +190,7 @@ event-clock h st e = go (eventOf h st e) (event-is h st e)
     go : (o : Outcome) → EventIs h st e o → o .after .clock ≡ lastClock (st .clock) (o .answer ∷ [])
     go _ (stopped r f) = refl
     go _ (clockSet t asks f) = refl
+    go _ (tieSet hold asks f) = refl
     go _ (placed jobs asks f) = refl
 
 pub run-clock : (h : Head) (st : State) (es : List Event) → runOf h st es .after .clock ≡ lastClock (st .clock) (runOf h st es .answers)
@@ -196,3 +200,30 @@ run-clock h st (e ∷ es) =
     run-clock h (eventOf h st e .after) es
     ∙ ap (λ (c : ℕ). lastClock c (runOf h (eventOf h st e .after) es .answers)) (event-clock h st e)
     ∙ sym (lastClock-cons (st .clock) (eventOf h st e .answer) (runOf h (eventOf h st e .after) es .answers))
+
+-- ---- the order of ties
+
+lastTie-cons : (hold : Bool) (a : Answer) (answers : List Answer) → lastTie hold (a ∷ answers) ≡ lastTie (lastTie hold (a ∷ [])) answers
+unfolding lastTie
+lastTie-cons hold (clockNow t) answers = refl
+lastTie-cons hold (tieNow next) answers = refl
+lastTie-cons hold (taken n) answers = refl
+lastTie-cons hold (refused _ r) answers = refl
+
+event-tie : (h : Head) (st : State) (e : Event) → eventOf h st e .after .hold ≡ lastTie (st .hold) (eventOf h st e .answer ∷ [])
+unfolding lastTie
+event-tie h st e = go (eventOf h st e) (event-is h st e)
+  where
+    go : (o : Outcome) → EventIs h st e o → o .after .hold ≡ lastTie (st .hold) (o .answer ∷ [])
+    go _ (stopped r f) = refl
+    go _ (clockSet t asks f) = refl
+    go _ (tieSet hold asks f) = refl
+    go _ (placed jobs asks f) = refl
+
+pub run-tie : (h : Head) (st : State) (es : List Event) → runOf h st es .after .hold ≡ lastTie (st .hold) (runOf h st es .answers)
+unfolding runOf lastTie
+run-tie h st [] = refl
+run-tie h st (e ∷ es) =
+    run-tie h (eventOf h st e .after) es
+    ∙ ap (λ (x : Bool). lastTie x (runOf h (eventOf h st e .after) es .answers)) (event-tie h st e)
+    ∙ sym (lastTie-cons (st .hold) (eventOf h st e .answer) (runOf h (eventOf h st e .after) es .answers))

@@ -13,6 +13,7 @@ use Rattle.station.specs.Refusal.{callNotFeasible, firstOf}
 use Rattle.placing.specs.Table.{cell, cells, Each}
 use Rattle.placing.specs.State.{State}
 use Rattle.placing.specs.Valid.{ValidCall, lost, lostUpTo}
+use Rattle.placing.specs.Plan.{tieOf}
 use Rattle.placing.specs.Call.{evictionOrder, inSet, evictedSet, called}
 use Rattle.placing.specs.Outcomes.{Cost, CallAnswer, callOf}
 use Rattle.placing.specs.Claims.{Running, CallClaim, JobsRule, beforeSeven}
@@ -56,12 +57,12 @@ module _ (h : Head) (st : State) (es : List Event) (start : Running h st) where
       pub took : callOf h jobs stAt .answer ≡ CallAnswer.taken n
       took = call-taken h (stateAt h st es j) (eventAt es j) jobs (here .asks) n (sym (answer-at h st es j (here .inside)) ∙ q)
 
-      pub rule-at : Each h (λ s b. cell h tableAfter s b ≡ called h (stAt .clock) jobs (cell h (stAt .table)) s b)
+      pub rule-at : Each h (λ s b. cell h tableAfter s b ≡ called (tieOf (stAt .hold)) h (stAt .clock) jobs (cell h (stAt .table)) s b)
       rule-at =
-          subst (λ (x : List ℕ). Each h (λ s b. cell h x s b ≡ called h (stAt .clock) jobs (cell h (stAt .table)) s b)) table-next (callClaim .rule n took)
+          subst (λ (x : List ℕ). Each h (λ s b. cell h x s b ≡ called (tieOf (stAt .hold)) h (stAt .clock) jobs (cell h (stAt .table)) s b)) table-next (callClaim .rule n took)
 
-      pub slots-at : (s : ℕ) → s < h .slots → JobsRule h (stAt .clock) jobs (cell h (stAt .table)) (cell h tableAfter) s
-      slots-at s l = subst (λ (x : List ℕ). JobsRule h (stAt .clock) jobs (cell h (stAt .table)) (cell h x) s) table-next (callClaim .slots n took s l)
+      pub slots-at : (s : ℕ) → s < h .slots → JobsRule h (stAt .clock) (stAt .hold) jobs (cell h (stAt .table)) (cell h tableAfter) s
+      slots-at s l = subst (λ (x : List ℕ). JobsRule h (stAt .clock) (stAt .hold) jobs (cell h (stAt .table)) (cell h x) s) table-next (callClaim .slots n took s l)
 
       pub valid-at : ValidCall h (stAt .clock) jobs (cell h (stAt .table)) (cell h tableAfter)
       valid-at = subst (λ (x : List ℕ). ValidCall h (stAt .clock) jobs (cell h (stAt .table)) (cell h x)) table-next (callClaim .valid n took)

@@ -1,36 +1,36 @@
 -- One event on a running frame: what it can come to, and what it keeps.
 --
--- In order: the cases of an event (`event-is`, `clock-set`); what a refusal and a clock leave (`refused-no-line`, `refused-leaves`, `clock-leaves`); a call as an event is the call of the layer below (`event-call`), which leaves the clock (`call-clock`); who asked for an answer
--- (`taken-asks`, `now-asks`); the refusals that an event's own causes never give (`event-never-eleven`, `seven-asks`); the frame is a running one
+-- In order: the cases of an event (`event-is`, `clock-set`); what a refusal, a clock and a tie leave (`refused-no-line`, `refused-leaves`, `clock-leaves`, `tie-leaves`); a call as an event is the call of the layer below (`event-call`), which leaves all but the table (`call-leaves`); who asked for an answer
+-- (`taken-asks`, `now-asks`, `tie-asks`); a tie is never refused (`tie-said`); the refusals that an event's own causes never give (`event-never-eleven`, `seven-asks`); the frame is a running one
 -- afterwards (`event-running`).
 -- Assumes nothing.
 use Prim.Native.Nat.{ℕ, _≤_, _<_}
 use native.Mathlib.Omega.{arith}
 use mathlib.Core.Path.{_≡_, refl, sym, _∙_, ap}
 use mathlib.Core.Logic.{_⊎_, inl, inr, _↔_}
-use mathlib.Core.Bool.{true, not}
+use mathlib.Core.Bool.{Bool, true, not}
 use mathlib.Core.Option.{Option, none, some}
 use mathlib.Core.List.{List, [], _∷_, _++_}
 use lib.Dec.{ltb, lit<}
-use Rattle.laws.specs.Eviction.{ones}
 use Rattle.laws.proofs.Tests.{clash, true-of-not}
 use Rattle.laws.proofs.Comparisons.{ge-of}
 use Rattle.station.specs.Head.{Head, Job}
 use Rattle.station.specs.Refusal.{Refusal, numberOf, noForm, outOfLimits, outOfPlace, numberUsed, clockBack, callNotFeasible, tooMany, notWellFormed}
 use Rattle.station.specs.Refusal.{try, firstOf}
-use Rattle.station.specs.Form.{Form, frameLine, busyLine, presetLine, clockLine, callLine, form}
-use Rattle.station.proofs.Theorems.{first-none, append-none, append-left-none, Never, end, skip, never-first}
+use Rattle.station.specs.Form.{Form, frameLine, busyLine, presetLine, clockLine, callLine, tieLine, form}
+use Rattle.station.proofs.Theorems.{first-none, first-of-none, append-none, append-left-none, Never, end, skip, never-first}
 use Rattle.placing.specs.Table.{cell}
 use Rattle.placing.specs.Valid.{clockIn}
-use Rattle.placing.specs.State.{State}
-use Rattle.placing.specs.Call.{evictedSet, called, callFits}
+use Rattle.placing.specs.State.{State, withTable, withOrder}
+use Rattle.placing.specs.Plan.{tieOf}
+use Rattle.placing.specs.Call.{called, callFits}
 use Rattle.placing.specs.Outcomes.{Cost, costOf, written, frameCauses, jobsOutside, jobsUsed, jobsTooMany, callCauses, CallAnswer, CallOutcome, callOf}
 use Rattle.placing.specs.Claims.{Running}
 use Rattle.placing.proofs.Theorems.{of-running, call-claim}
-use Rattle.frame.specs.Event.{Event, line, clock, call, Asked, setClock, placeJobs, fault, asked, askedByForm, clockNow, taken, refused}
+use Rattle.frame.specs.Event.{Event, line, clock, call, Asked, setClock, setTie, placeJobs, fault, asked, askedByForm, clockNow, tieNow, taken, refused}
 use Rattle.frame.specs.Event.{Outcome, ownCauses, askedCauses, eventCauses, carriedOut, comesTo, eventOf}
 use Rattle.frame.specs.Event.{answerOf}
-use Rattle.frame.specs.Demands.{EventIs, stopped, clockSet, placed}
+use Rattle.frame.specs.Demands.{EventIs, stopped, clockSet, tieSet, placed}
 
 -- ---- the cases of an event
 
@@ -43,6 +43,7 @@ event-is h st e = go (firstOf (eventCauses h st e)) refl
 
     done : (a : Asked) → asked e ≡ a → firstOf (eventCauses h st e) ≡ none → EventIs h st e (carriedOut h st a)
     done (setClock t) q n = clockSet t q n
+    done (setTie hold) q n = tieSet hold q n
     done (placeJobs jobs) q n = placed jobs q n
     done (fault r) q n =
         let tried : firstOf (frameCauses h st ++ (some r ∷ [])) ≡ none =
@@ -72,15 +73,17 @@ refused-no-line h st e n r q = go (eventOf h st e) (event-is h st e) q
     go : (o : Outcome) → EventIs h st e o → o .answer ≡ refused n r → n ≡ 0
     go _ (stopped c f) p = cc
     go _ (clockSet t asks f) p = cc
+    go _ (tieSet hold asks f) p = cc
     go _ (placed jobs asks f) p = cc
 
--- a refused event changes nothing, and a clock leaves the table
+-- a refused event changes nothing, a clock leaves the table, and a tie all but the order of ties
 pub refused-leaves : (h : Head) (st : State) (e : Event) (r : Refusal) → eventOf h st e .answer ≡ refused 0 r → eventOf h st e .after ≡ st
 refused-leaves h st e r q = go (eventOf h st e) (event-is h st e) q
   where
     go : (o : Outcome) → EventIs h st e o → o .answer ≡ refused 0 r → o .after ≡ st
     go _ (stopped c f) p = refl
     go _ (clockSet t f g) p = cc
+    go _ (tieSet hold f g) p = cc
     go _ (placed jobs f g) p = cc
 
 pub clock-leaves : (h : Head) (st : State) (e : Event) (t : ℕ) → eventOf h st e .answer ≡ clockNow t → eventOf h st e .after .table ≡ st .table
@@ -89,6 +92,16 @@ clock-leaves h st e t q = go (eventOf h st e) (event-is h st e) q
     go : (o : Outcome) → EventIs h st e o → o .answer ≡ clockNow t → o .after .table ≡ st .table
     go _ (stopped r f) p = refl
     go _ (clockSet c f g) p = refl
+    go _ (tieSet hold f g) p = refl
+    go _ (placed jobs f g) p = cc
+
+pub tie-leaves : (h : Head) (st : State) (e : Event) (hold : Bool) → eventOf h st e .answer ≡ tieNow hold → eventOf h st e .after ≡ withOrder hold st
+tie-leaves h st e hold q = go (eventOf h st e) (event-is h st e) q
+  where
+    go : (o : Outcome) → EventIs h st e o → o .answer ≡ tieNow hold → o .after ≡ withOrder hold st
+    go _ (stopped r f) p = cc
+    go _ (clockSet t f g) p = cc
+    go _ (tieSet next f g) p = let same : next ≡ hold = cc in ap (λ (x : Bool). withOrder x st) same
     go _ (placed jobs f g) p = cc
 
 -- ---- a call as an event
@@ -108,12 +121,13 @@ event-call h st e jobs q = ap (comesTo h st) q ∙ go (firstOf (askedCauses h st
     go none n = rw (n, comesTo, callOf) refl
     go (some r) n = rw (n, comesTo, callOf) refl
 
--- a call leaves the clock
-pub call-clock : (h : Head) (jobs : List Job) (st : State) → callOf h jobs st .after .clock ≡ st .clock
+-- a call leaves all but the table
+pub call-leaves : (h : Head) (jobs : List Job) (st : State) → callOf h jobs st .after ≡ withTable (callOf h jobs st .after .table) st
 unfolding callOf
-call-clock h jobs st = go (firstOf (frameCauses h st ++ callCauses h (st .clock) jobs (cell h (st .table)))) refl
+call-leaves h jobs st = go (firstOf (frameCauses h st ++ callCauses h (st .clock) jobs (cell h (st .table)))) refl
   where
-    go : (o : Option Refusal) → firstOf (frameCauses h st ++ callCauses h (st .clock) jobs (cell h (st .table))) ≡ o → callOf h jobs st .after .clock ≡ st .clock
+    go : (o : Option Refusal) → firstOf (frameCauses h st ++ callCauses h (st .clock) jobs (cell h (st .table))) ≡ o
+        → callOf h jobs st .after ≡ withTable (callOf h jobs st .after .table) st
     go none n = rw (n, callOf) refl
     go (some r) n = rw (n, callOf) refl
 
@@ -149,6 +163,7 @@ taken-asks h st e n q = go (eventOf h st e) (event-is h st e) q
     go : (o : Outcome) → EventIs h st e o → o .answer ≡ taken n → (jobs : List Job) × (asked e ≡ placeJobs jobs)
     go _ (stopped r f) p = absurd (let z : _≡_ {A = ℕ} 0 1 = cc in omega arith)
     go _ (clockSet t f g) p = absurd (let z : _≡_ {A = ℕ} 0 1 = cc in omega arith)
+    go _ (tieSet hold f g) p = absurd (let z : _≡_ {A = ℕ} 0 1 = cc in omega arith)
     go _ (placed jobs f g) p = (jobs, f)
 
 -- an answer of the clock is that of an event that asks for it
@@ -158,7 +173,29 @@ now-asks h st e t q = go (eventOf h st e) (event-is h st e) q
     go : (o : Outcome) → EventIs h st e o → o .answer ≡ clockNow t → asked e ≡ setClock t
     go _ (stopped r f) p = cc
     go _ (clockSet c f g) p = let same : c ≡ t = cc in f ∙ ap setClock same
+    go _ (tieSet hold f g) p = cc
     go _ (placed jobs f g) p = cc
+
+-- and so is an answer of the order of ties
+pub tie-asks : (h : Head) (st : State) (e : Event) (hold : Bool) → eventOf h st e .answer ≡ tieNow hold → asked e ≡ setTie hold
+tie-asks h st e hold q = go (eventOf h st e) (event-is h st e) q
+  where
+    go : (o : Outcome) → EventIs h st e o → o .answer ≡ tieNow hold → asked e ≡ setTie hold
+    go _ (stopped r f) p = cc
+    go _ (clockSet t f g) p = cc
+    go _ (tieSet next f g) p = let same : next ≡ hold = cc in f ∙ ap setTie same
+    go _ (placed jobs f g) p = cc
+
+-- on a running frame a tie meets no cause
+pub tie-said : (h : Head) (st : State) (e : Event) (hold : Bool) → Running h st → asked e ≡ setTie hold → eventOf h st e .answer ≡ tieNow hold
+unfolding comesTo carriedOut ownCauses
+tie-said h st e hold run asks = ap (λ (a : Asked). comesTo h st a .answer) asks ∙ said
+  where
+    met : firstOf (askedCauses h st (setTie hold)) ≡ none
+    met = append-none (frameCauses h st) [] (of-running h st run) ∙ first-of-none
+
+    said : comesTo h st (setTie hold) .answer ≡ tieNow hold
+    said = rw (met, comesTo) refl
 
 -- ---- refusals that an event's own causes never give
 
@@ -170,17 +207,22 @@ line-fault (some (busyLine b p)) r q = inr cc
 line-fault (some (presetLine p)) r q = inr cc
 line-fault (some (clockLine t)) r q = inl cc
 line-fault (some (callLine p)) r q = inl cc
+line-fault (some (tieLine hold)) r q = inl cc
 
 fault-is : (e : Event) (r : Refusal) → asked e ≡ fault r → (r ≡ noForm) ⊎ (r ≡ outOfPlace)
 fault-is (line l) r q = line-fault (form l) r q
 fault-is (clock t) r q = inl cc
 fault-is (call jobs) r q = inl cc
 
--- a clock gives 2 or 6, a faulty line 1 or 3
+-- a clock gives 2 or 6, a tie none, a faulty line 1 or 3
 clock-never : (h : Head) (st : State) (t : ℕ) (q : Refusal) → 6 < numberOf q → Never q (ownCauses h st (setClock t))
 unfolding ownCauses
 clock-never h st t q above =
     skip outOfLimits (not (clockIn (h .slots) t)) (λ p. omega arith) (skip clockBack (ltb t (st .clock)) (λ p. omega arith) end)
+
+tie-never : (h : Head) (st : State) (hold : Bool) (q : Refusal) → Never q (ownCauses h st (setTie hold))
+unfolding ownCauses
+tie-never h st hold q = end
 
 fault-never : (h : Head) (st : State) (e : Event) (r q : Refusal) → asked e ≡ fault r → 6 < numberOf q → Never q (ownCauses h st (fault r))
 unfolding ownCauses
@@ -208,6 +250,7 @@ own-refusal h st e r run q = go (eventOf h st e) (event-is h st e) q
         let same : firstOf (eventCauses h st e) ≡ some r = cc in
         sym (append-none (frameCauses h st) (ownCauses h st (asked e)) (of-running h st run)) ∙ same
     go _ (clockSet c f g) p = cc
+    go _ (tieSet hold f g) p = cc
     go _ (placed jobs f g) p = cc
 
 -- and never one that the causes of what was asked do not give
@@ -221,6 +264,7 @@ event-never-eleven h st e run q = go (asked e) refl (own-refusal h st e notWellF
   where
     go : (a : Asked) → asked e ≡ a → firstOf (ownCauses h st (asked e)) ≡ some notWellFormed → ⊥
     go (setClock t) s = own-never h st e (setClock t) s (clock-never h st t notWellFormed (lit< tt))
+    go (setTie hold) s = own-never h st e (setTie hold) s (tie-never h st hold notWellFormed)
     go (placeJobs jobs) s = own-never h st e (placeJobs jobs) s (place-never h st jobs notWellFormed (lit< tt))
     go (fault r) s = own-never h st e (fault r) s (fault-never h st e r notWellFormed s (lit< tt))
 
@@ -231,6 +275,7 @@ seven-asks h st e run q = go (asked e) refl (own-refusal h st e callNotFeasible 
   where
     go : (a : Asked) → asked e ≡ a → firstOf (ownCauses h st (asked e)) ≡ some callNotFeasible → (jobs : List Job) × (asked e ≡ placeJobs jobs)
     go (setClock t) s f = absurd (own-never h st e (setClock t) s (clock-never h st t callNotFeasible (lit< tt)) f)
+    go (setTie hold) s f = absurd (own-never h st e (setTie hold) s (tie-never h st hold callNotFeasible) f)
     go (placeJobs jobs) s f = (jobs, s)
     go (fault r) s f = absurd (own-never h st e (fault r) s (fault-never h st e r callNotFeasible s (lit< tt)) f)
 
@@ -248,9 +293,10 @@ event-running h st e run = go (eventOf h st e) (event-is h st e) refl
           valid = run .valid;
           wellFormed = record { cells = run .wellFormed .cells; clock = clock-set h st e t asks f .0 };
         }
+    go _ (tieSet hold asks f) q = record { long = run .long; valid = run .valid; wellFormed = record { cells = run .wellFormed .cells; clock = run .wellFormed .clock } }
     go _ (placed jobs asks f) q =
         let took = call-taken h st e jobs asks (costOf h jobs st) (ap (λ (o : Outcome). o .answer) q) in
-        let same : written h (called h (st .clock) jobs (cell h (st .table))) (st .table) ≡ callOf h jobs st .after .table =
+        let same : written h (called (tieOf (st .hold)) h (st .clock) jobs (cell h (st .table))) (st .table) ≡ callOf h jobs st .after .table =
         sym (ap (λ (o : Outcome). o .after .table) q) ∙ call-table h st e jobs asks in
         let callClaim = call-claim h jobs st in
         rw same (record {

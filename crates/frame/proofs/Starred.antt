@@ -1,8 +1,8 @@
 -- The starred frames of document 01, "Frames to try": one list of cases, each a station text, its whole listing and, where the case is about fitting, what
 -- that says of every placement; and one fact, that all hold. Beside them the other frames to try of that list that a text can state, and all frames of
--- docs/CALLS.md: against versions 1 to 3 of the manual's page, and against readings that mislead.
+-- docs/CALLS.md: against versions 1 to 3 of the manual's page, and against readings that mislead; and frames with ties, of document 02, 2026-02.
 --
--- In order: cases and when one holds (`Case`, `Meaning`, `Holds`); `starred`, `others`, `refuting`, `misleading`; from an answer to its meaning; `frames-hold`.
+-- In order: cases and when one holds (`Case`, `Meaning`, `Holds`); `starred`, `others`, `refuting`, `misleading`, `tied`; from an answer to its meaning; `frames-hold`.
 -- Assumes nothing.
 use Prim.Native.Nat.{ℕ, _≤_}
 use Prim.Native.String.{String}
@@ -15,7 +15,7 @@ use Rattle.station.specs.Head.{Head, Job}
 use Rattle.station.specs.Refusal.{mandatoryNotFeasible, callNotFeasible}
 use Rattle.station.specs.Text.{bytes, _then_}
 use Rattle.station.specs.Decimal.{digitsIn, digits}
-use Rattle.station.specs.Form.{jobsOf}
+use Rattle.station.specs.Form.{jobsOf, print}
 use Rattle.station.specs.Reading.{Reading, headOf}
 use Rattle.station.proofs.Examples.{reads}
 use Rattle.placing.specs.Table.{cell, cells}
@@ -65,7 +65,7 @@ planTable h = planOf h blank .table
 unfoldable pub lists : List ℕ → List ℕ
 unfolding
     blank reads plans calls jobsOf ownCauses carriedOut comesTo runOf wholeWithPlan wholeWithHead wholeOf
-    digits digitsIn refusedLine grantedLine answerLine cellText cellTexts slotLine slotLines grantedLines answerLines listingOf
+    print digits digitsIn refusedLine grantedLine answerLine cellText cellTexts slotLine slotLines grantedLines answerLines listingOf
 lists text = listingOf (wholeOf text blank)
 
 -- the meaning, for a head
@@ -197,6 +197,36 @@ misleading =
     "(granted 1 1)\n(taken 0)\n(slot 1 m1 c6 -)\n(slot 2 m1 c5 c6)\n(slot 3 o1 - -)\n"
     ∷ []
 
+-- Frames with `(tie hold)` and `(tie place)`.
+pub tied : List Case
+tied =
+    -- "those with a cell in the slot just before come first": one preset of two slots stays, where by place the other comes between
+    shows "(frame 3 1)\n(tie hold)\n(preset 1 0 1 0)\n(preset 2 0 2 0)\n" "(granted 1 0)\n(granted 2 0)\n(slot 1 m2)\n(slot 2 m2)\n(slot 3 m1)\n"
+    ∷ shows "(frame 3 1)\n(preset 1 0 1 0)\n(preset 2 0 2 0)\n" "(granted 1 0)\n(granted 2 0)\n(slot 1 m2)\n(slot 2 m1)\n(slot 3 m2)\n"
+    -- the slot just before, whatever is free there: after a slot without a free bridge nobody has one
+    ∷ shows "(frame 4 1)\n(tie hold)\n(busy 1 (2 2))\n(preset 1 0 1 0)\n(preset 2 0 2 0)\n" "(granted 1 0)\n(granted 2 0)\n(slot 1 m2)\n(slot 2 -)\n(slot 3 m1)\n(slot 4 m2)\n"
+    -- only equal remaining times: in slot 2 those with more to get come first, though they have no cell just before
+    ∷ shows "(frame 4 2)\n(tie hold)\n(preset 1 0 2 0)\n(preset 2 0 2 0)\n(preset 3 0 2 0)\n(preset 4 0 2 0)\n"
+    "(granted 1 0)\n(granted 2 0)\n(granted 3 0)\n(granted 4 0)\n(slot 1 m1 m2)\n(slot 2 m3 m4)\n(slot 3 m3 m4)\n(slot 4 m1 m2)\n"
+    -- who is chosen, not where: the chosen still take bridges in file order
+    ∷ shows "(frame 2 2)\n(tie hold)\n(busy 2 (1 1))\n(preset 1 0 1 0)\n(preset 2 0 2 0)\n" "(granted 1 0)\n(granted 2 0)\n(slot 1 m2 -)\n(slot 2 m1 m2)\n"
+    -- "`(tie place)` there is a head line and meets 3"; a line that is not just one of the two is 1
+    ∷ shows "(frame 1 1)\n(tie place)\n" "(refused 2 3)\n"
+    ∷ shows "(frame 1 1)\n(tie Hold)\n" "(refused 2 1)\n"
+    ∷ shows "(frame 1 1)\n(tie hold)" "(refused 2 1)\n"
+    -- once is the head's and is not printed, twice is an event and is; after a busy line it is an event too, and a preset line after it out of place
+    ∷ shows "(frame 1 1)\n(tie hold)\n(tie hold)\n" "(tie hold)\n(slot 1 0)\n"
+    ∷ shows "(frame 1 1)\n(busy 1 (1 1))\n(tie hold)\n(preset 1 0 0 0)\n" "(tie hold)\n(refused 4 3)\n(slot 1 -)\n"
+    -- "As an event either holds for later calls", and is "printed as it came"
+    ∷ shows "(frame 6 1)\n(preset 9 0 0 0)\n(tie hold)\n(call (1 1) (2 2))\n(tie place)\n(call (3 1) (4 2))\n"
+    "(granted 9 0)\n(tie hold)\n(taken 0)\n(tie place)\n(taken 0)\n(slot 1 c2)\n(slot 2 c2)\n(slot 3 c1)\n(slot 4 c4)\n(slot 5 c3)\n(slot 6 c4)\n"
+    -- "Directly after the frame line `(tie hold)` holds for the plan and the calls"
+    ∷ shows "(frame 3 1)\n(tie hold)\n(call (1 1) (2 2))\n" "(taken 0)\n(slot 1 c2)\n(slot 2 c2)\n(slot 3 c1)\n"
+    -- a refused line between leaves the order
+    ∷ shows "(frame 3 1)\n(preset 9 0 0 0)\n(tie hold)\n(call (9 1))\n(tie Place)\n(clock 9)\n(call (1 1) (2 2))\n"
+    "(granted 9 0)\n(tie hold)\n(refused 4 4)\n(refused 5 1)\n(refused 6 2)\n(taken 0)\n(slot 1 c2)\n(slot 2 c2)\n(slot 3 c1)\n"
+    ∷ []
+
 -- ---- from the answers, which compute, to their meaning, by the claims about plan and call
 
 abbrev isGranted : PlanAnswer → Bool
@@ -211,8 +241,8 @@ abbrev AnswerOf : Head → Meaning → Type 0
 AnswerOf h as-listed = Unit {0}
 AnswerOf h no-plan = planOf h blank .answer ≡ PlanAnswer.refused 0 mandatoryNotFeasible
 AnswerOf h a-plan = isGranted (planOf h blank .answer) ≡ true
-AnswerOf h (no-placement clock jobs) = callOf h jobs (stateOf (planTable h) clock) .answer ≡ CallAnswer.refused 0 callNotFeasible
-AnswerOf h (loses clock jobs n) = callOf h jobs (stateOf (planTable h) clock) .answer ≡ CallAnswer.taken (cost n)
+AnswerOf h (no-placement clock jobs) = callOf h jobs (stateOf (planTable h) clock (h .hold)) .answer ≡ CallAnswer.refused 0 callNotFeasible
+AnswerOf h (loses clock jobs n) = callOf h jobs (stateOf (planTable h) clock (h .hold)) .answer ≡ CallAnswer.taken (cost n)
 
 abbrev AnswerIn : Reading → Meaning → Type 0
 AnswerIn (Reading.accepted h n) m = AnswerOf h m
@@ -222,8 +252,8 @@ answer-means : (h : Head) (m : Meaning) → AnswerOf h m → MeansOf h m
 answer-means h as-listed e = tt
 answer-means h no-plan e = plan-claim h blank .five .0 e .2
 answer-means h a-plan e = let p = granted-is (planOf h blank .answer) e in (planTable h, plan-claim h blank .valid (p .0) (p .1))
-answer-means h (no-placement clock jobs) e = call-claim h jobs (stateOf (planTable h) clock) .seven .0 e .1
-answer-means h (loses clock jobs n) e = (must-go h clock jobs (planTable h) n e, goes h clock jobs (planTable h) n e)
+answer-means h (no-placement clock jobs) e = call-claim h jobs (stateOf (planTable h) clock (h .hold)) .seven .0 e .1
+answer-means h (loses clock jobs n) e = (must-go h clock (h .hold) jobs (planTable h) n e, goes h clock (h .hold) jobs (planTable h) n e)
 
 reading-means : (r : Reading) (m : Meaning) → AnswerIn r m → MeansIn r m
 reading-means (Reading.accepted h n) m e = answer-means h m e
@@ -256,6 +286,12 @@ unfolding lists misleading
 misleading-compute =
     (refl, refl) and (refl, refl) and (refl, refl) and (refl, refl) and (refl, refl) and (refl, refl) and (refl, refl) and (refl, refl) and end
 
--- Every starred frame comes out as document 01 says, and so do the others; every frame of docs/CALLS.md comes out as that page says.
-pub frames-hold : All Holds starred × All Holds others × All Holds refuting × All Holds misleading
-frames-hold = (all-hold starred-compute, all-hold others-compute, all-hold refuting-compute, all-hold misleading-compute)
+tied-compute : All Computes tied
+unfolding lists tied
+tied-compute =
+    (refl, tt) and (refl, tt) and (refl, tt) and (refl, tt) and (refl, tt) and (refl, refl) and (refl, refl) and (refl, refl) and (refl, tt) and (refl, tt) and (refl, tt) and (refl, tt)
+    and (refl, tt) and end
+
+-- Every starred frame comes out as document 01 says, and so do the others; every frame of docs/CALLS.md comes out as that page says, and those with ties as document 02 does.
+pub frames-hold : All Holds starred × All Holds others × All Holds refuting × All Holds misleading × All Holds tied
+frames-hold = (all-hold starred-compute, all-hold others-compute, all-hold refuting-compute, all-hold misleading-compute, all-hold tied-compute)

@@ -3,10 +3,11 @@
 --
 -- In order: texts: lines after an event, the limits of a clock and of a call at both edges, the causes of a head and of an event two at a time, the order of
 -- loss (`texts-list`); events on a lent table, by the listed order 8, 2, 11, 1, 3, 2, 4, 9, 6, 7 (`events-answered`), and with preset records
--- (`records-answered`); a text beside short lent things (`texts-end`), and a text of events (`events-end`); the entries that write lines (`lines-answered`).
+-- (`records-answered`); the order of ties that is lent (`orders-met`); a text beside short lent things (`texts-end`), and a text of events (`events-end`); the entries that write lines (`lines-answered`).
 -- Assumes nothing.
 use Prim.Native.Nat.{ℕ}
 use mathlib.Core.Path.{_≡_, refl}
+use mathlib.Core.Bool.{Bool, true, false}
 use mathlib.Core.Option.{none, some}
 use mathlib.Core.List.{List, [], _∷_, _++_, map}
 use native.Mathlib.Omega.{arith}
@@ -17,8 +18,9 @@ use Rattle.station.specs.Text.{bytes}
 use Rattle.station.specs.Wrote.{moved}
 use Rattle.station.specs.WriteHead as write
 use Rattle.station.specs.declared.types.Head as record-of-head
+use Rattle.placing.specs.Table.{callCell}
 use Rattle.placing.proofs.Examples.{jobCells, recordsTo}
-use Rattle.frame.specs.Event.{Event, line, clock, call, Answer, clockNow, taken, refused, eventOf}
+use Rattle.frame.specs.Event.{Event, line, clock, call, Answer, clockNow, tieNow, taken, refused, eventOf}
 use Rattle.placing.specs.State.{State, stateOf}
 use Rattle.frame.specs.EventDone.{eventMeant}
 use Rattle.frame.specs.EventEntry.{eventOnSlice}
@@ -27,7 +29,7 @@ use Rattle.frame.specs.Demands.{Between}
 use Rattle.frame.specs.Text.{notRead, wholeOf}
 use Rattle.frame.specs.TextDone.{wholeWithOutput, listed, refusedAt}
 use Rattle.frame.specs.TextEntry.{wholeOnSlice}
-use Rattle.frame.specs.EventsDone.{eventsMeant}
+use Rattle.frame.specs.EventsDone.{EventsOutcome, eventsMeant}
 use Rattle.frame.specs.Listing.{listingOf}
 use Rattle.frame.specs.declared.types.Answer.the-variants as reply
 use Rattle.frame.specs.WriteListing.{listingCause, listingMeant}
@@ -79,14 +81,14 @@ record EventCase : Type 0 where
   said : Answer
 
 abbrev answers : Answer → Head → List ℕ → ℕ → Event → EventCase
-answers a h t c e = record { head = h; state = stateOf t c; event = e; said = a }
+answers a h t c e = record { head = h; state = stateOf t c false; event = e; said = a }
 
 abbrev lent : List ℕ → List ℕ
 lent l = take 512 (l ++ replicate 512 0)
 
 -- a frame with nothing busy and no presets
 abbrev bare : ℕ → ℕ → Head
-bare s b = record { slots = s; bridges = b; busy = replicate 8 0; presets = [] }
+bare s b = record { slots = s; bridges = b; hold = false; busy = replicate 8 0; presets = [] }
 
 abbrev job : ℕ → ℕ → Job
 job n c = record { number = n; slots = c }
@@ -117,6 +119,13 @@ events =
     ∷ answers (refused 0 outOfLimits) (bare 1 1) (lent []) 2 (clock 3)
     ∷ answers (refused 0 clockBack) (bare 1 1) (lent []) 2 (clock 1)
     ∷ answers (refused 0 outOfLimits) (bare 1 1) (lent []) 2 (clock 0)
+    -- a tie meets no cause of its own, at any clock; 8, 2 and 11 come before it
+    ∷ answers (tieNow true) (bare 1 1) (lent []) 1 (line (bytes "(tie hold)\n"))
+    ∷ answers (tieNow false) (bare 1 1) (lent []) 2 (line (bytes "(tie place)\n"))
+    ∷ answers (refused 0 tooShort) (bare 1 1) (replicate 511 0) 1 (line (bytes "(tie hold)\n"))
+    ∷ answers (refused 0 outOfLimits) (bare 1 9) (lent []) 1 (line (bytes "(tie hold)\n"))
+    ∷ answers (refused 0 notWellFormed) (bare 1 1) (lent []) 3 (line (bytes "(tie place)\n"))
+    ∷ answers (refused 0 noForm) (bare 1 1) (lent []) 1 (line (bytes "(tie hold)"))
     -- "no job outside a text"; 2 before 4, 4 before 9, 9 before 7
     ∷ answers (refused 0 outOfLimits) (bare 1 1) (lent []) 1 (call [])
     ∷ answers (refused 0 outOfLimits) (bare 1 1) (lent []) 1 (call (job 5 1 ∷ job 5 65 ∷ []))
@@ -134,25 +143,40 @@ events-answered = refl
 
 -- a head record of one slot and one bridge that counts so many presets
 abbrev counting : ℕ → record-of-head.Head
-counting n = record { slots = 1; bridges = 1; busy = replicate 8 0; count = n }
+counting n = record { slots = 1; bridges = 1; hold = false; busy = replicate 8 0; count = n }
 
 abbrev clockOne : Event
 clockOne = line (bytes "(clock 1)\n")
 
-pub records-answered : (eventMeant (counting 32) (recordsTo 32) (stateOf (lent []) 1) clockOne .answer ≡ clockNow 1)
-    × (eventMeant (counting 33) (recordsTo 33) (stateOf (lent (7 ∷ [])) 0) (line []) .answer ≡ refused 0 outOfLimits)
-    × (eventMeant (counting 33) (recordsTo 33) (stateOf (replicate 511 0) 1) clockOne .answer ≡ refused 0 tooShort)
-    × (eventOnSlice 32 (counting 0) [] (stateOf (lent []) 1) clockOne .answer ≡ clockNow 1)
-    × (eventOnSlice 31 (counting 0) [] (stateOf (lent []) 1) clockOne .answer ≡ refused 0 tooShort)
-    × (eventOnSlice 31 (counting 33) [] (stateOf (lent (7 ∷ [])) 0) (line []) .answer ≡ refused 0 tooShort)
+pub records-answered : (eventMeant (counting 32) (recordsTo 32) (stateOf (lent []) 1 false) clockOne .answer ≡ clockNow 1)
+    × (eventMeant (counting 33) (recordsTo 33) (stateOf (lent (7 ∷ [])) 0 false) (line []) .answer ≡ refused 0 outOfLimits)
+    × (eventMeant (counting 33) (recordsTo 33) (stateOf (replicate 511 0) 1 false) clockOne .answer ≡ refused 0 tooShort)
+    × (eventOnSlice 32 (counting 0) [] (stateOf (lent []) 1 false) clockOne .answer ≡ clockNow 1)
+    × (eventOnSlice 31 (counting 0) [] (stateOf (lent []) 1 false) clockOne .answer ≡ refused 0 tooShort)
+    × (eventOnSlice 31 (counting 33) [] (stateOf (lent (7 ∷ [])) 0 false) (line []) .answer ≡ refused 0 tooShort)
 unfolding lists eventMeant eventOnSlice recordsTo
 records-answered = (refl, refl, refl, refl, refl, refl)
 
+-- the order of ties that is lent is in force, and a tie event's from then on; a refused line leaves it
+abbrev twoJobs : Event
+twoJobs = call (job 1 1 ∷ job 2 2 ∷ [])
+
+abbrev leftBy : Bool → List ℕ → EventsOutcome
+leftBy hold text = eventsMeant 32 (counting 0) [] (stateOf (lent []) 1 hold) text (replicate 8192 0)
+
+pub orders-met : (take 3 (eventOf (bare 3 1) (stateOf (lent []) 1 true) twoJobs .after .table) ≡ callCell 2 ∷ callCell 2 ∷ callCell 1 ∷ [])
+    × (take 3 (eventOf (bare 3 1) (stateOf (lent []) 1 false) twoJobs .after .table) ≡ callCell 2 ∷ callCell 1 ∷ callCell 2 ∷ [])
+    × (leftBy true (bytes "(clock 1)\n(tie Place)\n") .after .hold ≡ true)
+    × (leftBy true (bytes "(tie place)\n(clock 1)\n") .after .hold ≡ false)
+    × (leftBy false (bytes "(tie hold)\n(clock 9)\n") .after .hold ≡ true)
+unfolding lists eventsMeant moved
+orders-met = (refl, refl, refl, refl, refl)
+
 -- A list handed over may start from 32 records, and from the last clock; not from 31, nor past that clock.
-pub starts-pass : LetPass (counting 0) (recordsTo 32) (stateOf (lent []) 1)
-    × LetPass (counting 32) (recordsTo 32) (stateOf (lent []) 2)
-    × (LetPass (counting 0) (recordsTo 31) (stateOf (lent []) 1) → some tooShort ≡ none)
-    × (LetPass (counting 0) (recordsTo 32) (stateOf (lent []) 3) → some notWellFormed ≡ none)
+pub starts-pass : LetPass (counting 0) (recordsTo 32) (stateOf (lent []) 1 false)
+    × LetPass (counting 32) (recordsTo 32) (stateOf (lent []) 2 false)
+    × (LetPass (counting 0) (recordsTo 31) (stateOf (lent []) 1 false) → some tooShort ≡ none)
+    × (LetPass (counting 0) (recordsTo 32) (stateOf (lent []) 3 false) → some notWellFormed ≡ none)
 unfolding lists recordsTo
 starts-pass = (refl, refl, λ p. p, λ p. p)
 
@@ -178,15 +202,15 @@ texts-end = (refl, refl, refl, refl, refl, refl, refl, refl, refl, refl, refl)
 
 -- ---- a text of events on a lent frame: 10, 8, the head record's 2, 11, then its lines, numbered from 1
 
-pub events-end : (eventsMeant 31 (counting 33) [] (stateOf [] 0) (replicate 32769 10) [] .ended ≡ refusedAt 0 textTooLong)
-    × (eventsMeant 31 (counting 33) [] (stateOf (lent (7 ∷ [])) 0) [] (replicate 8192 0) .ended ≡ refusedAt 0 tooShort)
-    × (eventsMeant 32 (counting 33) [] (stateOf (lent (7 ∷ [])) 0) [] (replicate 8191 0) .ended ≡ refusedAt 0 tooShort)
-    × (eventsMeant 32 (counting 33) [] (stateOf (replicate 511 0) 0) [] (replicate 8192 0) .ended ≡ refusedAt 0 tooShort)
-    × (eventsMeant 32 (counting 33) [] (stateOf (lent (7 ∷ [])) 0) [] (replicate 8192 0) .ended ≡ refusedAt 0 outOfLimits)
-    × (eventsMeant 32 (counting 0) [] (stateOf (lent (7 ∷ [])) 1) (bytes "x") (replicate 8192 0) .ended ≡ refusedAt 0 notWellFormed)
-    × (eventsMeant 32 (counting 0) [] (stateOf (lent []) 3) (bytes "x") (replicate 8192 0) .ended ≡ refusedAt 0 notWellFormed)
-    × (eventsMeant 32 (counting 0) [] (stateOf (lent []) 2) [] (replicate 8192 0) .ended ≡ listed 0)
-    × (take 45 (eventsMeant 32 (counting 0) [] (stateOf (lent []) 1) (bytes "(frame 1 1)\n(call (5 1))\n(clock 2)\n(clock 1)") (replicate 8192 0) .output)
+pub events-end : (eventsMeant 31 (counting 33) [] (stateOf [] 0 false) (replicate 32769 10) [] .ended ≡ refusedAt 0 textTooLong)
+    × (eventsMeant 31 (counting 33) [] (stateOf (lent (7 ∷ [])) 0 false) [] (replicate 8192 0) .ended ≡ refusedAt 0 tooShort)
+    × (eventsMeant 32 (counting 33) [] (stateOf (lent (7 ∷ [])) 0 false) [] (replicate 8191 0) .ended ≡ refusedAt 0 tooShort)
+    × (eventsMeant 32 (counting 33) [] (stateOf (replicate 511 0) 0 false) [] (replicate 8192 0) .ended ≡ refusedAt 0 tooShort)
+    × (eventsMeant 32 (counting 33) [] (stateOf (lent (7 ∷ [])) 0 false) [] (replicate 8192 0) .ended ≡ refusedAt 0 outOfLimits)
+    × (eventsMeant 32 (counting 0) [] (stateOf (lent (7 ∷ [])) 1 false) (bytes "x") (replicate 8192 0) .ended ≡ refusedAt 0 notWellFormed)
+    × (eventsMeant 32 (counting 0) [] (stateOf (lent []) 3 false) (bytes "x") (replicate 8192 0) .ended ≡ refusedAt 0 notWellFormed)
+    × (eventsMeant 32 (counting 0) [] (stateOf (lent []) 2 false) [] (replicate 8192 0) .ended ≡ listed 0)
+    × (take 45 (eventsMeant 32 (counting 0) [] (stateOf (lent []) 1 false) (bytes "(frame 1 1)\n(call (5 1))\n(clock 2)\n(clock 1)") (replicate 8192 0) .output)
     ≡ bytes "(refused 1 3)\n(taken 0)\n(now 2)\n(refused 4 1)")
 unfolding lists eventsMeant moved
 events-end = (refl, refl, refl, refl, refl, refl, refl, refl, refl)
@@ -201,6 +225,8 @@ pub lines-answered : (listingMeant (replicate 32769 10) [] [] .answer ≡ write.
     -- the line of an answer and of a grant: 8 for the output
     × (answerWritten 0 (reply.Now 1) (replicate 8192 0) .answer ≡ write.written 8)
     × (answerWritten 0 (reply.Now 1) (replicate 8191 0) .answer ≡ write.refused 0 tooShort)
+    × (answerWritten 0 (reply.Tie true) (replicate 8192 0) .answer ≡ write.written 11)
+    × (answerWritten 0 (reply.Tie false) (replicate 8192 0) .answer ≡ write.written 12)
     × (grantWritten 1 2 (replicate 8192 0) .answer ≡ write.written 14)
     × (grantWritten 1 2 (replicate 8191 0) .answer ≡ write.refused 0 tooShort)
     -- a slot's line: 8, the head record's 2, 11, then 2 for the slot, from 1 to S
@@ -213,4 +239,4 @@ pub lines-answered : (listingMeant (replicate 32769 10) [] [] .answer ≡ write.
     × (slotWritten 32 (counting 0) [] (lent []) 0 (replicate 8192 0) .answer ≡ write.refused 0 outOfLimits)
     × (slotWritten 32 (counting 0) [] (lent []) 2 (replicate 8192 0) .answer ≡ write.refused 0 outOfLimits)
 unfolding lists moved listingCause listingMeant lineWritten
-lines-answered = (refl, refl, refl, refl, refl, refl, refl, refl, refl, refl, refl, refl, refl, refl, refl, refl)
+lines-answered = (refl, refl, refl, refl, refl, refl, refl, refl, refl, refl, refl, refl, refl, refl, refl, refl, refl, refl)

@@ -4,31 +4,32 @@
 use Prim.Native.Nat.{ℕ, suc, _+_, _≤_, _<_}
 use mathlib.Core.Path.{_≡_}
 use mathlib.Core.Logic.{_↔_}
-use mathlib.Core.Bool.{true, false, _||_}
+use mathlib.Core.Bool.{Bool, true, false, _||_}
 use mathlib.Core.Option.{none, some}
 use mathlib.Core.List.{List, [], _∷_}
 use lib.ListN.{length, getD, take}
-use Rattle.laws.specs.Eviction.{FirstSmallest, ones}
+use Rattle.laws.specs.Placement.{Ties, TotalTies}
+use Rattle.laws.specs.Eviction.{FirstSmallest}
 use Rattle.station.specs.Head.{Head, Job, Valid}
 use Rattle.station.specs.Refusal.{Refusal, noForm, callNotFeasible, mandatoryNotFeasible, notWellFormed, tooShort, textTooLong, firstOf}
 use Rattle.station.specs.Text.{lines, join}
 use Rattle.station.specs.Writing.{formsOf, textOf}
 use Rattle.station.specs.Reading.{Reading, Means, headOf}
 use Rattle.placing.specs.Table.{Cells, cell, cells, Each, holding, isBusy, isMandatory, isOptional, isCall, callCell}
-use Rattle.placing.specs.State.{State, stateOf}
+use Rattle.placing.specs.State.{State, stateOf, withOrder}
 use Rattle.placing.specs.Valid.{ValidPlan, ValidCall, usable, jobAt, lost, lostUpTo, optionalCount}
-use Rattle.placing.specs.Plan.{GrantRule, planned}
+use Rattle.placing.specs.Plan.{GrantRule, tieOf, planned}
 use Rattle.placing.specs.Call.{emptyCount, evictionOrder, InEvictionOrder, slotsOf, inSet, evictedSet, called}
 use Rattle.placing.specs.Capacity.{CallByCapacity, GreatestExcess, longestJobs, emptyCapacity}
 use Rattle.placing.specs.Outcomes.{Cost, costOf, PlanAnswer, planOf, CallAnswer, calledState, callOf}
-use Rattle.placing.specs.Claims.{Running, SamePast, PresetsRule, Fits, JobsRule, beforeSeven}
-use Rattle.frame.specs.Event.{Event, line, setClock, placeJobs, asked, Answer, clockNow, taken, refused, Outcome, Run, clockState, eventCauses, runOf}
+use Rattle.placing.specs.Claims.{Running, SamePast, PresetsRule, Fits, JobsRule, LeastCall, beforeSeven}
+use Rattle.frame.specs.Event.{Event, line, setClock, setTie, placeJobs, asked, Answer, clockNow, tieNow, taken, refused, Outcome, Run, clockState, tieState, eventCauses, runOf}
 use Rattle.frame.specs.Text.{Whole, notRead, notPlanned, ran, startOf, eventsOf, wholeOf}
 use Rattle.station.specs.Limits.{leastCells, mostBytes, worstPriority}
 
 -- ---- where an event stands in a list
 
--- "Each event gets the table and clock that the last one left": what event j of the list gets, and the answer to it
+-- "Each event gets the table and clock that the last one left", and the order of ties: what event j of the list gets, and the answer to it
 abbrev pub stateAt : Head → State → List Event → ℕ → State
 stateAt h st es j = runOf h st (take j es) .after
 
@@ -55,14 +56,16 @@ pub data Ends (text t : List ℕ) : Whole → Type 0 where
       → Ends text t (notPlanned h n mandatoryNotFeasible)
   -- a plan, a valid one, and then every line after the head is an event
   is-planned : {h : Head} {n : ℕ} {g : List ℕ} → leastCells ≤ length t → Means text (Reading.accepted h n) → planOf h t .answer ≡ PlanAnswer.granted g
-      → ValidPlan h (cell h (planOf h t .table)) → Ends text t (ran h n g (runOf h (startOf (planOf h t .table)) (eventsOf text n)))
+      → ValidPlan h (cell h (planOf h t .table)) → Ends text t (ran h n g (runOf h (startOf h (planOf h t .table)) (eventsOf text n)))
 
--- An event is refused by the first of its causes that holds, which changes nothing; or no cause holds, and a clock changes the clock alone, a call the table
+-- An event is refused by the first of its causes that holds, which changes nothing; or no cause holds, and a clock changes the clock alone, a tie the order of ties alone, a call the table
 -- alone.
 pub data EventIs (h : Head) (st : State) (e : Event) : Outcome → Type 0 where
   stopped : (r : Refusal) → firstOf (eventCauses h st e) ≡ some r → EventIs h st e (record { answer = refused 0 r; after = st })
   clockSet : (t : ℕ) → asked e ≡ setClock t → firstOf (eventCauses h st e) ≡ none
       → EventIs h st e (record { answer = clockNow t; after = clockState h t st })
+  tieSet : (hold : Bool) → asked e ≡ setTie hold → firstOf (eventCauses h st e) ≡ none
+      → EventIs h st e (record { answer = tieNow hold; after = tieState h hold st })
   placed : (jobs : List Job) → asked e ≡ placeJobs jobs → firstOf (eventCauses h st e) ≡ none
       → EventIs h st e (record { answer = taken (costOf h jobs st); after = calledState h jobs st })
 
@@ -70,12 +73,12 @@ pub record Demand1 (text t : List ℕ) : Type 0 where
   pub ends : Ends text t (wholeOf text t)
   -- "each later line is accepted or is a refusal that changes nothing": line j after the head, in what the lines before it left
   pub later : (h : Head) (n : ℕ) (g : List ℕ) (r : Run) → wholeOf text t ≡ ran h n g r → (j : ℕ) → j < length (eventsOf text n)
-      → EventIs h (stateAt h (startOf (planOf h t .table)) (eventsOf text n) j) (eventAt (eventsOf text n) j) (record {
+      → EventIs h (stateAt h (startOf h (planOf h t .table)) (eventsOf text n) j) (eventAt (eventsOf text n) j) (record {
         answer = getD (r .answers) j (refused 0 noForm);
-        after = stateAt h (startOf (planOf h t .table)) (eventsOf text n) (suc j);
+        after = stateAt h (startOf h (planOf h t .table)) (eventsOf text n) (suc j);
       })
   pub left : (h : Head) (n : ℕ) (g : List ℕ) (r : Run) → wholeOf text t ≡ ran h n g r
-      → (length (r .answers) ≡ length (eventsOf text n)) × (r .after ≡ stateAt h (startOf (planOf h t .table)) (eventsOf text n) (length (eventsOf text n)))
+      → (length (r .answers) ≡ length (eventsOf text n)) × (r .after ≡ stateAt h (startOf h (planOf h t .table)) (eventsOf text n) (length (eventsOf text n)))
 
 -- ---- demand 2: grants and table are those of the rule, and a head has one text
 
@@ -83,16 +86,16 @@ pub record Demand2 (h : Head) (t : List ℕ) : Type 0 where
   -- "Grants: in rank order each preset gets as much refinement, up to o, as still lets all required slots and the grants before it fit."
   pub grants : (g : List ℕ) → planOf h t .answer ≡ PlanAnswer.granted g → GrantRule h g
   -- "Placing, slot by slot from the first: as many presets as there are free bridges, those with the most slots still to get, never one with none left.
-  -- Equal ones: the earlier line first."
+  -- Equal ones: the earlier line first", or whom `(tie hold)` in the head puts first.
   pub slots : (g : List ℕ) → planOf h t .answer ≡ PlanAnswer.granted g → (s : ℕ) → s < h .slots → PresetsRule h g (cell h (planOf h t .table)) s
   -- "The chosen, in file order, take the free bridges in ascending order"; "A preset's first m cells in time are required, the rest refinement"
-  pub cells : (g : List ℕ) → planOf h t .answer ≡ PlanAnswer.granted g → Each h (λ s b. cell h (planOf h t .table) s b ≡ planned h s b)
-  -- "Jobs are then placed by the rule above over the empty and lost cells, in the call's order": a call on this table. In each slot the jobs that have a cell are those
+  pub cells : (g : List ℕ) → planOf h t .answer ≡ PlanAnswer.granted g → Each h (λ s b. cell h (planOf h t .table) s b ≡ planned (tieOf (h .hold)) h s b)
+  -- "Jobs are then placed by the rule above over the empty and lost cells, in the call's order": a call on this table, whatever order of ties is in force. In each slot the jobs that have a cell are those
   -- that the rule chooses, and they take the free bridges as the presets of a plan do.
-  pub call-slots : (clock : ℕ) (jobs : List Job) (n : Cost) → callOf h jobs (stateOf t clock) .answer ≡ CallAnswer.taken n
-      → (s : ℕ) → s < h .slots → JobsRule h clock jobs (cell h t) (cell h (callOf h jobs (stateOf t clock) .after .table)) s
-  pub call-cells : (clock : ℕ) (jobs : List Job) (n : Cost) → callOf h jobs (stateOf t clock) .answer ≡ CallAnswer.taken n
-      → Each h (λ s b. cell h (callOf h jobs (stateOf t clock) .after .table) s b ≡ called h clock jobs (cell h t) s b)
+  pub call-slots : (clock : ℕ) (hold : Bool) (jobs : List Job) (n : Cost) → callOf h jobs (stateOf t clock hold) .answer ≡ CallAnswer.taken n
+      → (s : ℕ) → s < h .slots → JobsRule h clock hold jobs (cell h t) (cell h (callOf h jobs (stateOf t clock hold) .after .table)) s
+  pub call-cells : (clock : ℕ) (hold : Bool) (jobs : List Job) (n : Cost) → callOf h jobs (stateOf t clock hold) .answer ≡ CallAnswer.taken n
+      → Each h (λ s b. cell h (callOf h jobs (stateOf t clock hold) .after .table) s b ≡ called (tieOf hold) h clock jobs (cell h t) s b)
 
 -- "The head has one text only, and the writer makes it": reading and writing a head are inverse.
 pub record OneText : Type 0 where
@@ -115,13 +118,23 @@ pub record CallAt (es : List Event) (j : ℕ) (jobs : List Job) : Type 0 where
 unfoldable pub lastClock : ℕ → List Answer → ℕ
 lastClock c [] = c
 lastClock c (clockNow t ∷ answers) = lastClock t answers
+lastClock c (tieNow hold ∷ answers) = lastClock c answers
 lastClock c (taken n ∷ answers) = lastClock c answers
 lastClock c (refused _ r ∷ answers) = lastClock c answers
+
+-- "As an event either holds for later calls": the order of the last accepted tie event, or without one the start's
+unfoldable pub lastTie : Bool → List Answer → Bool
+lastTie hold [] = hold
+lastTie hold (clockNow t ∷ answers) = lastTie hold answers
+lastTie hold (tieNow next ∷ answers) = lastTie next answers
+lastTie hold (taken n ∷ answers) = lastTie hold answers
+lastTie hold (refused _ r ∷ answers) = lastTie hold answers
 
 -- "all lost cells reported"
 unfoldable pub totalTaken : List Answer → ℕ
 totalTaken [] = 0
 totalTaken (clockNow t ∷ answers) = totalTaken answers
+totalTaken (tieNow hold ∷ answers) = totalTaken answers
 totalTaken (taken c ∷ answers) = c .count + totalTaken answers
 totalTaken (refused _ r ∷ answers) = totalTaken answers
 
@@ -166,10 +179,10 @@ pub record Demand3 (h : Head) (st : State) (es : List Event) : Type 0 where
   pub order : (j : ℕ) (jobs : List Job) (n : Cost) → CallAt es j jobs → answerAt h st es j ≡ taken n
       → InEvictionOrder h (stateAt h st es j .clock) (cellsAt h st es j) (evictionOrder h (stateAt h st es j .clock) (cellsAt h st es j))
   pub rule : (j : ℕ) (jobs : List Job) (n : Cost) → CallAt es j jobs → answerAt h st es j ≡ taken n
-      → Each h (λ s b. cellsAt h st es (suc j) s b ≡ called h (stateAt h st es j .clock) jobs (cellsAt h st es j) s b)
-  -- that is demand 2's rule, slot by slot, on the table and clock of this very call
+      → Each h (λ s b. cellsAt h st es (suc j) s b ≡ called (tieOf (stateAt h st es j .hold)) h (stateAt h st es j .clock) jobs (cellsAt h st es j) s b)
+  -- that is demand 2's rule, slot by slot, on the table and clock of this very call and under the order of ties in force at it
   pub slots : (j : ℕ) (jobs : List Job) (n : Cost) → CallAt es j jobs → answerAt h st es j ≡ taken n
-      → (s : ℕ) → s < h .slots → JobsRule h (stateAt h st es j .clock) jobs (cellsAt h st es j) (cellsAt h st es (suc j)) s
+      → (s : ℕ) → s < h .slots → JobsRule h (stateAt h st es j .clock) (stateAt h st es j .hold) jobs (cellsAt h st es j) (cellsAt h st es (suc j)) s
   pub valid : (j : ℕ) (jobs : List Job) (n : Cost) → CallAt es j jobs → answerAt h st es j ≡ taken n
       → ValidCall h (stateAt h st es j .clock) jobs (cellsAt h st es j) (cellsAt h st es (suc j))
   -- the cells that are lost in the table left are those of that set, and no other
@@ -185,12 +198,19 @@ pub record Demand3 (h : Head) (st : State) (es : List Event) : Type 0 where
       → (u : List ℕ) → ValidCall h (stateAt h st es j .clock) jobs (cellsAt h st es j) (cell h u)
       → (p : ℕ) → lostUpTo h (cellsAt h st es j) (cellsAt h st es (suc j)) p ≤ lostUpTo h (cellsAt h st es j) (cell h u) p
   pub nine-counts-all : (j : ℕ) → j ≤ length es → (u : Cells) → lostUpTo h (cellsAt h st es j) u worstPriority ≡ cells h (λ s b. lost (cellsAt h st es j) u s b)
+  -- "Optimality is shown for every order of ties": of the table that the rule makes of this call with any of them
+  pub any-order : (j : ℕ) (jobs : List Job) (n : Cost) → CallAt es j jobs → answerAt h st es j ≡ taken n → (ties : Ties) → TotalTies ties
+      → LeastCall h (stateAt h st es j .clock) jobs n (cellsAt h st es j) (called ties h (stateAt h st es j .clock) jobs (cellsAt h st es j))
   -- "After the list: 11 was never met"; the frame that is left is one that 11 lets pass
   pub never-eleven : (j : ℕ) → j < length es → answerAt h st es j ≡ refused 0 notWellFormed → ⊥
   pub running : Running h (runOf h st es .after)
   -- "the clock is the t of the last accepted clock line, or without one the start's, and the head is the start's" (the events are handed one head)
   pub clock : runOf h st es .after .clock ≡ lastClock (st .clock) (runOf h st es .answers)
   pub clock-asked : (j t : ℕ) → j < length es → answerAt h st es j ≡ clockNow t → asked (eventAt es j) ≡ setClock t
+  -- the order of ties is that of the last accepted tie event, or without one the start's; a tie event is never refused, and changes nothing else
+  pub tie : runOf h st es .after .hold ≡ lastTie (st .hold) (runOf h st es .answers)
+  pub tie-accepted : (j : ℕ) (hold : Bool) → j < length es → (answerAt h st es j ≡ tieNow hold) ↔ (asked (eventAt es j) ≡ setTie hold)
+  pub tie-leaves : (j : ℕ) (hold : Bool) → j < length es → answerAt h st es j ≡ tieNow hold → stateAt h st es (suc j) ≡ withOrder hold (stateAt h st es j)
   -- a refused event changes nothing, and a clock leaves the table
   pub refused-leaves : (j : ℕ) (r : Refusal) → j < length es → answerAt h st es j ≡ refused 0 r → stateAt h st es (suc j) ≡ stateAt h st es j
   pub clock-leaves : (j t : ℕ) → j < length es → answerAt h st es j ≡ clockNow t → stateAt h st es (suc j) .table ≡ stateAt h st es j .table

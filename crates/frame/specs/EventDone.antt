@@ -24,11 +24,12 @@ eventMeant head ps st e =
       | some r ↦ record { answer = refused 0 r; after = st }
     ]
 
--- The code answers r and leaves the table u, as the outcome o says.
+-- The code answers r and leaves the table u, as the outcome o says; the clock and the order of ties afterwards are in the answer.
 pub record Yields (o : Outcome) (u : List ℕ) (r : result.Outcome) : Type 0 where
   pub answer : answerIn (r .answer) ≡ o .answer
   pub table : u ≡ o .after .table
   pub clock : r .clock ≡ o .after .clock
+  pub hold : r .hold ≡ o .after .hold
 
 -- What an entry answers and leaves for an event.
 abbrev pub EventDone : record-of-head.Head → List record-of-preset.Preset → State → Event → List ℕ → result.Outcome → Type 0

@@ -33,6 +33,6 @@ EventOnSlice records head ps st e u r = Yields (eventOnSlice records head ps st 
 pub record EventEntry (head : record-of-head.Head) (ps : List record-of-preset.Preset) (st : State) (e : Event) (u : List ℕ) (r : result.Outcome) : Type 0 where
   pub done : EventOnSlice (length ps) head ps st e u r
   -- a frame that 11 lets pass is such a frame afterwards: "Each event gets the table and clock that the last one left"
-  pub kept : Running (headIn head ps) st → Running (headIn head ps) (stateOf u (r .clock))
+  pub kept : Running (headIn head ps) st → Running (headIn head ps) (stateOf u (r .clock) (r .hold))
   -- so that demand 3 holds of a list of events handed over one by one, and in it demand 2's rule of a call, on this very table (`slots`, `rule`)
   pub claim : Running (headIn head ps) st → Demand3 (headIn head ps) st (e ∷ [])

@@ -37,7 +37,7 @@ abbrev pub eventsCauses : ℕ → record-of-head.Head → List record-of-preset.
 eventsCauses n head ps st text out =
     try textTooLong (ltb mostBytes (length text)) ∷ try tooShort (ltb n leastRecords) ∷ try tooShort (ltb (length out) leastOutput) ∷ frameCausesOf head ps st
 
--- how the events end, the table and the clock that they leave, and the output afterwards
+-- how the events end, the table, the clock and the order of ties that they leave, and the output afterwards
 pub record EventsOutcome : Type 0 where
   pub ended : End
   pub after : State
@@ -64,6 +64,7 @@ pub record EventsLeft (o : EventsOutcome) (t₁ out₁ : List ℕ) (r : result.E
   pub ended : endIn (r .ended) ≡ o .ended
   pub table : t₁ ≡ o .after .table
   pub clock : r .clock ≡ o .after .clock
+  pub hold : r .hold ≡ o .after .hold
   pub output : out₁ ≡ o .output
 
 -- What is claimed of it, whatever the frame, the text and the output are.
@@ -76,7 +77,7 @@ pub record EventsClaim (n : ℕ) (head : record-of-head.Head) (ps : List record-
       → EventIs (headIn head ps) (stateAt (headIn head ps) st (allEvents text) j) (eventAt (allEvents text) j)
       (record { answer = answerAt (headIn head ps) st (allEvents text) j; after = stateAt (headIn head ps) st (allEvents text) (suc j) })
   -- a frame that 11 lets pass is such a frame afterwards
-  pub kept : Running (headIn head ps) st → Running (headIn head ps) (stateOf t₁ (r .clock))
+  pub kept : Running (headIn head ps) st → Running (headIn head ps) (stateOf t₁ (r .clock) (r .hold))
   -- demand 3 over the list of all lines
   pub demand3 : Running (headIn head ps) st → Demand3 (headIn head ps) st (allEvents text)
 

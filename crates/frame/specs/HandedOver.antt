@@ -30,19 +30,19 @@ use Rattle.station.specs.Limits.{leastRecords}
 abbrev pub LetPass : record-of-head.Head → List record-of-preset.Preset → State → Type 0
 LetPass head ps st = firstOf (try tooShort (ltb (length ps) leastRecords) ∷ frameCausesOf head ps st) ≡ none
 
--- A list of events handed over: each premise is what the entry promises of one call of it, each call meets "the table and clock that the last one left", and "nobody else writes
--- these, the head or the preset list meanwhile". Then the events, their answers and the last table and clock are these.
+-- A list of events handed over: each premise is what the entry promises of one call of it, each call meets "the table and clock that the last one left" and the order of ties, and "nobody else writes
+-- these, the head or the preset list meanwhile". Then the events, their answers and the last table, clock and order are these.
 pub data Handed (head : record-of-head.Head) (ps : List record-of-preset.Preset) : State → List Event → List Answer → State → Type 0 where
   no-more : {st : State} → Handed head ps st [] [] st
   -- a line to `event`, which left the table u
   by-event : {st end : State} {l u : List ℕ} {r : result.Outcome} {es : List Event} {answers : List Answer} → EventEntry head ps st (line l) u r
-      → Handed head ps (stateOf u (r .clock)) es answers end → Handed head ps st (line l ∷ es) (answerIn (r .answer) ∷ answers) end
+      → Handed head ps (stateOf u (r .clock) (r .hold)) es answers end → Handed head ps st (line l ∷ es) (answerIn (r .answer) ∷ answers) end
   -- a clock to `set_clock`, which only looks at the table
   by-set-clock : {st end : State} {t : ℕ} {r : result.Outcome} {es : List Event} {answers : List Answer} → EventEntry head ps st (clock t) (st .table) r
-      → Handed head ps (stateOf (st .table) (r .clock)) es answers end → Handed head ps st (clock t ∷ es) (answerIn (r .answer) ∷ answers) end
+      → Handed head ps (stateOf (st .table) (r .clock) (r .hold)) es answers end → Handed head ps st (clock t ∷ es) (answerIn (r .answer) ∷ answers) end
   -- the first n of eight jobs to `call`, which left the table u
   by-call : {st end : State} (n : ℕ) (js : List record-of-job.Job) {u : List ℕ} {r : reply.CallAnswer} {es : List Event} {answers : List Answer} → CallEntry head ps (callJobs n js) st u r
-      → Handed head ps (stateOf u (st .clock)) es answers end → Handed head ps st (call (callJobs n js) ∷ es) (answerOf (callAnswerIn r) ∷ answers) end
+      → Handed head ps (stateOf u (st .clock) (st .hold)) es answers end → Handed head ps st (call (callJobs n js) ∷ es) (answerOf (callAnswerIn r) ∷ answers) end
 
 -- What is claimed of it: "one claim about the whole list". That it holds of every list handed over from such a start is `handed-over` in proofs/HandedOver.antt.
 pub record HandedClaim (h : Head) (st : State) (es : List Event) (answers : List Answer) (end : State) : Type 0 where

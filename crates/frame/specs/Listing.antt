@@ -7,8 +7,9 @@ use Rattle.station.specs.Head.{Head, Preset}
 use Rattle.station.specs.Refusal.{Refusal, numberOf}
 use Rattle.station.specs.Text.{bytes, _then_}
 use Rattle.station.specs.Decimal.{digits}
+use Rattle.station.specs.Form.{tieLine, print}
 use Rattle.placing.specs.Table.{cell, kindOf, numberIn}
-use Rattle.frame.specs.Event.{Answer, clockNow, taken, refused}
+use Rattle.frame.specs.Event.{Answer, clockNow, tieNow, taken, refused}
 use Rattle.frame.specs.Text.{Whole, notRead, notPlanned, ran}
 
 -- "Refused: line and number."
@@ -19,8 +20,10 @@ refusedLine n r = bytes "(refused " then digits n then bytes " " then digits (nu
 unfoldable pub grantedLine : ℕ → ℕ → List ℕ
 grantedLine n g = bytes "(granted " then digits n then bytes " " then digits g then bytes ")\n"
 
+-- and "An accepted tie event is printed as it came."
 unfoldable pub answerLine : ℕ → Answer → List ℕ
 answerLine n (clockNow t) = bytes "(now " then digits t then bytes ")\n"
+answerLine n (tieNow hold) = print (tieLine hold)
 answerLine n (taken c) = bytes "(taken " then digits (c .count) then bytes ")\n"
 answerLine n (refused _ r) = refusedLine n r
 

@@ -1,4 +1,4 @@
--- A whole text: head, plan, then every line as an event. Document 01, "The station text" and "Causes".
+-- A whole text: head, plan, then every line as an event. Document 01, "The station text" and "Causes"; document 02, 2026-02.
 -- Assumes nothing.
 use Prim.Native.Nat.{ℕ}
 use mathlib.Core.Option.{none, some}
@@ -22,16 +22,16 @@ pub data Whole : Type 0 where
   notPlanned : Head → ℕ → Refusal → Whole
   ran : Head → ℕ → List ℕ → Run → Whole
 
--- "It starts from an accepted head with its plan and the first clock": the clock "starts at 1".
-abbrev pub startOf : List ℕ → State
-startOf t = stateOf t firstClock
+-- "It starts from an accepted head with its plan and the first clock": the clock "starts at 1". "Directly after the frame line `(tie hold)` holds for the plan and the calls".
+abbrev pub startOf : Head → List ℕ → State
+startOf h t = stateOf t firstClock (h .hold)
 
 -- the events of a text whose head has n lines: every line after it
 abbrev pub eventsOf : List ℕ → ℕ → List Event
 eventsOf text n = map line (drop n (lines text))
 
 unfoldable pub wholeWithPlan : List ℕ → Head → ℕ → PlanAnswer → List ℕ → Whole
-wholeWithPlan text h n (PlanAnswer.granted g) t = ran h n g (runOf h (startOf t) (eventsOf text n))
+wholeWithPlan text h n (PlanAnswer.granted g) t = ran h n g (runOf h (startOf h t) (eventsOf text n))
 wholeWithPlan text h n (PlanAnswer.refused _ r) t = notPlanned h n r
 
 unfoldable pub wholeWithHead : List ℕ → Reading → List ℕ → Whole

@@ -6,6 +6,7 @@
 -- Assumes nothing.
 use Prim.Native.Nat.{ℕ, _≤_, _<_}
 use mathlib.Core.Path.{_≡_}
+use mathlib.Core.Bool.{Bool}
 use mathlib.Core.Option.{none, some}
 use mathlib.Core.List.{List, [], _∷_}
 use lib.ListN.{length}
@@ -19,7 +20,6 @@ use Rattle.station.specs.ReadHead.{headRecord, recordsOver}
 use Rattle.station.specs.Wrote.{moved}
 use Rattle.station.specs.declared.types.Preset as record-of-preset
 use Rattle.station.specs.declared.types.Head as record-of-head
-use Rattle.station.specs.declared.types.Refusal as cause
 use Rattle.placing.specs.Outcomes.{planOf}
 use Rattle.placing.specs.Claims.{PlanClaim}
 use Rattle.frame.specs.declared.text.Ended as ended
@@ -62,7 +62,7 @@ presetsAfter (notRead n r) ps = ps
 presetsAfter (notPlanned h n r) ps = recordsOver (h .presets) ps
 presetsAfter (ran h n g r) ps = recordsOver (h .presets) ps
 
--- The table, the clock and the output afterwards: a refusal leaves them as they were.
+-- The table, the clock, the order of ties and the output afterwards: a refusal leaves them as they were.
 unfoldable pub tableAfter : Whole → List ℕ → List ℕ
 tableAfter (notRead n r) t = t
 tableAfter (notPlanned h n r) t = t
@@ -73,23 +73,29 @@ clockAfter (notRead n r) clock = clock
 clockAfter (notPlanned h n r) clock = clock
 clockAfter (ran h n g r) clock = r .after .clock
 
+unfoldable pub holdAfter : Whole → Bool → Bool
+holdAfter (notRead n r) hold = hold
+holdAfter (notPlanned h n r) hold = hold
+holdAfter (ran h n g r) hold = r .after .hold
+
 unfoldable pub outputAfter : Whole → List ℕ → List ℕ
 outputAfter (notRead n r) out = out
 outputAfter (notPlanned h n r) out = out
 outputAfter (ran h n g r) out = sets out 0 (listingOf (ran h n g r))
 
 -- What `run_text_by_value` answers and leaves where the text comes to w.
-pub record Leaves (w : Whole) (given : record-of-head.Head) (ps : List record-of-preset.Preset) (t : List ℕ) (c : ℕ) (out t₁ out₁ : List ℕ)
+pub record Leaves (w : Whole) (given : record-of-head.Head) (ps : List record-of-preset.Preset) (t : List ℕ) (c : ℕ) (order : Bool) (out t₁ out₁ : List ℕ)
     (r : result.TextRun) : Type 0 where
   pub ended : endIn (r .ended) ≡ endOf w out
   pub head : r .head ≡ headAfter w given
   pub presets : r .presets ≡ presetsAfter w ps
   pub table : t₁ ≡ tableAfter w t
   pub clock : r .clock ≡ clockAfter w c
+  pub hold : r .hold ≡ holdAfter w order
   pub output : out₁ ≡ outputAfter w out
 
-abbrev pub TextDone : List ℕ → record-of-head.Head → List record-of-preset.Preset → List ℕ → ℕ → List ℕ → List ℕ → List ℕ → result.TextRun → Type 0
-TextDone text head ps t clock out t₁ out₁ r = Leaves (wholeWithOutput text t out) head ps t clock out t₁ out₁ r
+abbrev pub TextDone : List ℕ → record-of-head.Head → List record-of-preset.Preset → List ℕ → ℕ → Bool → List ℕ → List ℕ → List ℕ → result.TextRun → Type 0
+TextDone text head ps t clock hold out t₁ out₁ r = Leaves (wholeWithOutput text t out) head ps t clock hold out t₁ out₁ r
 
 -- What is claimed of a text beside a table and an output, whatever they are: the three demands, of the very outcome that `run_text_by_value` answers and leaves.
 -- That it holds for all of them is `text-claim` in proofs/text/WholeText.antt.
@@ -99,10 +105,10 @@ pub record TextClaim (text t out : List ℕ) : Type 0 where
   pub other-output : leastOutput ≤ length out → wholeWithOutput text t out ≡ wholeOf text t
   -- "every station file, of whatever bytes, ends as a plan or as one numbered refusal", and each later line is accepted or changes nothing
   pub demand1 : Demand1 text t
-  -- a text that ran has run every line after its head, from its plan and the first clock on
-  pub events : (h : Head) (n : ℕ) (g : List ℕ) (r : Run) → wholeWithOutput text t out ≡ ran h n g r → r ≡ runOf h (startOf (planOf h t .table)) (eventsOf text n)
+  -- a text that ran has run every line after its head, from its plan, the first clock and the head's order of ties on
+  pub events : (h : Head) (n : ℕ) (g : List ℕ) (r : Run) → wholeWithOutput text t out ≡ ran h n g r → r ≡ runOf h (startOf h (planOf h t .table)) (eventsOf text n)
   -- its grants, its plan's table and the table after each call, whatever table that meets, are those of the rules
   pub demand2 : (h : Head) (n : ℕ) (g : List ℕ) (r : Run) → wholeWithOutput text t out ≡ ran h n g r → (u : List ℕ) → Demand2 h u
   -- demand 3 over the list of all its lines after the head, and what it says of the plan
-  pub demand3 : (h : Head) (n : ℕ) (g : List ℕ) (r : Run) → wholeWithOutput text t out ≡ ran h n g r → Demand3 h (startOf (planOf h t .table)) (eventsOf text n)
+  pub demand3 : (h : Head) (n : ℕ) (g : List ℕ) (r : Run) → wholeWithOutput text t out ≡ ran h n g r → Demand3 h (startOf h (planOf h t .table)) (eventsOf text n)
   pub plan : (h : Head) (n : ℕ) (g : List ℕ) (r : Run) → wholeWithOutput text t out ≡ ran h n g r → PlanClaim h t

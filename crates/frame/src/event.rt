@@ -1,4 +1,4 @@
-// One event on the running frame, on the table and the clock that the last one left. The entries `set_clock` and `event` have their presets in a borrowed slice of records,
+// One event on the running frame, on the table, the clock and the order of ties that the last one left. The entries `set_clock` and `event` have their presets in a borrowed slice of records,
 // `set_clock_by_value` and `event_by_value` by value.
 mod counted; // counted.rt: what the entries do with the records by value, where the list has as many records as are counted
 pub(crate) mod asked; // asked.rt: what an event asks for, where the frame's own causes are not tried
@@ -28,16 +28,23 @@ ghost use Rattle.placing.specs.Claims.{Running};
 ghost use Rattle.frame.specs.Demands.{Demand3};
 
 // Sets the clock: "slot t is about to begin". The causes 8 of the list and of the table, 2 of the head record, 11, then 2 where t is outside 1 to S + 1, and 6 where
-// it is below the present clock. The list and the table are only looked at. A frame that 11 lets pass is such a frame afterwards.
-pub fn set_clock(head: Head, presets: &[Preset], table: &[Cell], clock: usize, t: usize) -> Outcome
-    ensures { λ r. ⌜ EventEntry head (now (presets .entry)) (stateOf (now (table .entry)) clock) (Event.clock t) (now (table .entry)) r ⌝ }
+// it is below the present clock. The list and the table are only looked at, and the order of ties stays. A frame that 11 lets pass is such a frame afterwards.
+pub fn set_clock(
+    head: Head,
+    presets: &[Preset],
+    table: &[Cell],
+    clock: usize,
+    hold: bool,
+    t: usize,
+) -> Outcome
+    ensures { λ r. ⌜ EventEntry head (now (presets .entry)) (stateOf (now (table .entry)) clock hold) (Event.clock t) (now (table .entry)) r ⌝ }
 {
     let records = record_count(presets);
     let copied = load(presets);
-    clock_counted(records, head, copied, table, clock, t)
+    clock_counted(records, head, copied, table, clock, hold, t)
 }
 
-// One event line, its byte 10 included, on the table and the clock that the last event left: the causes 8 of the list and of the table, 2 of the head record, 11,
+// One event line, its byte 10 included, on the table, the clock and the order of ties (`hold`) that the last event left: the causes 8 of the list and of the table, 2 of the head record, 11,
 // then those of the line, of its clock or of its call. A refusal changes nothing. A frame that 11 lets pass is such a frame afterwards, so that all of demand 3
 // holds of a list of events handed over one by one.
 pub fn event(
@@ -45,38 +52,41 @@ pub fn event(
     presets: &[Preset],
     table: &mut [Cell],
     clock: usize,
+    hold: bool,
     line: &[u8],
 ) -> Outcome
-    ensures { λ r. ⌜ EventEntry head (now (presets .entry)) (stateOf (now (table .entry)) clock) (Event.line (now (line .entry))) (now (table .exit)) r ⌝ }
+    ensures { λ r. ⌜ EventEntry head (now (presets .entry)) (stateOf (now (table .entry)) clock hold) (Event.line (now (line .entry))) (now (table .exit)) r ⌝ }
 {
     let records = record_count(presets);
     let copied = load(presets);
-    event_counted(records, head, copied, table, clock, line)
+    event_counted(records, head, copied, table, clock, hold, line)
 }
 
 // Sets the clock: "slot t is about to begin". The causes 8, 2 of the head record, 11, then 2 where t is outside 1 to S + 1, and 6 where it is below the
-// present clock. The table is only looked at. A frame that 11 lets pass is such a frame afterwards.
+// present clock. The table is only looked at, and the order of ties stays. A frame that 11 lets pass is such a frame afterwards.
 pub fn set_clock_by_value(
     head: Head,
     presets: [Preset; MOST_PRESETS],
     table: &[Cell],
     clock: usize,
+    hold: bool,
     t: usize,
 ) -> Outcome
-    ensures done { λ r. ⌜ EventDone head presets (stateOf (now (table .entry)) clock) (Event.clock t) (now (table .entry)) r ⌝ }
-    ensures kept { λ r. ⌜ (Running (headIn head presets) (stateOf (now (table .entry)) clock) → Running (headIn head presets) (stateOf (now (table .entry)) (r .clock))) ⌝ }
-    ensures claim { λ _. ⌜ (Running (headIn head presets) (stateOf (now (table .entry)) clock) → Demand3 (headIn head presets) (stateOf (now (table .entry)) clock) (Event.clock t ∷ [])) ⌝ }
+    ensures done { λ r. ⌜ EventDone head presets (stateOf (now (table .entry)) clock hold) (Event.clock t) (now (table .entry)) r ⌝ }
+    ensures kept { λ r. ⌜ (Running (headIn head presets) (stateOf (now (table .entry)) clock hold) → Running (headIn head presets) (stateOf (now (table .entry)) (r .clock) (r .hold))) ⌝ }
+    ensures claim { λ _. ⌜ (Running (headIn head presets) (stateOf (now (table .entry)) clock hold) → Demand3 (headIn head presets) (stateOf (now (table .entry)) clock hold) (Event.clock t ∷ [])) ⌝ }
 {
     if let Cause::Met(r) = frame_cause(head, presets, table, clock) {
         return Outcome {
             answer: Answer::Refused(0, r),
             clock,
+            hold,
         };
     }
-    asked_clock(head.slots, clock, t)
+    asked_clock(head.slots, clock, hold, t)
 }
 
-// One event line, its byte 10 included, on the table and the clock that the last event left: the causes 8, 2 of the head record, 11, then those of the line,
+// One event line, its byte 10 included, on the table, the clock and the order of ties (`hold`) that the last event left: the causes 8, 2 of the head record, 11, then those of the line,
 // of its clock or of its call. A refusal changes nothing. A frame that 11 lets pass is such a frame afterwards, so that all of demand 3 holds of a list of
 // events handed over one by one.
 pub fn event_by_value(
@@ -84,16 +94,18 @@ pub fn event_by_value(
     presets: [Preset; MOST_PRESETS],
     table: &mut [Cell],
     clock: usize,
+    hold: bool,
     line: &[u8],
 ) -> Outcome
-    ensures done { λ r. ⌜ EventDone head presets (stateOf (now (table .entry)) clock) (Event.line (now (line .entry))) (now (table .exit)) r ⌝ }
-    ensures kept { λ r. ⌜ (Running (headIn head presets) (stateOf (now (table .entry)) clock) → Running (headIn head presets) (stateOf (now (table .exit)) (r .clock))) ⌝ }
-    ensures claim { λ _. ⌜ (Running (headIn head presets) (stateOf (now (table .entry)) clock) → Demand3 (headIn head presets) (stateOf (now (table .entry)) clock) (Event.line (now (line .entry)) ∷ [])) ⌝ }
+    ensures done { λ r. ⌜ EventDone head presets (stateOf (now (table .entry)) clock hold) (Event.line (now (line .entry))) (now (table .exit)) r ⌝ }
+    ensures kept { λ r. ⌜ (Running (headIn head presets) (stateOf (now (table .entry)) clock hold) → Running (headIn head presets) (stateOf (now (table .exit)) (r .clock) (r .hold))) ⌝ }
+    ensures claim { λ _. ⌜ (Running (headIn head presets) (stateOf (now (table .entry)) clock hold) → Demand3 (headIn head presets) (stateOf (now (table .entry)) clock hold) (Event.line (now (line .entry)) ∷ [])) ⌝ }
 {
     if let Cause::Met(r) = frame_cause(head, presets, table, clock) {
         return Outcome {
             answer: Answer::Refused(0, r),
             clock,
+            hold,
         };
     }
     let counts = counts_of(head, presets, table, clock);
@@ -105,6 +117,7 @@ pub fn event_by_value(
         presets,
         table,
         clock,
+        hold,
         &mut used,
         &mut admitted,
         &mut capacities,

@@ -20,10 +20,11 @@ ghost use Rattle.frame.specs.EventsDone.{eventsMeant, EventsLeft, Events
 ghost use Rattle.frame.specs.method.EventsParts.{refusedEvents};
 ghost use Rattle.station.specs.Limits.{leastRecords};
 
-// What the events leave beside the table and the output: their end, and the clock.
+// What the events leave beside the table and the output: their end, the clock and the order of ties.
 pub struct EventsAnswer {
     pub ended: Ended,
     pub clock: usize,
+    pub hold: bool,
 }
 
 // Runs a text whose every line is an event, the first one being line 1: 10 for more than 32,768 bytes, 8 for fewer than 32 preset records, an output below 8,192 bytes or a
@@ -34,23 +35,25 @@ pub fn run_events(
     presets: &[Preset],
     table: &mut [Cell],
     clock: usize,
+    hold: bool,
     text: &[u8],
     out: &mut [u8],
 ) -> EventsAnswer
-    ensures { λ r. ⌜ EventsEntry head (now (presets .entry)) (stateOf (now (table .entry)) clock) (now (text .entry)) (now (out .entry)) (now (table .exit)) (now (out .exit)) r ⌝ }
+    ensures { λ r. ⌜ EventsEntry head (now (presets .entry)) (stateOf (now (table .entry)) clock hold) (now (text .entry)) (now (out .entry)) (now (table .exit)) (now (out .exit)) r ⌝ }
 {
     let records = record_count(presets);
     let copied = load(presets);
-    events_counted(records, head, copied, table, clock, text, out)
+    events_counted(records, head, copied, table, clock, hold, text, out)
 }
 
-// A refusal at line 0, which leaves the clock as it was handed in.
-fn refused(cause: Refusal, clock: usize) -> EventsAnswer
-    ensures { λ r. ⌜ r ≡ refusedEvents cause clock ⌝ }
+// A refusal at line 0, which leaves the clock and the order of ties as they were handed in.
+fn refused(cause: Refusal, clock: usize, hold: bool) -> EventsAnswer
+    ensures { λ r. ⌜ r ≡ refusedEvents cause clock hold ⌝ }
 {
     EventsAnswer {
         ended: Ended::Refused(0, cause),
         clock,
+        hold,
     }
 }
 
@@ -61,18 +64,19 @@ fn events_counted(
     copied: [Preset; MOST_PRESETS],
     table: &mut [Cell],
     clock: usize,
+    hold: bool,
     text: &[u8],
     out: &mut [u8],
 ) -> EventsAnswer
-    ensures { λ r. ⌜ EventsLeft (eventsMeant records head copied (stateOf (now (table .entry)) clock) (now (text .entry)) (now (out .entry))) (now (table .exit)) (now (out .exit)) r ⌝ }
+    ensures { λ r. ⌜ EventsLeft (eventsMeant records head copied (stateOf (now (table .entry)) clock hold) (now (text .entry)) (now (out .entry))) (now (table .exit)) (now (out .exit)) r ⌝ }
 {
     if MOST_BYTES < text.len() {
-        return refused(Refusal::TextTooLong, clock);
+        return refused(Refusal::TextTooLong, clock, hold);
     }
     if records < LEAST_RECORDS {
-        return refused(Refusal::TooShort, clock);
+        return refused(Refusal::TooShort, clock, hold);
     }
-    run_events_by_value(head, copied, table, clock, text, out)
+    run_events_by_value(head, copied, table, clock, hold, text, out)
 }
 
 // Runs a text whose every line is an event, the first one being line 1: 10 for more than 32,768 bytes, 8 for an output below 8,192 bytes or a table below 512 cells, 2 of the
@@ -82,24 +86,26 @@ pub fn run_events_by_value(
     presets: [Preset; MOST_PRESETS],
     table: &mut [Cell],
     clock: usize,
+    hold: bool,
     text: &[u8],
     out: &mut [u8],
 ) -> EventsAnswer
-    ensures done { λ r. ⌜ EventsLeft (eventsMeant leastRecords head presets (stateOf (now (table .entry)) clock) (now (text .entry)) (now (out .entry))) (now (table .exit)) (now (out .exit)) r ⌝ }
-    ensures claim { λ r. ⌜ EventsClaim leastRecords head presets (stateOf (now (table .entry)) clock) (now (text .entry)) (now (out .entry)) (now (table .exit)) r ⌝ }
+    ensures done { λ r. ⌜ EventsLeft (eventsMeant leastRecords head presets (stateOf (now (table .entry)) clock hold) (now (text .entry)) (now (out .entry))) (now (table .exit)) (now (out .exit)) r ⌝ }
+    ensures claim { λ r. ⌜ EventsClaim leastRecords head presets (stateOf (now (table .entry)) clock hold) (now (text .entry)) (now (out .entry)) (now (table .exit)) r ⌝ }
 {
     if MOST_BYTES < text.len() {
-        return refused(Refusal::TextTooLong, clock);
+        return refused(Refusal::TextTooLong, clock, hold);
     }
     if out.len() < LEAST_OUTPUT {
-        return refused(Refusal::TooShort, clock);
+        return refused(Refusal::TooShort, clock, hold);
     }
     if let Cause::Met(cause) = frame_cause(head, presets, table, clock) {
-        return refused(cause, clock);
+        return refused(cause, clock, hold);
     }
-    let ran = run_lines(text, 0, 0, head, presets, table, clock, out, 0);
+    let ran = run_lines(text, 0, 0, head, presets, table, clock, hold, out, 0);
     EventsAnswer {
         ended: Ended::Ran(ran.position),
         clock: ran.clock,
+        hold: ran.hold,
     }
 }

@@ -102,7 +102,15 @@ fn slot_counted(
 fn list(text: &[u8], table: &mut [Cell], out: &mut [u8]) -> usize
     ensures { λ n. ⌜ ListsBeside (now (text .entry)) (now (table .entry)) (now (out .entry)) (now (table .exit)) (now (out .exit)) n ⌝ }
 {
-    let run = run_text_by_value(text, NO_HEAD, [NO_RECORD; MOST_PRESETS], table, 1, out);
+    let run = run_text_by_value(
+        text,
+        NO_HEAD,
+        [NO_RECORD; MOST_PRESETS],
+        table,
+        1,
+        false,
+        out,
+    );
     let ended = run.ended;
     match ended {
         Ended::Ran(n) => n,

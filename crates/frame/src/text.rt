@@ -31,29 +31,31 @@ ghost use Rattle.frame.specs.Text.{wholeOf};
 ghost use Rattle.frame.specs.TextDone.{Leaves, TextDone, TextClaim};
 ghost use Rattle.frame.specs.method.TextParts.{refusedRun, HeadStart};
 
-// What a text leaves beside the table, the output and the list of preset records: its end, the head, and the clock.
+// What a text leaves beside the table, the output and the list of preset records: its end, the head, the clock and the order of ties.
 pub struct TextAnswer {
     pub ended: Ended,
     pub head: Head,
     pub clock: usize,
+    pub hold: bool,
 }
 
 // Runs a whole text: 10 for more than 32,768 bytes, 8 for fewer than 32 preset records, an output below 8,192 bytes or a table below 512 cells, then the head's
 // causes, then 5; else every line after the head is answered, and the listing stands at the start of the output, as far as it has room for it. A refusal leaves
-// table, clock and output as they were; the head and its records are those handed in, and with 5 those read. The records past the last preset stay.
+// table, clock, order of ties and output as they were; the head and its records are those handed in, and with 5 those read. The records past the last preset stay.
 pub fn run_text(
     text: &[u8],
     head: Head,
     presets: &mut [Preset],
     table: &mut [Cell],
     clock: usize,
+    hold: bool,
     out: &mut [u8],
 ) -> TextAnswer
-    ensures { λ r. ⌜ TextEntry (now (text .entry)) head (now (presets .entry)) (now (table .entry)) clock (now (out .entry)) (now (presets .exit)) (now (table .exit)) (now (out .exit)) r ⌝ }
+    ensures { λ r. ⌜ TextEntry (now (text .entry)) head (now (presets .entry)) (now (table .entry)) clock hold (now (out .entry)) (now (presets .exit)) (now (table .exit)) (now (out .exit)) r ⌝ }
 {
     let records = record_count(presets);
     let copied = load(presets);
-    let run = text_counted(records, text, head, copied, table, clock, out);
+    let run = text_counted(records, text, head, copied, table, clock, hold, out);
     save(presets, presets_of(run), MOST_PRESETS);
     answer_of(run)
 }
@@ -64,29 +66,32 @@ pub enum Ended {
     Refused(usize, Refusal),
 }
 
-// What a text leaves beside the table and the output: its end, the head with its presets, and the clock.
+// What a text leaves beside the table and the output: its end, the head with its presets, the clock and the order of ties.
 pub struct TextRun {
     pub ended: Ended,
     pub head: Head,
     pub presets: [Preset; MOST_PRESETS],
     pub clock: usize,
+    pub hold: bool,
 }
 
-// A refusal, with the head, the presets and the clock that it leaves.
+// A refusal, with the head, the presets, the clock and the order of ties that it leaves.
 fn refused(
     line: usize,
     cause: Refusal,
     head: Head,
     presets: [Preset; MOST_PRESETS],
     clock: usize,
+    hold: bool,
 ) -> TextRun
-    ensures { λ r. ⌜ r ≡ refusedRun line cause head presets clock ⌝ }
+    ensures { λ r. ⌜ r ≡ refusedRun line cause head presets clock hold ⌝ }
 {
     TextRun {
         ended: Ended::Refused(line, cause),
         head,
         presets,
         clock,
+        hold,
     }
 }
 
@@ -99,16 +104,17 @@ fn run_head(
     presets: [Preset; MOST_PRESETS],
     table: &mut [Cell],
     clock: usize,
+    hold: bool,
     out: &mut [u8],
 ) -> TextRun
     requires { ⌜ HeadStart head presets (now text) bytes lines (now table) ⌝ }
-    ensures { λ r. ⌜ Leaves (wholeOf (now (text .entry)) (now (table .entry))) head presets (now (table .entry)) clock (now (out .entry)) (now (table .exit)) (now (out .exit)) r ⌝ }
+    ensures { λ r. ⌜ Leaves (wholeOf (now (text .entry)) (now (table .entry))) head presets (now (table .entry)) clock hold (now (out .entry)) (now (table .exit)) (now (out .exit)) r ⌝ }
 {
     let planned = plan_by_value(head, presets, table);
     let answer = planned.answer;
     let grants = planned.grants;
     if let PlanAnswer::Refused(_, cause) = answer {
-        return refused(lines, cause, head, presets, clock);
+        return refused(lines, cause, head, presets, clock, hold);
     }
     let granted = granted_lines(out, 0, presets, grants, head.count);
     let ran = run_lines(
@@ -119,6 +125,7 @@ fn run_head(
         presets,
         table,
         FIRST_CLOCK,
+        head.hold,
         out,
         granted,
     );
@@ -128,11 +135,12 @@ fn run_head(
         head,
         presets,
         clock: ran.clock,
+        hold: ran.hold,
     }
 }
 
 // Runs a whole text: 10 for more than 32,768 bytes, 8 for an output below 8,192 bytes or a table below 512 cells, then the head's causes, then 5; else every
-// line after the head is answered, and the listing stands at the start of the output, as far as it has room for it. A refusal leaves table, clock and output
+// line after the head is answered, and the listing stands at the start of the output, as far as it has room for it. A refusal leaves table, clock, order of ties and output
 // as they were; the head is the one handed in, and with 5 the one read.
 pub fn run_text_by_value(
     text: &[u8],
@@ -140,26 +148,27 @@ pub fn run_text_by_value(
     presets: [Preset; MOST_PRESETS],
     table: &mut [Cell],
     clock: usize,
+    hold: bool,
     out: &mut [u8],
 ) -> TextRun
-    ensures done { λ r. ⌜ TextDone (now (text .entry)) head presets (now (table .entry)) clock (now (out .entry)) (now (table .exit)) (now (out .exit)) r ⌝ }
+    ensures done { λ r. ⌜ TextDone (now (text .entry)) head presets (now (table .entry)) clock hold (now (out .entry)) (now (table .exit)) (now (out .exit)) r ⌝ }
     ensures claim { λ _. ⌜ TextClaim (now (text .entry)) (now (table .entry)) (now (out .entry)) ⌝ }
 {
     if MOST_BYTES < text.len() {
-        return refused(0, Refusal::TextTooLong, head, presets, clock);
+        return refused(0, Refusal::TextTooLong, head, presets, clock, hold);
     }
     if out.len() < LEAST_OUTPUT {
-        return refused(0, Refusal::TooShort, head, presets, clock);
+        return refused(0, Refusal::TooShort, head, presets, clock, hold);
     }
     if table.len() < LEAST_CELLS {
-        return refused(0, Refusal::TooShort, head, presets, clock);
+        return refused(0, Refusal::TooShort, head, presets, clock, hold);
     }
     let read = read_head_by_value(text, head, presets);
     let answer = read.answer;
     let found = read.head;
     let records = read.presets;
     match answer {
-        ReadAnswer::Refused(line, cause) => refused(line, cause, found, records, clock),
+        ReadAnswer::Refused(line, cause) => refused(line, cause, found, records, clock, hold),
         ReadAnswer::Accepted(lines, bytes) => run_head(
             text,
             bytes,
@@ -168,6 +177,7 @@ pub fn run_text_by_value(
             records,
             table,
             clock,
+            hold,
             out,
         ),
     }

@@ -1,8 +1,8 @@
 -- Placements: a placement exists exactly if every selection of jobs obeys the capacity, and then largest remaining time first finds one.
 --
 -- In order: the criterion for more free cells and lower needs; a placement obeys the criterion; the r largest needs; the criterion and the excess; one slot for any
--- choice of the largest needs, by the dual of the criterion; any way of breaking ties (T2); the choice of LRTF; the needs that are left, and the
--- rule as a table shows it (`shown-rule`); LRTF places.
+-- choice of the largest needs, by the dual of the criterion; any way of breaking ties (T2); the choice of LRTF; the needs that are left, and
+-- who has a cell in the slot just before; the rule as a table shows it (`shown-rule`); LRTF places, whatever the order of ties.
 -- Laws of the capacity alone are in Capacities.
 -- Assumes nothing.
 use Prim.Native.Nat.{ℕ, zero, suc, _+_, _-_, _*_, _≤_, _<_, min}
@@ -10,20 +10,21 @@ use native.Mathlib.Nat.{le-refl, mul-comm}
 use native.Mathlib.Omega.{arith}
 use mathlib.Core.Path.{_≡_, refl, sym, _∙_, ap, subst}
 use mathlib.Core.Logic.{_⊎_, inl, inr}
-use mathlib.Core.Bool.{Bool, true, false, not, _&&_}
+use mathlib.Core.Bool.{Bool, true, false, not, _&&_, _||_}
 use mathlib.Core.List.{List}
 use lib.ListN.{length}
 use lib.Dec.{ltb}
-use Rattle.laws.specs.Sums.{bit, only, sum, count, position}
+use Rattle.laws.specs.Sums.{bit, only, sum, count, position, Total}
 use Rattle.laws.specs.Lists.{at}
-use Rattle.laws.specs.Placement.{Placed, everywhere, SlotRule, capacity, Criterion, before, chosen, served, left, lrtf, largest, excess}
+use Rattle.laws.specs.Placement.{Placed, everywhere, capacity, Criterion, Ties, TotalTies, tiePlace, tieHold, holders, nobody, goesFirst, chosen, SlotRule}
+use Rattle.laws.specs.Placement.{AtSlot, holds, choice, served, atSlot, left, lrtf, before, largest, excess}
 use Rattle.laws.proofs.Tests.{Is, is, is-true, is-false, clash, both, left-of, right-of}
 use Rattle.laws.proofs.Comparisons.{lt-of, ge-of, ltb-yes}
 use Rattle.laws.proofs.Every.{either}
 use Rattle.laws.proofs.Sums.{only-le, sum-ext, sum-le, sum-zero, term-le, sum-add, sum-first, sum-swap, greatest-bounds, greatest-attained}
 use Rattle.laws.proofs.Counts.{count-ext, count-le, count-imp, sum-only-const}
 use Rattle.laws.proofs.Lists.{length-tabulate, at-tabulate, at-past}
-use Rattle.laws.proofs.Order.{position-order, order-of-position, position-count, at-position, before-total}
+use Rattle.laws.proofs.Order.{position-order, order-of-position, position-count, at-position, goes-total, place-total, before-total}
 use Rattle.laws.proofs.Capacities.{capacity-mono}
 
 -- ---- more free cells, lower needs
@@ -67,13 +68,14 @@ criterion-of-placed {w} {k} {c} {n} {x} {a} h p =
 
 -- ---- the r largest needs
 
--- what stands no later needs no less
-pub need-of-position : (k : ℕ) (c : ℕ → ℕ) (i j : ℕ) → i < k → position k (before c) j ≤ position k (before c) i → c i ≤ c j
-need-of-position k c i j l h = go (is (before c i j))
+-- what stands no later needs no less, whatever breaks ties
+pub need-of-position : {r : ℕ → ℕ → Bool} → Total r → (k : ℕ) (c : ℕ → ℕ) (i j : ℕ) → i < k
+    → position k (goesFirst r c) j ≤ position k (goesFirst r c) i → c i ≤ c j
+need-of-position {r} o k c i j l h = go (is (goesFirst r c i j))
   where
-    go : Is (before c i j) → c i ≤ c j
-    go (is-true e) = absurd (omega (arith, position-order (before-total c) k e l))
-    go (is-false e) = omega (arith, ge-of (c j) (c i + bit (ltb i j)) e)
+    go : Is (goesFirst r c i j) → c i ≤ c j
+    go (is-true e) = absurd (omega (arith, position-order (goes-total o c) k e l))
+    go (is-false e) = omega (arith, ge-of (c j) (c i + bit (r i j)) e)
 
 -- a need that parts the r largest from the others
 threshold : (k : ℕ) (c : ℕ → ℕ) (r : ℕ) → r ≤ k →
@@ -82,8 +84,8 @@ threshold k c zero h = (sum k c, (λ i l m. absurd (let z : position k (before c
 threshold k c (suc r) h =
     let w = at-position (before-total c) k r h in (
       c (w .0),
-      (λ i l m. need-of-position k c (w .0) i (w .1) (omega (arith, w .2))),
-      (λ i l m. need-of-position k c i (w .0) l (omega (arith, w .2))),
+      (λ i l m. need-of-position (place-total 0 (λ m. false)) k c (w .0) i (w .1) (omega (arith, w .2))),
+      (λ i l m. need-of-position (place-total 0 (λ m. false)) k c i (w .0) l (omega (arith, w .2))),
     )
 
 exchange : (a b : Bool) (c t : ℕ) → (b ≡ true → t ≤ c) → (b ≡ false → c ≤ t) → only a c + only b t ≤ only b c + only a t
@@ -296,174 +298,259 @@ largest-first-places k n x l D step next h =
 
 -- ---- the choice of LRTF
 
--- the slot holds them
-pub chosen-count : (k : ℕ) (c : ℕ → ℕ) (d : ℕ) → count k (chosen k c d) ≤ d
-chosen-count k c d = go (is (ltb d k))
-  where
-    go : Is (ltb d k) → count k (chosen k c d) ≤ d
-    go (is-true e) =
-        omega (
-          arith,
-          count-imp k (chosen k c d) (λ i. ltb (position k (before c) i) d)
-              (λ i l. right-of (ltb 0 (c i)) (ltb (position k (before c) i) d)),
-          position-count (before-total c) k d (omega (arith, lt-of d k e)),
-        )
-    go (is-false e) = omega (arith, count-le k (chosen k c d), ge-of d k e)
-
-pub chosen-needs : (k : ℕ) (c : ℕ → ℕ) (d i : ℕ) → chosen k c d i ≡ true → 0 < c i
-chosen-needs k c d i e = lt-of 0 (c i) (left-of (ltb 0 (c i)) (ltb (position k (before c) i) d) e)
+pub chosen-needs : (r : ℕ → ℕ → Bool) (k : ℕ) (c : ℕ → ℕ) (d i : ℕ) → chosen r k c d i ≡ true → 0 < c i
+chosen-needs r k c d i e = lt-of 0 (c i) (left-of (ltb 0 (c i)) (ltb (position k (goesFirst r c) i) d) e)
 
 -- a job that needs a slot and is not chosen stands behind those that are
-chosen-behind : (k : ℕ) (c : ℕ → ℕ) (d i : ℕ) → chosen k c d i ≡ false → 0 < c i → d ≤ position k (before c) i
-chosen-behind k c d i e h =
-    ge-of (position k (before c) i) d (sym (ap (λ (b : Bool). b && ltb (position k (before c) i) d) (ltb-yes 0 (c i) h)) ∙ e)
+pub chosen-behind : (r : ℕ → ℕ → Bool) (k : ℕ) (c : ℕ → ℕ) (d i : ℕ) → chosen r k c d i ≡ false → 0 < c i → d ≤ position k (goesFirst r c) i
+chosen-behind r k c d i e h =
+    ge-of (position k (goesFirst r c) i) d (sym (ap (λ (b : Bool). b && ltb (position k (goesFirst r c) i) d) (ltb-yes 0 (c i) h)) ∙ e)
 
--- the choice of LRTF is one of the largest needs
-pub chosen-step : (k : ℕ) (c : ℕ → ℕ) (d : ℕ) → Step k c d (chosen k c d)
-chosen-step k c d = record { needed = λ i l. chosen-needs k c d i; fits = chosen-count k c d; full = all; greater = most }
-  where
-    ahead : (i j : ℕ) → i < k → chosen k c d i ≡ false → 0 < c i → ltb (position k (before c) j) d ≡ true → c i ≤ c j
-    ahead i j l e h t = need-of-position k c i j l (omega (arith, chosen-behind k c d i e h, lt-of (position k (before c) j) d t))
+-- orders of ties that agree choose the same
+pub chosen-ext : (r q : ℕ → ℕ → Bool) (k : ℕ) (c : ℕ → ℕ) (d : ℕ) → ((j i : ℕ) → j < k → i < k → r j i ≡ q j i) →
+    (i : ℕ) → i < k → chosen r k c d i ≡ chosen q k c d i
+chosen-ext r q k c d h i l =
+    ap (λ (n : ℕ). ltb 0 (c i) && ltb n d)
+    (count-ext k (λ j. goesFirst r c j i) (λ j. goesFirst q c j i) (λ j m. ap (λ (b : Bool). ltb (c i) (c j + bit b)) (h j i m l)))
 
-    most : (i j : ℕ) → i < k → j < k → chosen k c d i ≡ false → 0 < c i → chosen k c d j ≡ true → c i ≤ c j
-    most i j l m e h t = ahead i j l e h (right-of (ltb 0 (c j)) (ltb (position k (before c) j) d) t)
+module _ {r : ℕ → ℕ → Bool} (o : Total r) where
+  -- the slot holds them
+  pub chosen-count : (k : ℕ) (c : ℕ → ℕ) (d : ℕ) → count k (chosen r k c d) ≤ d
+  chosen-count k c d = go (is (ltb d k))
+    where
+      go : Is (ltb d k) → count k (chosen r k c d) ≤ d
+      go (is-true e) =
+          omega (
+            arith,
+            count-imp k (chosen r k c d) (λ i. ltb (position k (goesFirst r c) i) d)
+                (λ i l. right-of (ltb 0 (c i)) (ltb (position k (goesFirst r c) i) d)),
+            position-count (goes-total o c) k d (omega (arith, lt-of d k e)),
+          )
+      go (is-false e) = omega (arith, count-le k (chosen r k c d), ge-of d k e)
 
-    all : (i : ℕ) → i < k → chosen k c d i ≡ false → 0 < c i → count k (chosen k c d) ≡ d
-    all i l e h =
-        omega (
-          arith,
-          chosen-count k c d,
-          position-count (before-total c) k d (omega (arith, chosen-behind k c d i e h, count-le k (λ j. before c j i))),
-          count-imp k (λ j. ltb (position k (before c) j) d) (chosen k c d)
-              (λ j m t. both (ltb 0 (c j)) (ltb (position k (before c) j) d) (ltb-yes 0 (c j) (omega (arith, ahead i j l e h t))) t),
-        )
+  -- the choice of LRTF is one of the largest needs
+  pub chosen-step : (k : ℕ) (c : ℕ → ℕ) (d : ℕ) → Step k c d (chosen r k c d)
+  chosen-step k c d = record { needed = λ i l. chosen-needs r k c d i; fits = chosen-count k c d; full = all; greater = most }
+    where
+      ahead : (i j : ℕ) → i < k → chosen r k c d i ≡ false → 0 < c i → ltb (position k (goesFirst r c) j) d ≡ true → c i ≤ c j
+      ahead i j l e h t =
+          need-of-position o k c i j l (omega (arith, chosen-behind r k c d i e h, lt-of (position k (goesFirst r c) j) d t))
 
--- the choice of LRTF is document 01's rule, its ties included
-pub chosen-rule : (k : ℕ) (c : ℕ → ℕ) (d : ℕ) → SlotRule k c d (chosen k c d)
-chosen-rule k c d =
-    record {
-      many = number (either k (λ i l. sort i (is (chosen k c d i)) (is (ltb 0 (c i)))));
-      most = larger;
-      needed = λ i l. chosen-needs k c d i;
-    }
-  where
-    sort : (i : ℕ) → Is (chosen k c d i) → Is (ltb 0 (c i)) → ((chosen k c d i ≡ false) × (0 < c i)) ⊎ (chosen k c d i ≡ ltb 0 (c i))
-    sort i (is-true e) (is-true p) = inr (e ∙ sym p)
-    sort i (is-true e) (is-false p) = inr (absurd (omega (arith, chosen-needs k c d i e, ge-of 0 (c i) p)))
-    sort i (is-false e) (is-true p) = inl (e, lt-of 0 (c i) p)
-    sort i (is-false e) (is-false p) = inr (e ∙ sym p)
+      most : (i j : ℕ) → i < k → j < k → chosen r k c d i ≡ false → 0 < c i → chosen r k c d j ≡ true → c i ≤ c j
+      most i j l m e h t = ahead i j l e h (right-of (ltb 0 (c j)) (ltb (position k (goesFirst r c) j) d) t)
 
-    among : count k (chosen k c d) ≤ count k (λ i. ltb 0 (c i))
-    among = count-imp k (chosen k c d) (λ i. ltb 0 (c i)) (λ i l. left-of (ltb 0 (c i)) (ltb (position k (before c) i) d))
+      all : (i : ℕ) → i < k → chosen r k c d i ≡ false → 0 < c i → count k (chosen r k c d) ≡ d
+      all i l e h =
+          omega (
+            arith,
+            chosen-count k c d,
+            position-count (goes-total o c) k d (omega (arith, chosen-behind r k c d i e h, count-le k (λ j. goesFirst r c j i))),
+            count-imp k (λ j. ltb (position k (goesFirst r c) j) d) (chosen r k c d)
+                (λ j m t. both (ltb 0 (c j)) (ltb (position k (goesFirst r c) j) d) (ltb-yes 0 (c j) (omega (arith, ahead i j l e h t))) t),
+          )
 
-    number : ((i : ℕ) × (i < k) × ((chosen k c d i ≡ false) × (0 < c i))) ⊎ ((i : ℕ) → i < k → chosen k c d i ≡ ltb 0 (c i)) →
-        count k (chosen k c d) ≡ min d (count k (λ i. ltb 0 (c i)))
-    number (inl w) = omega (arith, among, chosen-step k c d .full (w .0) (w .1) (w .2 .0) (w .2 .1))
-    number (inr g) = omega (arith, chosen-count k c d, count-ext k (chosen k c d) (λ i. ltb 0 (c i)) g)
+  -- the choice of LRTF is the papers' rule, its ties included
+  pub chosen-rule : (k : ℕ) (c : ℕ → ℕ) (d : ℕ) → SlotRule r k c d (chosen r k c d)
+  chosen-rule k c d =
+      record {
+        many = number (either k (λ i l. sort i (is (chosen r k c d i)) (is (ltb 0 (c i)))));
+        most = larger;
+        needed = λ i l. chosen-needs r k c d i;
+      }
+    where
+      sort : (i : ℕ) → Is (chosen r k c d i) → Is (ltb 0 (c i)) → ((chosen r k c d i ≡ false) × (0 < c i)) ⊎ (chosen r k c d i ≡ ltb 0 (c i))
+      sort i (is-true e) (is-true p) = inr (e ∙ sym p)
+      sort i (is-true e) (is-false p) = inr (absurd (omega (arith, chosen-needs r k c d i e, ge-of 0 (c i) p)))
+      sort i (is-false e) (is-true p) = inl (e, lt-of 0 (c i) p)
+      sort i (is-false e) (is-false p) = inr (e ∙ sym p)
 
-    tie : (i j : ℕ) → Is (ltb j i) → c i < c j + bit (ltb j i) → (c i < c j) ⊎ ((c i ≡ c j) × (j < i))
-    tie i j (is-true e) h = part (is (ltb (c i) (c j)))
+      among : count k (chosen r k c d) ≤ count k (λ i. ltb 0 (c i))
+      among = count-imp k (chosen r k c d) (λ i. ltb 0 (c i)) (λ i l. left-of (ltb 0 (c i)) (ltb (position k (goesFirst r c) i) d))
+
+      number : ((i : ℕ) × (i < k) × ((chosen r k c d i ≡ false) × (0 < c i))) ⊎ ((i : ℕ) → i < k → chosen r k c d i ≡ ltb 0 (c i)) →
+          count k (chosen r k c d) ≡ min d (count k (λ i. ltb 0 (c i)))
+      number (inl w) = omega (arith, among, chosen-step k c d .full (w .0) (w .1) (w .2 .0) (w .2 .1))
+      number (inr g) = omega (arith, chosen-count k c d, count-ext k (chosen r k c d) (λ i. ltb 0 (c i)) g)
+
+      tie : (i j : ℕ) → Is (r j i) → Is (ltb (c i) (c j)) → c i < c j + bit (r j i) → (c i < c j) ⊎ ((c i ≡ c j) × (r j i ≡ true))
+      tie i j e (is-true p) h = inl (lt-of (c i) (c j) p)
+      tie i j (is-true e) (is-false p) h = inr (omega (arith, ge-of (c i) (c j) p, ap bit e), e)
+      tie i j (is-false e) (is-false p) h = inl (omega (arith, ap bit e))
+
+      larger : (i j : ℕ) → i < k → j < k → chosen r k c d j ≡ true → chosen r k c d i ≡ false → 0 < c i
+          → (c i < c j) ⊎ ((c i ≡ c j) × (r j i ≡ true))
+      larger i j l m e f h =
+          let here : ltb (position k (goesFirst r c) j) d ≡ true = right-of (ltb 0 (c j)) (ltb (position k (goesFirst r c) j) d) e in
+          let ahead : position k (goesFirst r c) j < position k (goesFirst r c) i = omega (arith, chosen-behind r k c d i f h, lt-of (position k (goesFirst r c) j) d here) in
+          tie i j (is (r j i)) (is (ltb (c i) (c j))) (lt-of (c i) (c j + bit (r j i)) (order-of-position (goes-total o c) k i j ahead))
+
+-- ---- the needs that are left, and who has a cell in the slot just before
+
+some-bit : (b : Bool) → ltb 0 (bit b) ≡ b
+some-bit true = refl
+some-bit false = refl
+
+module _ (ties : Ties) (standing : ℕ → ℕ → Bool) where
+  pub served-length : (d s : ℕ) (r : AtSlot) → length (served ties standing d s r .needs) ≡ length (r .needs)
+  unfolding served
+  served-length d s r = length-tabulate (length (r .needs)) (λ i. at (r .needs) i - bit (choice ties d s r i))
+
+  pub at-served : (d s : ℕ) (r : AtSlot) (i : ℕ) → at (served ties standing d s r .needs) i ≡ at (r .needs) i - bit (choice ties d s r i)
+  unfolding served
+  at-served d s r i = go (is (ltb i (length (r .needs))))
+    where
+      go : Is (ltb i (length (r .needs))) → at (served ties standing d s r .needs) i ≡ at (r .needs) i - bit (choice ties d s r i)
+      go (is-true e) =
+          at-tabulate (length (r .needs)) (λ j. at (r .needs) j - bit (choice ties d s r j)) i (lt-of i (length (r .needs)) e)
+      go (is-false e) =
+          let past : length (r .needs) ≤ i = ge-of i (length (r .needs)) e in
+          omega (arith, at-past (r .needs) i past, at-past (served ties standing d s r .needs) i (omega (arith, served-length d s r)))
+
+  pub served-holds : (d s : ℕ) (r : AtSlot) (i : ℕ) → i < length (r .needs) →
+      holds (served ties standing d s r) i ≡ (standing i s || choice ties d s r i)
+  unfolding served
+  served-holds d s r i l =
+      ap (ltb 0) (at-tabulate (length (r .needs)) (λ j. bit (standing j s || choice ties d s r j)) i l)
+      ∙ some-bit (standing i s || choice ties d s r i)
+
+  module _ (c : List ℕ) (x : ℕ → ℕ) where
+    pub left-length : (s : ℕ) → length (left ties standing c x s) ≡ length c
+    unfolding atSlot
+    left-length zero = refl
+    left-length (suc s) = served-length (x s) s (atSlot ties standing c x s) ∙ left-length s
+
+    -- a slot takes one from each job that has a cell in it
+    pub left-step : (i s : ℕ) → at (left ties standing c x (suc s)) i + bit (lrtf ties standing c x i s) ≡ at (left ties standing c x s) i
+    unfolding atSlot
+    left-step i s = go (is (lrtf ties standing c x i s))
       where
-        part : Is (ltb (c i) (c j)) → (c i < c j) ⊎ ((c i ≡ c j) × (j < i))
-        part (is-true p) = inl (lt-of (c i) (c j) p)
-        part (is-false p) = inr (omega (arith, ge-of (c i) (c j) p, ap bit e), lt-of j i e)
-    tie i j (is-false e) h = inl (omega (arith, ap bit e))
+        before-it : AtSlot
+        before-it = atSlot ties standing c x s
 
-    larger : (i j : ℕ) → i < k → j < k → chosen k c d j ≡ true → chosen k c d i ≡ false → 0 < c i → (c i < c j) ⊎ ((c i ≡ c j) × (j < i))
-    larger i j l m e f h =
-        tie i j (is (ltb j i))
-        (lt-of (c i) (c j + bit (ltb j i))
-        (order-of-position (before-total c) k i j
-        (omega (arith, chosen-behind k c d i f h, lt-of (position k (before c) j) d (right-of (ltb 0 (c j)) (ltb (position k (before c) j) d) e)))))
+        now : at (served ties standing (x s) s before-it .needs) i ≡ at (before-it .needs) i - bit (lrtf ties standing c x i s)
+        now = at-served (x s) s before-it i
 
--- ---- the needs that are left
+        go : Is (lrtf ties standing c x i s)
+            → at (served ties standing (x s) s before-it .needs) i + bit (lrtf ties standing c x i s) ≡ at (before-it .needs) i
+        go (is-true e) =
+            omega (arith, now, ap bit e, chosen-needs (ties s (holds before-it)) (length (before-it .needs)) (at (before-it .needs)) (x s) i e)
+        go (is-false e) = omega (arith, now, ap bit e)
 
-pub served-length : (l : List ℕ) (d : ℕ) → length (served l d) ≡ length l
-unfolding served
-served-length l d = length-tabulate (length l) (λ i. at l i - bit (chosen (length l) (at l) d i))
+    -- what is left of a need and what the job has got make the need
+    pub left-got : (i s : ℕ) → at (left ties standing c x s) i + count s (λ t. lrtf ties standing c x i t) ≡ at c i
+    unfolding atSlot sum
+    left-got i zero = omega arith
+    left-got i (suc s) = omega (arith, left-got i s, left-step i s)
 
-pub at-served : (l : List ℕ) (d i : ℕ) → at (served l d) i ≡ at l i - bit (chosen (length l) (at l) d i)
-unfolding served
-at-served l d i = go (is (ltb i (length l)))
-  where
-    go : Is (ltb i (length l)) → at (served l d) i ≡ at l i - bit (chosen (length l) (at l) d i)
-    go (is-true e) = at-tabulate (length l) (λ j. at l j - bit (chosen (length l) (at l) d j)) i (lt-of i (length l) e)
-    go (is-false e) =
-        let past : length l ≤ i = ge-of i (length l) e in
-        omega (arith, at-past l i past, at-past (served l d) i (omega (arith, served-length l d)))
+    -- after a slot those have a cell in it who stood there or were chosen
+    pub held-step : (i s : ℕ) → i < length c → holds (atSlot ties standing c x (suc s)) i ≡ (standing i s || lrtf ties standing c x i s)
+    unfolding atSlot
+    held-step i s l = served-holds (x s) s (atSlot ties standing c x s) i (omega (arith, left-length s))
 
-pub left-length : (c : List ℕ) (x : ℕ → ℕ) (s : ℕ) → length (left c x s) ≡ length c
-unfolding left
-left-length c x zero = refl
-left-length c x (suc s) = served-length (left c x s) (x s) ∙ left-length c x s
+    -- so before a slot it is who stood or was chosen in the slot just before
+    pub held-by : (s i : ℕ) → i < length c → holds (atSlot ties standing c x s) i ≡ holders (λ j t. standing j t || lrtf ties standing c x j t) s i
+    unfolding atSlot
+    held-by zero i l = refl
+    held-by (suc s) i l = held-step i s l
 
--- a slot takes one from each job that has a cell in it
-pub left-step : (c : List ℕ) (x : ℕ → ℕ) (i s : ℕ) → at (left c x (suc s)) i + bit (lrtf c x i s) ≡ at (left c x s) i
-unfolding left
-left-step c x i s = go (is (lrtf c x i s))
-  where
-    now : at (served (left c x s) (x s)) i ≡ at (left c x s) i - bit (lrtf c x i s)
-    now = rw left-length at (at-served (left c x s) (x s) i)
+-- where nobody stands, it is whom the rule chose
+pub held-is : (ties : Ties) (c : List ℕ) (x : ℕ → ℕ) (s i : ℕ) → i < length c →
+    holds (atSlot ties nobody c x s) i ≡ holders (λ j t. lrtf ties nobody c x j t) s i
+held-is ties c x = held-by ties nobody c x
 
-    go : Is (lrtf c x i s) → at (served (left c x s) (x s)) i + bit (lrtf c x i s) ≡ at (left c x s) i
-    go (is-true e) = omega (arith, now, ap bit e, chosen-needs (length c) (at (left c x s)) (x s) i e)
-    go (is-false e) = omega (arith, now, ap bit e)
+-- the rule's choice in a slot, for the number of jobs that there were at the start
+pub lrtf-step : (ties : Ties) → TotalTies ties → (standing : ℕ → ℕ → Bool) (c : List ℕ) (x : ℕ → ℕ) (s : ℕ) →
+    Step (length c) (at (left ties standing c x s)) (x s) (λ i. lrtf ties standing c x i s)
+lrtf-step ties o standing c x s =
+    subst (λ (n : ℕ). Step n (at (left ties standing c x s)) (x s) (λ i. lrtf ties standing c x i s)) (left-length ties standing c x s)
+    (chosen-step (o s (holds (atSlot ties standing c x s))) (length (left ties standing c x s)) (at (left ties standing c x s)) (x s))
 
--- what is left of a need and what the job has got make the need
-pub left-got : (c : List ℕ) (x : ℕ → ℕ) (i s : ℕ) → at (left c x s) i + count s (λ t. lrtf c x i t) ≡ at c i
-unfolding left sum
-left-got c x i zero = omega arith
-left-got c x i (suc s) = omega (arith, left-got c x i s, left-step c x i s)
+-- ---- the rule as a table shows it
 
--- The rule as a table shows it, where job i has `got i r` cells in slot r: one where LRTF places it, and none elsewhere.
-pub shown-rule : (c : List ℕ) (x : ℕ → ℕ) (s k : ℕ) (need : ℕ → ℕ) (got : ℕ → ℕ → ℕ) (d : ℕ) → length c ≡ k → ((i : ℕ) → i < k → at c i ≡ need i) → x s ≡ d
-    → ((i : ℕ) → i < k → (r : ℕ) → r ≤ s → got i r ≡ bit (lrtf c x i r)) → SlotRule k (λ i. need i - sum s (λ r. got i r)) d (λ i. ltb 0 (got i s))
-shown-rule c x s k need got d long is-need free shown = record {
+-- an order of ties in slot s that asks of no job from k on whether it has a cell
+abbrev pub BySet : Ties → ℕ → ℕ → Type 0
+BySet ties s k = (p q : ℕ → Bool) → ((i : ℕ) → i < k → p i ≡ q i) → (i j : ℕ) → i < k → j < k → ties s p j i ≡ ties s q j i
+
+pub place-set : (s k : ℕ) → BySet tiePlace s k
+place-set s k p q same i j l m = refl
+
+pub hold-set : (s k : ℕ) → BySet tieHold s k
+hold-set s k p q same i j l m = rw (same i l, same j m)
+
+holders-ext : (a b : ℕ → ℕ → Bool) (s i : ℕ) → ((r : ℕ) → r ≤ s → a i r ≡ b i r) → holders a s i ≡ holders b s i
+holders-ext a b zero i h = refl
+holders-ext a b (suc s) i h = h s (omega arith)
+
+-- Job i has `got i r` cells in slot r: one where LRTF places it, and none elsewhere.
+pub shown-rule : (ties : Ties) → TotalTies ties → (c : List ℕ) (x : ℕ → ℕ) (s k : ℕ) → BySet ties s k → (need : ℕ → ℕ) (got : ℕ → ℕ → ℕ) (d : ℕ) → length c ≡ k
+    → ((i : ℕ) → i < k → at c i ≡ need i) → x s ≡ d → ((i : ℕ) → i < k → (r : ℕ) → r ≤ s → got i r ≡ bit (lrtf ties nobody c x i r))
+    → SlotRule (ties s (holders (λ i r. ltb 0 (got i r)) s)) k (λ i. need i - sum s (λ r. got i r)) d (λ i. ltb 0 (got i s))
+shown-rule ties o c x s k by-set need got d long is-need free shown = record {
   many = omega (
     arith,
     rule .many,
     free,
-    count-ext k (λ i. lrtf c x i s) (λ i. ltb 0 (got i s)) placed,
-    count-ext k (λ i. ltb 0 (at (left c x s) i)) (λ i. ltb 0 (to-get i)) (λ i l. ap (ltb 0) (is-left i l)),
+    count-ext k (λ i. lrtf ties nobody c x i s) (λ i. ltb 0 (got i s)) (λ i l. placed i l s (le-refl s)),
+    count-ext k (λ i. ltb 0 (at rest i)) (λ i. ltb 0 (to-get i)) (λ i l. ap (ltb 0) (is-left i l)),
   );
-  most = λ i j l m p q n. same i j l m (rule .most i j l m (placed j m ∙ p) (placed i l ∙ q) (omega (arith, n, is-left i l)));
-  needed = λ i l p. omega (arith, is-left i l, rule .needed i l (placed i l ∙ p));
+  most = λ i j l m p q n.
+      same i j l m (rule .most i j l m (placed j m s (le-refl s) ∙ p) (placed i l s (le-refl s) ∙ q) (omega (arith, n, is-left i l)));
+  needed = λ i l p. omega (arith, is-left i l, rule .needed i l (placed i l s (le-refl s) ∙ p));
 }
   where
+    rest : List ℕ
+    rest = left ties nobody c x s
+
     to-get : ℕ → ℕ
     to-get i = need i - sum s (λ r. got i r)
 
-    rule : SlotRule k (at (left c x s)) (x s) (λ i. lrtf c x i s)
-    rule = subst (λ (n : ℕ). SlotRule n (at (left c x s)) (x s) (λ i. lrtf c x i s)) long (chosen-rule (length c) (at (left c x s)) (x s))
+    by-rule : ℕ → ℕ → Bool
+    by-rule = ties s (holds (atSlot ties nobody c x s))
 
-    is-left : (i : ℕ) → i < k → at (left c x s) i ≡ to-get i
+    as-shown : ℕ → ℕ → Bool
+    as-shown = ties s (holders (λ i r. ltb 0 (got i r)) s)
+
+    rule : SlotRule by-rule k (at rest) (x s) (λ i. lrtf ties nobody c x i s)
+    rule = subst (λ (n : ℕ). SlotRule by-rule n (at rest) (x s) (λ i. lrtf ties nobody c x i s)) (left-length ties nobody c x s ∙ long)
+        (chosen-rule (o s (holds (atSlot ties nobody c x s))) (length rest) (at rest) (x s))
+
+    is-left : (i : ℕ) → i < k → at rest i ≡ to-get i
     is-left i l =
-        omega (arith, left-got c x i s, is-need i l, sum-ext s (λ r. got i r) (λ r. bit (lrtf c x i r)) (λ r m. shown i l r (omega arith)))
+        omega (
+          arith,
+          left-got ties nobody c x i s,
+          is-need i l,
+          sum-ext s (λ r. got i r) (λ r. bit (lrtf ties nobody c x i r)) (λ r m. shown i l r (omega arith)),
+        )
 
-    some-bit : (b : Bool) → b ≡ ltb 0 (bit b)
-    some-bit true = refl
-    some-bit false = refl
+    placed : (i : ℕ) → i < k → (r : ℕ) → r ≤ s → lrtf ties nobody c x i r ≡ ltb 0 (got i r)
+    placed i l r m = sym (some-bit (lrtf ties nobody c x i r)) ∙ ap (ltb 0) (sym (shown i l r m))
 
-    placed : (i : ℕ) → i < k → lrtf c x i s ≡ ltb 0 (got i s)
-    placed i l = some-bit (lrtf c x i s) ∙ ap (ltb 0) (sym (shown i l s (le-refl s)))
+    who : (i : ℕ) → i < k → holds (atSlot ties nobody c x s) i ≡ holders (λ j r. ltb 0 (got j r)) s i
+    who i l =
+        held-is ties c x s i (omega (arith, long))
+        ∙ holders-ext (λ j r. lrtf ties nobody c x j r) (λ j r. ltb 0 (got j r)) s i (λ r m. placed i l r m)
 
-    same : (i j : ℕ) → i < k → j < k → (at (left c x s) i < at (left c x s) j) ⊎ ((at (left c x s) i ≡ at (left c x s) j) × (j < i))
-        → (to-get i < to-get j) ⊎ ((to-get i ≡ to-get j) × (j < i))
+    same : (i j : ℕ) → i < k → j < k → (at rest i < at rest j) ⊎ ((at rest i ≡ at rest j) × (by-rule j i ≡ true))
+        → (to-get i < to-get j) ⊎ ((to-get i ≡ to-get j) × (as-shown j i ≡ true))
     same i j l m (inl p) = inl (omega (arith, p, is-left i l, is-left j m))
-    same i j l m (inr p) = inr (omega (arith, p .0, is-left i l, is-left j m), p .1)
+    same i j l m (inr p) =
+        inr (omega (arith, p .0, is-left i l, is-left j m), sym (by-set (holds (atSlot ties nobody c x s)) (holders (λ n r. ltb 0 (got n r)) s) who i j l m) ∙ p .1)
 
 -- ---- LRTF places
 
--- T2 for this rule: where every selection obeys, LRTF makes a placement
-pub lrtf-places : (c : List ℕ) (n : ℕ) (x : ℕ → ℕ) → Criterion (length c) (at c) n x → Placed everywhere (length c) (at c) n x (lrtf c x)
-unfolding left
-lrtf-places c n x h =
-    largest-first-places (length c) n x (λ s. at (left c x s)) (λ s i. lrtf c x i s)
-    (λ s z. chosen-step (length c) (at (left c x s)) (x s)) (λ s i z m. omega (arith, left-step c x i s)) h
+-- T2 for this rule and every order of ties, whoever stands anywhere before: where every selection obeys, LRTF makes a placement
+pub any-tie-places : (ties : Ties) → TotalTies ties → (standing : ℕ → ℕ → Bool) (c : List ℕ) (n : ℕ) (x : ℕ → ℕ) → Criterion (length c) (at c) n x →
+    Placed everywhere (length c) (at c) n x (lrtf ties standing c x)
+unfolding atSlot
+any-tie-places ties o standing c n x h =
+    largest-first-places (length c) n x (λ s. at (left ties standing c x s)) (λ s i. lrtf ties standing c x i s)
+    (λ s z. lrtf-step ties o standing c x s) (λ s i z m. omega (arith, left-step ties standing c x i s)) h
 
 -- needs without excess are placed by LRTF
-pub fits-placed : (c : List ℕ) (n : ℕ) (x : ℕ → ℕ) → excess (length c) (at c) n x ≡ 0 → Placed everywhere (length c) (at c) n x (lrtf c x)
-fits-placed c n x e = lrtf-places c n x (criterion-of-excess (length c) (at c) n x e)
+pub fits-placed : (ties : Ties) → TotalTies ties → (standing : ℕ → ℕ → Bool) (c : List ℕ) (n : ℕ) (x : ℕ → ℕ) → excess (length c) (at c) n x ≡ 0 →
+    Placed everywhere (length c) (at c) n x (lrtf ties standing c x)
+fits-placed ties o standing c n x e = any-tie-places ties o standing c n x (criterion-of-excess (length c) (at c) n x e)
 
 -- needs that can be placed at all have no excess
 pub placed-fits : {w : ℕ → ℕ → Bool} {k : ℕ} {c : ℕ → ℕ} {n : ℕ} {x : ℕ → ℕ} {a : ℕ → ℕ → Bool} → Placed w k c n x a → excess k c n x ≡ 0

@@ -2,6 +2,8 @@
 -- Every number that the planner's rules speak of (cells of a slot, slots of a job, cells evicted) is such a sum.
 -- Assumes nothing.
 use Prim.Native.Nat.{ℕ, zero, suc, _+_, max}
+use mathlib.Core.Path.{_≡_}
+use mathlib.Core.Logic.{_⊎_}
 use mathlib.Core.Bool.{Bool, true, false, _&&_}
 use lib.Dec.{ltb}
 
@@ -31,6 +33,12 @@ greatest (suc n) f = max (greatest n f) (f (suc n))
 -- How many of the numbers below k come before i in the order `lt`.
 abbrev pub position : ℕ → (ℕ → ℕ → Bool) → ℕ → ℕ
 position k lt i = count k (λ j. lt j i)
+
+-- a strict total order
+pub record Total (lt : ℕ → ℕ → Bool) : Type 0 where
+  pub irreflexive : (i : ℕ) → lt i i ≡ false
+  pub transitive : (i j m : ℕ) → lt i j ≡ true → lt j m ≡ true → lt i m ≡ true
+  pub total : (i j : ℕ) → (i ≡ j → ⊥) → (lt i j ≡ true) ⊎ (lt j i ≡ true)
 
 -- The order by ascending value, and among equal values the smaller number first. (Document 01's rank is the position in it by priority.)
 abbrev pub ascending : (ℕ → ℕ) → ℕ → ℕ → Bool

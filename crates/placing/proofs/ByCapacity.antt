@@ -12,12 +12,14 @@ use mathlib.Core.Bool.{true, not, _&&_}
 use mathlib.Core.List.{List, []}
 use lib.ListN.{length}
 use Rattle.laws.specs.Lists.{at}
+use Rattle.laws.specs.Placement.{tiePlace}
 use Rattle.laws.specs.Eviction.{ones}
 use Rattle.laws.proofs.Comparisons.{eq-of, eqb-yes}
+use Rattle.laws.proofs.Order.{place-total}
 use Rattle.laws.proofs.Excess.{excess-bounds, excess-reached, excess-none}
 use Rattle.station.specs.Head.{Head, Job, Valid}
 use Rattle.placing.specs.Table.{Cells, Each, WellFormed, cell, cells, isOptional}
-use Rattle.placing.specs.Valid.{ValidPlan, ValidCall, lost}
+use Rattle.placing.specs.Valid.{ValidCall, lost}
 use Rattle.placing.specs.Plan.{mandatories, planFreeCount, planFits, planned}
 use Rattle.placing.specs.Call.{lengths, emptyCount, usableCount, callShort, callFits, evictedSet, called}
 use Rattle.placing.specs.Capacity.{PlanByCapacity, CallByCapacity, GreatestExcess, largestMandatory, planCapacity, longestJobs, callCapacity, emptyCapacity}
@@ -38,8 +40,8 @@ plan-by-capacity h valid = record {
   fits = (
     λ p. counted .0 (plan-fits-of-valid valid (p .1)),
     λ f. (
-      written h (planned h) [],
-      validPlan-ext h (planned h) (cell h (written h (planned h) [])) (λ s b l m. sym (cell-written h (planned h) [] s b l m)) (planned-valid valid (counted .1 f)),
+      written h (planned tiePlace h) [],
+      validPlan-ext h (planned tiePlace h) (cell h (written h (planned tiePlace h) [])) (λ s b l m. sym (cell-written h (planned tiePlace h) [] s b l m)) (planned-valid tiePlace place-total valid (counted .1 f)),
     ),
   );
 }
@@ -70,20 +72,20 @@ module _ (h : Head) (clock : ℕ) (jobs : List Job) (t : Cells) (valid : Valid h
 
   -- then the table of the rule, as a list of cells, is valid and loses the cells of the evicted set
   left : List ℕ
-  left = written h (called h clock jobs t) []
+  left = written h (called tiePlace h clock jobs t) []
 
-  same : Each h (λ s b. called h clock jobs t s b ≡ cell h left s b)
+  same : Each h (λ s b. called tiePlace h clock jobs t s b ≡ cell h left s b)
   unfolding left
-  same s b l m = sym (cell-written h (called h clock jobs t) [] s b l m)
+  same s b l m = sym (cell-written h (called tiePlace h clock jobs t) [] s b l m)
 
   left-valid : callFits h clock jobs t ≡ true → ValidCall h clock jobs t (cell h left)
-  left-valid e = validCall-ext h clock jobs t t (called h clock jobs t) (cell h left) (λ s b l m. refl) same (called-valid h clock jobs t valid formed good e)
+  left-valid e = validCall-ext h clock jobs t t (called tiePlace h clock jobs t) (cell h left) (λ s b l m. refl) same (called-valid tiePlace place-total h clock jobs t valid formed good e)
 
   left-lost : cells h (λ s b. lost t (cell h left) s b) ≡ ones (evictedSet h clock jobs t)
   left-lost =
-      cells-ext h (λ s b. lost t (cell h left) s b) (λ s b. lost t (called h clock jobs t) s b)
+      cells-ext h (λ s b. lost t (cell h left) s b) (λ s b. lost t (called tiePlace h clock jobs t) s b)
       (λ s b l m. ap (λ (v : ℕ). isOptional (t s b) && not (isOptional v)) (sym (same s b l m)))
-      ∙ called-count h clock jobs t valid formed good
+      ∙ called-count tiePlace place-total h clock jobs t valid formed good
 
   pub call-by-capacity : CallByCapacity h clock jobs t
   call-by-capacity = record {

@@ -3,9 +3,9 @@
 -- In order: what one change keeps and makes (`change-keeps`, `change-kept`, `change-call`, `change-gone`); how many jobs have a number. Then any table whose cells
 -- changed so: its busy and mandatory cells (`changed-keeps-fixed`, `changed-kept-fixed`), optional cells (`changed-optional`,
 -- `changed-optional-count`), call cells (`changed-call`, `changed-new-call`, `changed-other-calls`, `changed-jobCount`), and that it is
--- well-formed (`changed-wellFormed`). Then the table of the rule, `called`: its changes (`called-changes`), the free cells
+-- well-formed (`changed-wellFormed`). Then the table of the rule, `called`, whatever the order of ties: its changes (`called-changes`), the free cells
 -- (`callFree-count`) and that the jobs are placed there (`called-placed`), the cells of a job (`called-in-slot`, `called-above`), the cells it loses (`called-lost`,
--- `called-count`, `called-upto`), the rule of each slot (`called-rule`), and that it is well-formed and valid (`called-wellFormed`, `called-exact`, `called-valid`).
+-- `called-count`, `called-upto`), and that it is well-formed and valid (`called-wellFormed`, `called-exact`, `called-valid`); by the order in force, the rule of each slot (`called-rule`).
 -- That no valid table loses fewer cells is not here.
 -- Assumes nothing.
 use Prim.Native.Nat.{ℕ, _+_, _≤_, _<_}
@@ -18,28 +18,28 @@ use lib.ListN.{length, length-map}
 use lib.Dec.{ltb, leb, eqb}
 use Rattle.laws.specs.Sums.{bit, sum, count}
 use Rattle.laws.specs.Lists.{at}
-use Rattle.laws.specs.Placement.{Placed, lrtf, everywhere}
+use Rattle.laws.specs.Placement.{Placed, everywhere, Ties, TotalTies, nobody, lrtf}
 use Rattle.laws.specs.Eviction.{added, ones}
 use Rattle.laws.proofs.Tests.{Is, is-true, is-false, is, clash, not-true, test-ext, left-of, right-of, or-left, or-right, or-cases, and-implied}
 use Rattle.laws.proofs.Comparisons.{lt-of, ge-of, eq-of, eqb-self, eqb-yes, eqb-no}
 use Rattle.laws.proofs.Every.{injective-below}
 use Rattle.laws.proofs.Sums.{sum-ext, sum-le, sum-add, sum-const, sum-swap, sum-two}
 use Rattle.laws.proofs.Counts.{bit-le, count-ext, count-none, count-some, count-or, count-eqb-le}
-use Rattle.laws.proofs.Placement.{shown-rule}
+use Rattle.laws.proofs.Placement.{lrtf-step, shown-rule}
 use Rattle.laws.proofs.Eviction.{searched-long}
 use Rattle.station.specs.Head.{Head, Job, Valid}
 use Rattle.placing.specs.Table.{Cells, Each, WellFormed, cells, holding, kindOf, numberIn, mandatoryCell, optionalCell, callCell, isEmpty}
-use Rattle.placing.specs.Table.{isBusy, isMandatory, isOptional, isCall, numberAt, hasPreset, hasJob, isUsed, jobCount}
+use Rattle.placing.specs.Table.{isBusy, isMandatory, isOptional, isCall, numberAt, hasPreset, hasJob, jobCount}
 use Rattle.placing.specs.Valid.{Change, same, filled, evicted, ValidCall, usable, jobAt, lost, lostUpTo, optionalCount, priorityOf}
-use Rattle.placing.specs.Plan.{placing, freeCount}
+use Rattle.placing.specs.Plan.{placing, tieOf}
 use Rattle.placing.specs.Call.{CellPlace, evictionOrder, slotsOf, inSet, emptyFree, emptyCount, lengths, callShort, evictedSet, callFits, callFree, callFreeCount, isEvictable}
 use Rattle.placing.specs.Call.{called}
 use Rattle.placing.specs.Claims.{cellsOfJob, JobsRule}
-use Rattle.placing.proofs.CountedCells.{cells-pos, cells-ext, cells-imp, cells-split, kindOf-call, numberIn-call, isOptional-call, isCall-call, evictable-optional}
+use Rattle.placing.proofs.CountedCells.{cells-pos, cells-ext, cells-imp, cells-split, kindOf-call, isOptional-call, evictable-optional}
 use Rattle.placing.proofs.CountedCells.{lost-was, lost-now, is-lost, numberAt-lt}
 use Rattle.placing.proofs.NewJobs.{Good, Placeable, placeable-of, above, above-new, new-usable, length-lengths, at-lengths, hasJob-of}
 use Rattle.placing.proofs.CallShort.{call-shortage, rule-placed}
-use Rattle.placing.proofs.Placing.{PlacedCell, kept, unused, written, lrtf-within, placing-cases, placing-job}
+use Rattle.placing.proofs.Placing.{PlacedCell, kept, unused, written, tie-total, tie-set, placing-cases, placing-job}
 use Rattle.placing.proofs.EvictionOrder.{in-set-evictable, set-size, set-in-slot}
 
 -- ---- one change
@@ -339,19 +339,6 @@ module _ (h : Head) (clock : ℕ) (jobs : List Job) (t : Cells) where
   abbrev pub isEvicted : ℕ → ℕ → Bool
   isEvicted s b = inSet (evictionOrder h clock t) (evictedSet h clock jobs t) s b
 
-  -- whether job i goes into slot s
-  abbrev pub isPlaced : ℕ → ℕ → Bool
-  isPlaced i s = lrtf (lengths jobs) (callFreeCount h clock jobs t) i s
-
-  -- what a cell then holds
-  abbrev CalledCell : ℕ → ℕ → Type 0
-  CalledCell s b =
-      PlacedCell (length (lengths jobs)) (callFree h clock jobs t) (λ i r. isPlaced i r) (λ i r. callCell (jobAt jobs i .number)) t s b (called h clock jobs t s b)
-
-  called-cases : (s b : ℕ) → CalledCell s b
-  unfolding called placing
-  called-cases s b = placing-cases (length (lengths jobs)) (callFree h clock jobs t) (λ i r. isPlaced i r) (λ i r. callCell (jobAt jobs i .number)) t s b
-
   -- an evicted cell was optional, a free one empty or optional, in a slot from the clock on
   evicted-was : (s b : ℕ) → isEvicted s b ≡ true → (usable clock s ≡ true) × (isOptional (t s b) ≡ true)
   evicted-was s b e =
@@ -370,12 +357,27 @@ module _ (h : Head) (clock : ℕ) (jobs : List Job) (t : Cells) where
   free-not-optional s b p q =
       omega (arith, eq-of (t s b) 0 (right-of (usable clock s) (isEmpty (t s b)) p), eq-of (kindOf (t s b)) 3 q)
 
+-- under an order of ties
+module _ (ties : Ties) (h : Head) (clock : ℕ) (jobs : List Job) (t : Cells) where
+  -- whether job i goes into slot s
+  abbrev pub isPlaced : ℕ → ℕ → Bool
+  isPlaced i s = lrtf ties nobody (lengths jobs) (callFreeCount h clock jobs t) i s
+
+  -- what a cell then holds
+  abbrev CalledCell : ℕ → ℕ → Type 0
+  CalledCell s b =
+      PlacedCell (length (lengths jobs)) (callFree h clock jobs t) (λ i r. isPlaced i r) (λ i r. callCell (jobAt jobs i .number)) t s b (called ties h clock jobs t s b)
+
+  called-cases : (s b : ℕ) → CalledCell s b
+  unfolding called placing
+  called-cases s b = placing-cases (length (lengths jobs)) (callFree h clock jobs t) (λ i r. isPlaced i r) (λ i r. callCell (jobAt jobs i .number)) t s b
+
   -- every cell is changed as a call may change it
-  pub called-changes : Each h (λ s b. Change clock jobs s (t s b) (called h clock jobs t s b))
+  pub called-changes : Each h (λ s b. Change clock jobs s (t s b) (called ties h clock jobs t s b))
   called-changes s b l m = go (called-cases s b)
     where
       w : ℕ
-      w = called h clock jobs t s b
+      w = called ties h clock jobs t s b
 
       emptied : w ≡ 0 → usable clock s ≡ true → (t s b ≡ 0) ⊎ (isOptional (t s b) ≡ true) → Change clock jobs s (t s b) w
       emptied e x (inl p) = same (e ∙ sym p)
@@ -387,8 +389,8 @@ module _ (h : Head) (clock : ℕ) (jobs : List Job) (t : Cells) where
 
       go : CalledCell s b → Change clock jobs s (t s b) w
       go (kept f e) = same e
-      go (unused f e) = let p = free-was s b f in emptied e (p .0) (p .1)
-      go (written f i k c e) = let p = free-was s b f in filled (p .0) (fillable (p .1)) i (rw (length-lengths jobs) at k) e
+      go (unused f e) = let p = free-was h clock jobs t s b f in emptied e (p .0) (p .1)
+      go (written f i k c e) = let p = free-was h clock jobs t s b f in filled (p .0) (fillable (p .1)) i (rw (length-lengths jobs) at k) e
 
 module _ (h : Head) (clock : ℕ) (jobs : List Job) (t : Cells) (valid : Valid h) (wf : WellFormed h t) where
   -- the free cells of a slot are the empty ones with those of the evicted set
@@ -399,86 +401,88 @@ module _ (h : Head) (clock : ℕ) (jobs : List Job) (t : Cells) (valid : Valid h
       (λ b m f. not-true _ (λ e. free-not-optional h clock jobs t s b f (evicted-was h clock jobs t s b e .1)))
       ∙ sym (set-in-slot h clock t valid wf (emptyCount h clock t) (evictedSet h clock jobs t) s l)
 
+-- under a total order of ties
+module _ (ties : Ties) (o : TotalTies ties) (h : Head) (clock : ℕ) (jobs : List Job) (t : Cells) (valid : Valid h) (wf : WellFormed h t) where
   -- so the jobs of a call that fits are placed by LRTF
   pub called-placed : callFits h clock jobs t ≡ true
-      → Placed everywhere (length (lengths jobs)) (at (lengths jobs)) (h .slots) (callFreeCount h clock jobs t) (isPlaced h clock jobs t)
+      → Placed everywhere (length (lengths jobs)) (at (lengths jobs)) (h .slots) (callFreeCount h clock jobs t) (isPlaced ties h clock jobs t)
   unfolding callFits
   called-placed fits =
-      rule-placed h jobs (callFreeCount h clock jobs t)
+      rule-placed h jobs ties o (callFreeCount h clock jobs t)
       (omega (
         arith,
         eq-of (callShort h jobs free) 0 fits,
-        call-shortage h jobs .mono free (callFreeCount h clock jobs t) (λ s l. omega (arith, callFree-count s l)),
+        call-shortage h jobs .mono free (callFreeCount h clock jobs t) (λ s l. omega (arith, callFree-count h clock jobs t valid wf s l)),
       ))
     where
       free : ℕ → ℕ
       free = added (emptyCount h clock t) (slotsOf (evictionOrder h clock t)) (evictedSet h clock jobs t)
 
 -- the cells of a job, whose number is in none of the slots that the call may use
-module _ (h : Head) (clock : ℕ) (jobs : List Job) (t : Cells) (can : Placeable h clock t jobs) (i : ℕ) (k : i < length jobs) where
+module _ (ties : Ties) (o : TotalTies ties) (h : Head) (clock : ℕ) (jobs : List Job) (t : Cells) (can : Placeable h clock t jobs) (i : ℕ) (k : i < length jobs) where
   -- it has one in each slot where LRTF places it, and none in the others that the call may use
   pub called-in-slot : (s : ℕ) → s < h .slots → usable clock s ≡ true
-      → count (h .bridges) (λ b. eqb (called h clock jobs t s b) (callCell (jobAt jobs i .number))) ≡ bit (isPlaced h clock jobs t i s)
+      → count (h .bridges) (λ b. eqb (called ties h clock jobs t s b) (callCell (jobAt jobs i .number))) ≡ bit (isPlaced ties h clock jobs t i s)
   unfolding called placing
   called-in-slot s l late =
-      placing-job (length (lengths jobs)) (callFree h clock jobs t) (λ j r. isPlaced h clock jobs t j r) (λ j r. callCell (jobAt jobs j .number)) t s (h .bridges)
-      (lrtf-within (lengths jobs) (callFreeCount h clock jobs t) s) (λ w. eqb w (callCell n))
+      placing-job (length (lengths jobs)) (callFree h clock jobs t) (λ j r. isPlaced ties h clock jobs t j r) (λ j r. callCell (jobAt jobs j .number)) t s (h .bridges)
+      (lrtf-step ties o nobody (lengths jobs) (callFreeCount h clock jobs t) s .fits) (λ w. eqb w (callCell n))
       (eqb-no 0 (callCell n) (λ e. omega arith)) i (rw (length-lengths jobs) k)
       (λ j m ne. eqb-no (callCell (jobAt jobs j .number)) (callCell n)
       (λ e. ne (injective-below (length jobs) (λ x. jobAt jobs x .number) (can .distinct) j i (rw (length-lengths jobs) at m) k (omega arith))))
       (λ b m f. eqb-no (t s b) (callCell n) (λ e. can .no-cell i k s b l m late (omega (arith, can .high i k))))
-      ∙ ap (λ (c : Bool). bit (isPlaced h clock jobs t i s && c)) (eqb-self (callCell n))
-      ∙ ap bit (and-true (isPlaced h clock jobs t i s))
+      ∙ ap (λ (c : Bool). bit (isPlaced ties h clock jobs t i s && c)) (eqb-self (callCell n))
+      ∙ ap bit (and-true (isPlaced ties h clock jobs t i s))
     where
       n : ℕ
       n = jobAt jobs i .number
 
   -- in a slot gone by no cell is free, so that it is not placed there
-  gone-unplaced : (s : ℕ) → usable clock s ≡ false → isPlaced h clock jobs t i s ≡ false
+  gone-unplaced : (s : ℕ) → usable clock s ≡ false → isPlaced ties h clock jobs t i s ≡ false
   gone-unplaced s gone =
-      not-true (isPlaced h clock jobs t i s) (λ e.
+      not-true (isPlaced ties h clock jobs t i s) (λ e.
       omega (
         arith,
-        count-some (length (lengths jobs)) (λ j. isPlaced h clock jobs t j s) i (rw (length-lengths jobs) k) e,
-        lrtf-within (lengths jobs) (callFreeCount h clock jobs t) s,
+        count-some (length (lengths jobs)) (λ j. isPlaced ties h clock jobs t j s) i (rw (length-lengths jobs) k) e,
+        lrtf-step ties o nobody (lengths jobs) (callFreeCount h clock jobs t) s .fits,
         count-none (h .bridges) (λ b. callFree h clock jobs t s b)
             (λ b m. not-true (callFree h clock jobs t s b) (λ f. clash (sym (free-was h clock jobs t s b f .0) ∙ gone))),
       ))
 
   -- from the clock on as many cells as it needs
   pub called-above : Valid h → WellFormed h t → callFits h clock jobs t ≡ true
-      → above h clock (called h clock jobs t) (callCell (jobAt jobs i .number)) ≡ jobAt jobs i .slots
+      → above h clock (called ties h clock jobs t) (callCell (jobAt jobs i .number)) ≡ jobAt jobs i .slots
   called-above valid wf fits =
-      sum-ext (h .slots) (λ s. count (h .bridges) (λ b. usable clock s && holds s b)) (λ s. bit (isPlaced h clock jobs t i s)) (λ s l. slot s l (is (usable clock s)))
-      ∙ called-placed h clock jobs t valid wf fits .exact i (rw (length-lengths jobs) k)
+      sum-ext (h .slots) (λ s. count (h .bridges) (λ b. usable clock s && holds s b)) (λ s. bit (isPlaced ties h clock jobs t i s)) (λ s l. slot s l (is (usable clock s)))
+      ∙ called-placed ties o h clock jobs t valid wf fits .exact i (rw (length-lengths jobs) k)
       ∙ at-lengths jobs i
     where
       holds : ℕ → ℕ → Bool
-      holds s b = eqb (called h clock jobs t s b) (callCell (jobAt jobs i .number))
+      holds s b = eqb (called ties h clock jobs t s b) (callCell (jobAt jobs i .number))
 
-      slot : (s : ℕ) → s < h .slots → Is (usable clock s) → count (h .bridges) (λ b. usable clock s && holds s b) ≡ bit (isPlaced h clock jobs t i s)
+      slot : (s : ℕ) → s < h .slots → Is (usable clock s) → count (h .bridges) (λ b. usable clock s && holds s b) ≡ bit (isPlaced ties h clock jobs t i s)
       slot s l (is-true e) =
           count-ext (h .bridges) (λ b. usable clock s && holds s b) (λ b. holds s b) (λ b m. ap (λ (c : Bool). c && holds s b) e) ∙ called-in-slot s l e
       slot s l (is-false e) =
           count-none (h .bridges) (λ b. usable clock s && holds s b) (λ b m. ap (λ (c : Bool). c && holds s b) e) ∙ sym (ap bit (gone-unplaced s e))
 
-module _ (h : Head) (clock : ℕ) (jobs : List Job) (t : Cells) (valid : Valid h) (wf : WellFormed h t) (good : Good h t jobs) where
+module _ (ties : Ties) (o : TotalTies ties) (h : Head) (clock : ℕ) (jobs : List Job) (t : Cells) (valid : Valid h) (wf : WellFormed h t) (good : Good h t jobs) where
   -- the table, and the cells that it evicts
   abbrev u : Cells
-  u = called h clock jobs t
+  u = called ties h clock jobs t
 
   abbrev gone : ℕ → ℕ → Bool
   gone = isEvicted h clock jobs t
 
   -- the cells that are lost are those of the evicted set
-  pub called-lost : Each h (λ s b. lost t (called h clock jobs t) s b ≡ isEvicted h clock jobs t s b)
+  pub called-lost : Each h (λ s b. lost t (called ties h clock jobs t) s b ≡ isEvicted h clock jobs t s b)
   called-lost s b l m =
-      test-ext (lost t u s b) (gone s b) (λ e. to e (called-cases h clock jobs t s b)) (λ e. from e (called-cases h clock jobs t s b))
+      test-ext (lost t u s b) (gone s b) (λ e. to e (called-cases ties h clock jobs t s b)) (λ e. from e (called-cases ties h clock jobs t s b))
     where
       of-free : lost t u s b ≡ true → callFree h clock jobs t s b ≡ true → gone s b ≡ true
       of-free e f = second-of (or-cases (emptyFree clock t s b) (gone s b) f) (λ p. free-not-optional h clock jobs t s b p (lost-was t u s b e))
 
-      to : lost t u s b ≡ true → CalledCell h clock jobs t s b → gone s b ≡ true
+      to : lost t u s b ≡ true → CalledCell ties h clock jobs t s b → gone s b ≡ true
       to e (kept f q) = absurd (clash (sym (lost-was t u s b e) ∙ ap isOptional (sym q) ∙ lost-now t u s b e))
       to e (unused f q) = of-free e f
       to e (written f i k c q) = of-free e f
@@ -486,14 +490,14 @@ module _ (h : Head) (clock : ℕ) (jobs : List Job) (t : Cells) (valid : Valid h
       now-lost : gone s b ≡ true → isOptional (u s b) ≡ false → lost t u s b ≡ true
       now-lost e = is-lost t u s b (evicted-was h clock jobs t s b e .1)
 
-      from : gone s b ≡ true → CalledCell h clock jobs t s b → lost t u s b ≡ true
+      from : gone s b ≡ true → CalledCell ties h clock jobs t s b → lost t u s b ≡ true
       from e (kept f q) = absurd (clash (sym (or-right (emptyFree clock t s b) (gone s b) e) ∙ f))
       from e (unused f q) = now-lost e (ap isOptional q)
       from e (written f i k c q) =
           now-lost e (ap isOptional q ∙ isOptional-call (jobAt jobs i .number) (omega (arith, good .high i (rw (length-lengths jobs) at k))))
 
   -- so their number is the size of the set, and those of priority p or better are the set's
-  pub called-count : cells h (λ s b. lost t (called h clock jobs t) s b) ≡ ones (evictedSet h clock jobs t)
+  pub called-count : cells h (λ s b. lost t (called ties h clock jobs t) s b) ≡ ones (evictedSet h clock jobs t)
   unfolding evictedSet
   called-count = cells-ext h (λ s b. lost t u s b) gone called-lost ∙ sym (set-size h clock t valid wf (evictedSet h clock jobs t) long)
     where
@@ -503,7 +507,7 @@ module _ (h : Head) (clock : ℕ) (jobs : List Job) (t : Cells) (valid : Valid h
           ∙ length-map (evictionOrder h clock t) (λ (z : CellPlace). z .slot)
 
   pub called-upto : (p : ℕ)
-      → lostUpTo h t (called h clock jobs t) p ≡ cells h (λ s b. isEvicted h clock jobs t s b && leb (priorityOf h (numberIn (t s b))) p)
+      → lostUpTo h t (called ties h clock jobs t) p ≡ cells h (λ s b. isEvicted h clock jobs t s b && leb (priorityOf h (numberIn (t s b))) p)
   called-upto p =
       cells-ext h (λ s b. lost t u s b && leb (priorityOf h (numberIn (t s b))) p) (λ s b. gone s b && leb (priorityOf h (numberIn (t s b))) p)
       (λ s b l m. ap (λ (c : Bool). c && leb (priorityOf h (numberIn (t s b))) p) (called-lost s b l m))
@@ -513,39 +517,46 @@ module _ (h : Head) (clock : ℕ) (jobs : List Job) (t : Cells) (valid : Valid h
 
   -- a job has one cell in each slot where LRTF places it, and none in the others, those gone by included
   called-everywhere : (i : ℕ) → i < length jobs → (s : ℕ) → s < h .slots
-      → count (h .bridges) (λ b. eqb (called h clock jobs t s b) (callCell (jobAt jobs i .number))) ≡ bit (isPlaced h clock jobs t i s)
+      → count (h .bridges) (λ b. eqb (called ties h clock jobs t s b) (callCell (jobAt jobs i .number))) ≡ bit (isPlaced ties h clock jobs t i s)
   called-everywhere i k s l = go (is (usable clock s))
     where
-      go : Is (usable clock s) → count (h .bridges) (λ b. eqb (u s b) (callCell (jobAt jobs i .number))) ≡ bit (isPlaced h clock jobs t i s)
-      go (is-true e) = called-in-slot h clock jobs t can i k s l e
+      go : Is (usable clock s) → count (h .bridges) (λ b. eqb (u s b) (callCell (jobAt jobs i .number))) ≡ bit (isPlaced ties h clock jobs t i s)
+      go (is-true e) = called-in-slot ties o h clock jobs t can i k s l e
       go (is-false e) =
           count-none (h .bridges) (λ b. eqb (u s b) (callCell (jobAt jobs i .number)))
-          (λ b m. eqb-no (u s b) (callCell (jobAt jobs i .number)) (λ q. clash (sym (new-usable h clock jobs t u good (called-changes h clock jobs t) i k s b l m q) ∙ e)))
-          ∙ sym (ap bit (gone-unplaced h clock jobs t can i k s e))
-
-  -- so in a table w with the same cells the jobs of each slot are those that the rule chooses, by what the table itself shows
-  pub called-rule : (w : Cells) → Each h (λ s b. called h clock jobs t s b ≡ w s b) → (s : ℕ) → s < h .slots → JobsRule h clock jobs t w s
-  called-rule w equal s l =
-      shown-rule (lengths jobs) (callFreeCount h clock jobs t) s (length jobs) (λ i. jobAt jobs i .slots) (cellsOfJob h jobs w)
-      (count (h .bridges) (λ b. emptyFree clock t s b || lost t w s b)) (length-lengths jobs) (λ i k. at-lengths jobs i)
-      (count-ext (h .bridges) (λ b. callFree h clock jobs t s b) (λ b. emptyFree clock t s b || lost t w s b)
-      (λ b m. ap (λ (c : Bool). emptyFree clock t s b || c)
-      (sym (called-lost s b l m) ∙ ap (λ (v : ℕ). isOptional (t s b) && not (isOptional v)) (equal s b l m))))
-      (λ i k r m. count-ext (h .bridges) (λ b. eqb (w r b) (callCell (jobAt jobs i .number))) (λ b. eqb (u r b) (callCell (jobAt jobs i .number)))
-      (λ b n. ap (λ (v : ℕ). eqb v (callCell (jobAt jobs i .number))) (sym (equal r b (omega arith) n)))
-      ∙ called-everywhere i k r (omega arith))
+          (λ b m. eqb-no (u s b) (callCell (jobAt jobs i .number)) (λ q. clash (sym (new-usable h clock jobs t u good (called-changes ties h clock jobs t) i k s b l m q) ∙ e)))
+          ∙ sym (ap bit (gone-unplaced ties o h clock jobs t can i k s e))
 
   -- it is well-formed and valid
-  pub called-wellFormed : WellFormed h (called h clock jobs t)
+  pub called-wellFormed : WellFormed h (called ties h clock jobs t)
   called-wellFormed =
-      changed-wellFormed h clock jobs t u (good .high) (called-changes h clock jobs t) can valid wf
-      (omega (arith, changed-jobCount h clock jobs t u (good .high) (called-changes h clock jobs t), good .few))
-      (λ i k s l late. omega (arith, called-in-slot h clock jobs t can i k s l late, bit-le (isPlaced h clock jobs t i s)))
+      changed-wellFormed h clock jobs t u (good .high) (called-changes ties h clock jobs t) can valid wf
+      (omega (arith, changed-jobCount h clock jobs t u (good .high) (called-changes ties h clock jobs t), good .few))
+      (λ i k s l late. omega (arith, called-in-slot ties o h clock jobs t can i k s l late, bit-le (isPlaced ties h clock jobs t i s)))
 
   pub called-exact : callFits h clock jobs t ≡ true → (i : ℕ) → i < length jobs
-      → holding h (called h clock jobs t) (callCell (jobAt jobs i .number)) ≡ jobAt jobs i .slots
+      → holding h (called ties h clock jobs t) (callCell (jobAt jobs i .number)) ≡ jobAt jobs i .slots
   called-exact fits i k =
-      sym (above-new h clock jobs t u good (called-changes h clock jobs t) i k) ∙ called-above h clock jobs t can i k valid wf fits
+      sym (above-new h clock jobs t u good (called-changes ties h clock jobs t) i k) ∙ called-above ties o h clock jobs t can i k valid wf fits
 
-  pub called-valid : callFits h clock jobs t ≡ true → ValidCall h clock jobs t (called h clock jobs t)
-  called-valid fits = record { wellFormed = called-wellFormed; changes = called-changes h clock jobs t; exact = called-exact fits }
+  pub called-valid : callFits h clock jobs t ≡ true → ValidCall h clock jobs t (called ties h clock jobs t)
+  called-valid fits = record { wellFormed = called-wellFormed; changes = called-changes ties h clock jobs t; exact = called-exact fits }
+
+-- so in a table w with the same cells, placed by the order of ties in force, the jobs of each slot are those that the rule chooses, by what the table itself shows
+pub called-rule : (hold : Bool) (h : Head) (clock : ℕ) (jobs : List Job) (t : Cells) → Valid h → WellFormed h t → Good h t jobs
+    → (w : Cells) → Each h (λ s b. called (tieOf hold) h clock jobs t s b ≡ w s b) → (s : ℕ) → s < h .slots → JobsRule h clock hold jobs t w s
+called-rule hold h clock jobs t valid wf good w equal s l =
+    shown-rule ties o (lengths jobs) (callFreeCount h clock jobs t) s (length jobs) (tie-set hold s (length jobs)) (λ i. jobAt jobs i .slots) (cellsOfJob h jobs w)
+    (count (h .bridges) (λ b. emptyFree clock t s b || lost t w s b)) (length-lengths jobs) (λ i k. at-lengths jobs i)
+    (count-ext (h .bridges) (λ b. callFree h clock jobs t s b) (λ b. emptyFree clock t s b || lost t w s b)
+    (λ b m. ap (λ (c : Bool). emptyFree clock t s b || c)
+    (sym (called-lost ties o h clock jobs t valid wf good s b l m) ∙ ap (λ (v : ℕ). isOptional (t s b) && not (isOptional v)) (equal s b l m))))
+    (λ i k r m. count-ext (h .bridges) (λ b. eqb (w r b) (callCell (jobAt jobs i .number))) (λ b. eqb (called ties h clock jobs t r b) (callCell (jobAt jobs i .number)))
+    (λ b n. ap (λ (v : ℕ). eqb v (callCell (jobAt jobs i .number))) (sym (equal r b (omega arith) n)))
+    ∙ called-everywhere ties o h clock jobs t valid wf good i k r (omega arith))
+  where
+    ties : Ties
+    ties = tieOf hold
+
+    o : TotalTies ties
+    o = tie-total hold

@@ -1,11 +1,12 @@
 -- The claims about plan and call hold for all inputs: `plan-claim` and `call-claim`, of the functions that the entries are held to.
 --
--- In order: the plan (`plan-granted`, `plan-claim`, `plan-only-five`); the call (`nine-counts-all`, `call-accepted`, `call-claim`).
+-- In order: the plan (`plan-granted`, `plan-any-order`, `plan-any-answer`, `plan-claim`, `plan-only-five`); the call (`nine-counts-all`, `taken-any-order`, `call-any-answer`, `call-accepted`,
+-- `call-claim`).
 -- Assumes nothing.
 use Prim.Native.Nat.{ℕ, _≤_, _<_}
 use native.Mathlib.Omega.{arith}
 use native.Mathlib.Nat.{le-trans}
-use mathlib.Core.Path.{_≡_, refl, sym, _∙_, ap, subst}
+use mathlib.Core.Path.{_≡_, refl, sym, _∙_, ap, ap₂, subst}
 use mathlib.Core.Logic.{_⊎_, inl, inr, _↔_}
 use mathlib.Core.Bool.{and-comm, Bool, true, false, not, _&&_}
 use mathlib.Core.Option.{Option, none, some}
@@ -14,29 +15,31 @@ use lib.ListN.{length}
 use lib.Dec.{ltb, leb}
 use Rattle.laws.specs.Sums.{only}
 use Rattle.laws.specs.Lists.{at}
+use Rattle.laws.specs.Placement.{Ties, TotalTies}
 use Rattle.laws.specs.Eviction.{ones}
 use Rattle.laws.proofs.Tests.{Is, is-true, is-false, is, clash, true-of-not, not-is-false, none-some, or-right, and-implied}
 use Rattle.laws.proofs.Comparisons.{leb-yes}
 use Rattle.laws.proofs.Sums.{sum-ext}
-use Rattle.station.specs.Head.{Head, Job, Valid, valid}
+use Rattle.station.specs.Head.{Head, Job, Valid, withTie, valid}
 use Rattle.station.specs.Refusal.{Refusal, tooShort, outOfLimits, notWellFormed, numberUsed, tooMany, mandatoryNotFeasible, callNotFeasible, try}
 use Rattle.station.specs.Refusal.{firstOf}
 use Rattle.station.proofs.Theorems.{first-of-none, first-none, first-some, append-none, append-left-none, Never, end, skip, last-cause, cause-last}
 use Rattle.station.proofs.Theorems.{within-low}
 use Rattle.placing.specs.Table.{Cells, cell, cells, Each, presetCount, numberIn, isOptional, isMandatory, WellFormed}
-use Rattle.placing.specs.State.{State, wellFormedFrame}
+use Rattle.placing.specs.State.{State, withOrder, wellFormedFrame}
 use Rattle.placing.specs.Valid.{ValidPlan, ValidCall, jobAt, lost, lostUpTo, optionalOf, priorityOf}
-use Rattle.placing.specs.Plan.{planFits, mandatories, grants, planned, rank}
+use Rattle.placing.specs.Plan.{planFits, mandatories, needsFrom, grants, tieOf, planned, rank}
 use Rattle.placing.specs.Call.{evictionOrder, InEvictionOrder, inSet, evictedSet, callFits, called}
 use Rattle.placing.specs.Capacity.{GreatestExcess, longestJobs, emptyCapacity}
 use Rattle.placing.specs.Outcomes.{Cost, costOf, written, PlanAnswer, PlanOutcome, planCauses, planOf, frameCauses, jobCauses, jobsOutside}
 use Rattle.placing.specs.Outcomes.{jobsUsed, jobsTooMany, callCauses, CallAnswer, CallOutcome, calledState, callOf}
-use Rattle.placing.specs.Claims.{Running, SamePast, PresetsRule, PlanClaim, CallClaim, JobsRule, beforeSeven, optionalOfFirst}
+use Rattle.placing.specs.Claims.{Running, SamePast, PresetsRule, BestPlan, PlanClaim, LeastCall, CallClaim, JobsRule, beforeSeven, optionalOfFirst}
 use Rattle.placing.proofs.CountedCells.{cells-ext, holding-ext, lost-was, preset-with, priorityOf-is}
 use Rattle.placing.proofs.WellFormed.{validPlan-ext, validCall-ext}
 use Rattle.placing.proofs.WrittenTable.{frame-cells, cell-written, written-past}
 use Rattle.placing.proofs.NewJobs.{Good}
 use Rattle.placing.proofs.Causes.{recordCauses, long-and-valid, no-record-cause, running-of, jobs-inside, good-of}
+use Rattle.placing.proofs.Placing.{tie-total}
 use Rattle.placing.proofs.PlanTheorem.{plan-fits-of-valid, planned-valid, planned-optional, planned-rule, planned-best}
 use Rattle.placing.proofs.EvictionOrder.{order-is}
 use Rattle.placing.proofs.LeastEviction.{valid-fits, fewest-upto, evicted-first-smallest}
@@ -63,9 +66,13 @@ plan-passes h t e =
     let five = first-none mandatoryNotFeasible (not (planFits h (mandatories h))) [] (sym (append-none (recordCauses h t) (tryFive h) before) ∙ e) in
     record { long = reached .0; ok = reached .1; fits = true-of-not _ (five .0) }
 
+-- the table that the rule makes with the head's own order of ties
+abbrev ownPlan : Head → Cells
+ownPlan h = planned (tieOf (h .hold)) h
+
 -- the answer tells which of the two it was
 data PlanIs (h : Head) (t : List ℕ) : PlanOutcome → Type 0 where
-  done : firstOf (planCauses h t) ≡ none → PlanIs h t (record { answer = PlanAnswer.granted (grants h); table = written h (planned h) t })
+  done : firstOf (planCauses h t) ≡ none → PlanIs h t (record { answer = PlanAnswer.granted (grants h); table = written h (ownPlan h) t })
   stopped : (r : Refusal) → firstOf (planCauses h t) ≡ some r → PlanIs h t (record { answer = PlanAnswer.refused 0 r; table = t })
 
 plan-is : (h : Head) (t : List ℕ) → PlanIs h t (planOf h t)
@@ -82,19 +89,19 @@ refused-granted e = let z : _≡_ {A = ℕ} 0 1 = cc in omega arith
 module _ (h : Head) (t : List ℕ) where
   -- the table that the plan leaves, and that its cells are the plan's
   abbrev planTable : List ℕ
-  planTable = written h (planned h) t
+  planTable = written h (ownPlan h) t
 
-  cell-planned : Each h (λ s b. planned h s b ≡ cell h planTable s b)
-  cell-planned s b l m = sym (cell-written h (planned h) t s b l m)
+  cell-planned : Each h (λ s b. ownPlan h s b ≡ cell h planTable s b)
+  cell-planned s b l m = sym (cell-written h (ownPlan h) t s b l m)
 
-  optional-planned : (i : ℕ) → optionalOf h (planned h) i ≡ optionalOf h (cell h planTable) i
-  optional-planned i = holding-ext h (planned h) (cell h planTable) cell-planned _
+  optional-planned : (i : ℕ) → optionalOf h (ownPlan h) i ≡ optionalOf h (cell h planTable) i
+  optional-planned i = holding-ext h (ownPlan h) (cell h planTable) cell-planned _
 
   five-never : Never mandatoryNotFeasible (recordCauses h t)
   five-never = skip tooShort (ltb (length t) 512) (λ e. omega arith) (skip outOfLimits (not (valid h)) (λ e. omega arith) end)
 
   plan-valid : planFits h (mandatories h) ≡ true → Valid h → ValidPlan h (cell h planTable)
-  plan-valid p ok = validPlan-ext h (planned h) (cell h planTable) cell-planned (planned-valid ok p)
+  plan-valid p ok = validPlan-ext h (ownPlan h) (cell h planTable) cell-planned (planned-valid (tieOf (h .hold)) (tie-total (h .hold)) ok p)
 
   five-only : (o : PlanOutcome) → PlanIs h t o → o .answer ≡ PlanAnswer.refused 0 mandatoryNotFeasible
       → (512 ≤ length t) × Valid h × ((u : List ℕ) → ValidPlan h (cell h u) → ⊥)
@@ -118,20 +125,33 @@ module _ (h : Head) (t : List ℕ) where
           cc
 
   same-past : (o : PlanOutcome) → PlanIs h t o → SamePast h t (o .table)
-  same-past _ (done e) = let p = plan-passes h t e in written-past h (planned h) t (le-trans (frame-cells h (p .ok)) (p .long))
+  same-past _ (done e) = let p = plan-passes h t e in written-past h (ownPlan h) t (le-trans (frame-cells h (p .ok)) (p .long))
   same-past _ (stopped r e) = record { long = refl; past = refl }
 
 -- what is known of a plan that is granted: its grants, its cells, its head
 pub plan-granted : (h : Head) (t g : List ℕ) → planOf h t .answer ≡ PlanAnswer.granted g
-    → (g ≡ grants h) × (planFits h (mandatories h) ≡ true) × Valid h × (512 ≤ length t) × (planOf h t .table ≡ written h (planned h) t)
+    → (g ≡ grants h) × (planFits h (mandatories h) ≡ true) × Valid h × (512 ≤ length t) × (planOf h t .table ≡ written h (planned (tieOf (h .hold)) h) t)
 plan-granted h t g = go (planOf h t) (plan-is h t)
   where
     go : (o : PlanOutcome) → PlanIs h t o → o .answer ≡ PlanAnswer.granted g
-        → (g ≡ grants h) × (planFits h (mandatories h) ≡ true) × Valid h × (512 ≤ length t) × (o .table ≡ written h (planned h) t)
+        → (g ≡ grants h) × (planFits h (mandatories h) ≡ true) × Valid h × (512 ≤ length t) × (o .table ≡ written h (planned (tieOf (h .hold)) h) t)
     go _ (done e) q = let p = plan-passes h t e in ((cc), p .fits, p .ok, p .long, refl)
     go _ (stopped r e) q = absurd (refused-granted q)
 
+-- the rule's table with any order of ties is a best plan, that of the head's own order among them
+plan-any-order : (h : Head) (t g : List ℕ) → planOf h t .answer ≡ PlanAnswer.granted g → (ties : Ties) → TotalTies ties → BestPlan h g (planned ties h)
+plan-any-order h t g q ties o =
+    let p = plan-granted h t g q in
+    record {
+      valid = planned-valid ties o (p .2) (p .1);
+      reported = λ i l. ap (λ (x : List ℕ). at x i) (p .0) ∙ sym (planned-optional ties o (p .2) (p .1) i l);
+      best = λ v w k. planned-best ties o (p .2) (p .1) w k;
+    }
+
 module _ (h : Head) (t g : List ℕ) (q : planOf h t .answer ≡ PlanAnswer.granted g) where
+  own-best : BestPlan h g (ownPlan h)
+  own-best = plan-any-order h t g q (tieOf (h .hold)) (tie-total (h .hold))
+
   plan-granted-valid : ValidPlan h (cell h (planOf h t .table))
   plan-granted-valid = let p = plan-granted h t g q in rw (p .4) (plan-valid h t (p .1) (p .2))
 
@@ -140,12 +160,12 @@ module _ (h : Head) (t g : List ℕ) (q : planOf h t .answer ≡ PlanAnswer.gran
       let p = plan-granted h t g q in
       subst (λ (x : List ℕ). PresetsRule h g (cell h x) s) (sym (p .4))
       (subst (λ (x : List ℕ). PresetsRule h x (cell h (planTable h t)) s) (sym (p .0))
-      (planned-rule (p .2) (p .1) (cell h (planTable h t)) (λ r b k m. sym (cell-written h (planned h) t r b k m)) s l))
+      (planned-rule (p .2) (p .1) (cell h (planTable h t)) (λ r b k m. sym (cell-written h (ownPlan h) t r b k m)) s l))
 
   plan-granted-reported : (i : ℕ) → i < presetCount h → at g i ≡ optionalOf h (cell h (planOf h t .table)) i
   plan-granted-reported i l =
       let p = plan-granted h t g q in
-      rw (p .0, p .4) (sym (planned-optional (p .2) (p .1) i l) ∙ optional-planned h t i)
+      rw (p .4) (own-best .reported i l ∙ optional-planned h t i)
 
   plan-granted-best : (u : List ℕ) → ValidPlan h (cell h u) → (k : ℕ)
       → optionalOfFirst h (cell h u) k ≤ optionalOfFirst h (cell h (planOf h t .table)) k
@@ -153,10 +173,38 @@ module _ (h : Head) (t g : List ℕ) (q : planOf h t .answer ≡ PlanAnswer.gran
       let p = plan-granted h t g q in
       rw (p .4) (omega (
         arith,
-        sum-ext (presetCount h) (λ i. only (ltb (rank h i) k) (optionalOf h (planned h) i))
+        sum-ext (presetCount h) (λ i. only (ltb (rank h i) k) (optionalOf h (ownPlan h) i))
             (λ i. only (ltb (rank h i) k) (optionalOf h (cell h (planTable h t)) i)) (λ i l. ap (only (ltb (rank h i) k)) (optional-planned h t i)),
-        planned-best (p .2) (p .1) w k,
+        own-best .best u w k,
       ))
+
+-- the answer, by the first cause that holds and by the grants
+abbrev planReply : Option Refusal → List ℕ → PlanAnswer
+planReply none g = PlanAnswer.granted g
+planReply (some r) g = PlanAnswer.refused 0 r
+
+plan-answer : (h : Head) (t : List ℕ) → planOf h t .answer ≡ planReply (firstOf (planCauses h t)) (grants h)
+plan-answer h t = go (planOf h t) (plan-is h t)
+  where
+    go : (o : PlanOutcome) → PlanIs h t o → o .answer ≡ planReply (firstOf (planCauses h t)) (grants h)
+    go _ (done e) = ap (λ (c : Option Refusal). planReply c (grants h)) (sym e)
+    go _ (stopped r e) = ap (λ (c : Option Refusal). planReply c (grants h)) (sym e)
+
+-- the order of ties of a head: nothing that the answer goes by has to do with it
+module _ (h : Head) (hold : Bool) where
+  tie-causes : (t : List ℕ) → planCauses (withTie h hold) t ≡ planCauses h t
+  unfolding valid
+  tie-causes t = refl
+
+  tie-grants : grants (withTie h hold) ≡ grants h
+  unfolding grants needsFrom
+  tie-grants = refl
+
+  plan-any-answer : (t : List ℕ) → planOf (withTie h hold) t .answer ≡ planOf h t .answer
+  plan-any-answer t =
+      plan-answer (withTie h hold) t
+      ∙ ap₂ planReply (ap firstOf (tie-causes t)) tie-grants
+      ∙ sym (plan-answer h t)
 
 -- The plan theorem: the claims about plan hold for every head record and every table.
 pub plan-claim : (h : Head) (t : List ℕ) → PlanClaim h t
@@ -167,6 +215,8 @@ plan-claim h t = record {
   reported = plan-granted-reported h t;
   best = plan-granted-best h t;
   capacity = plan-by-capacity h;
+  any-order = plan-any-order h t;
+  any-answer = λ hold. plan-any-answer h hold t;
   past = same-past h t (planOf h t) (plan-is h t);
 }
 
@@ -204,14 +254,22 @@ nine-counts-all h t u ok w =
         let p = preset-with h (numberIn (t s b)) (w .presets s b l m (or-right (isMandatory (t s b)) (isOptional (t s b)) (lost-was t u s b e))) in
         omega (arith, ap (priorityOf h) (p .2), priorityOf-is h ok (p .0) (p .1), ok .limits (p .0) (p .1) .priority)
 
+-- the answer, by the first cause that holds and by the cost
+abbrev callReply : Option Refusal → Cost → CallAnswer
+callReply none n = CallAnswer.taken n
+callReply (some r) n = CallAnswer.refused 0 r
+
 module _ (h : Head) (jobs : List Job) (st : State) where
   -- the causes of a call, in the listed order
   abbrev tried : List (Option Refusal)
   tried = frameCauses h st ++ callCauses h (st .clock) jobs (cell h (st .table))
 
-  -- the table that the call leaves, its cells, and the whole outcome
+  -- the table that the rule makes with the order of ties in force; the one that the call leaves, its cells, and the whole outcome
+  abbrev ownCall : Cells
+  ownCall = called (tieOf (st .hold)) h (st .clock) jobs (cell h (st .table))
+
   abbrev tableLeft : List ℕ
-  tableLeft = written h (called h (st .clock) jobs (cell h (st .table))) (st .table)
+  tableLeft = written h ownCall (st .table)
 
   abbrev cellsLeft : Cells
   cellsLeft = cell h tableLeft
@@ -231,6 +289,13 @@ module _ (h : Head) (jobs : List Job) (st : State) where
       go : (o : Option Refusal) → firstOf tried ≡ o → CallIs (callOf h jobs st)
       go none e = rw (e, callOf) (placed e)
       go (some r) e = rw (e, callOf) (stopped r e)
+
+  call-answer : callOf h jobs st .answer ≡ callReply (firstOf tried) (costOf h jobs st)
+  call-answer = go (callOf h jobs st) call-is
+    where
+      go : (o : CallOutcome) → CallIs o → o .answer ≡ callReply (firstOf tried) (costOf h jobs st)
+      go _ (placed e) = ap (λ (c : Option Refusal). callReply c (costOf h jobs st)) (sym e)
+      go _ (stopped r e) = ap (λ (c : Option Refusal). callReply c (costOf h jobs st)) (sym e)
 
   -- no cause before 7 holds, so none of the jobs' own
   jobs-pass : firstOf (beforeSeven h jobs st) ≡ none → firstOf (jobCauses h jobs (cell h (st .table))) ≡ none
@@ -257,15 +322,15 @@ module _ (h : Head) (jobs : List Job) (st : State) where
       let last = sym (append-none (beforeSeven h jobs st) trySeven before) ∙ e in
       (before, true-of-not _ (first-none callNotFeasible (not (callFits h (st .clock) jobs (cell h (st .table)))) [] last .0))
 
-  cell-called : Each h (λ s b. called h (st .clock) jobs (cell h (st .table)) s b ≡ cellsLeft s b)
-  cell-called s b l m = sym (cell-written h (called h (st .clock) jobs (cell h (st .table))) (st .table) s b l m)
+  cell-called : Each h (λ s b. ownCall s b ≡ cellsLeft s b)
+  cell-called s b l m = sym (cell-written h ownCall (st .table) s b l m)
 
   cellsLeft-valid : Running h st → Good h (cell h (st .table)) jobs → callFits h (st .clock) jobs (cell h (st .table)) ≡ true → ValidCall h (st .clock) jobs (cell h (st .table)) cellsLeft
   cellsLeft-valid r g f =
-      validCall-ext h (st .clock) jobs (cell h (st .table)) (cell h (st .table)) (called h (st .clock) jobs (cell h (st .table))) cellsLeft (λ s b l m. refl) cell-called
-      (called-valid h (st .clock) jobs (cell h (st .table)) (r .valid) (r .wellFormed .cells) g f)
+      validCall-ext h (st .clock) jobs (cell h (st .table)) (cell h (st .table)) ownCall cellsLeft (λ s b l m. refl) cell-called
+      (called-valid (tieOf (st .hold)) (tie-total (st .hold)) h (st .clock) jobs (cell h (st .table)) (r .valid) (r .wellFormed .cells) g f)
 
-  cellsLeft-lost : (s b : ℕ) → s < h .slots → b < h .bridges → lost (cell h (st .table)) (called h (st .clock) jobs (cell h (st .table))) s b ≡ lost (cell h (st .table)) cellsLeft s b
+  cellsLeft-lost : (s b : ℕ) → s < h .slots → b < h .bridges → lost (cell h (st .table)) ownCall s b ≡ lost (cell h (st .table)) cellsLeft s b
   cellsLeft-lost s b l m = ap (λ (v : ℕ). isOptional (cell h (st .table) s b) && not (isOptional v)) (cell-called s b l m)
 
   call-seven : (o : CallOutcome) → CallIs o → (o .answer ≡ CallAnswer.refused 0 callNotFeasible)
@@ -301,7 +366,7 @@ module _ (h : Head) (jobs : List Job) (st : State) where
   call-past : (o : CallOutcome) → CallIs o → SamePast h (st .table) (o .after .table)
   call-past _ (placed e) =
       let p = passes (placed-passes e .0) in
-      written-past h (called h (st .clock) jobs (cell h (st .table))) (st .table) (le-trans (frame-cells h (p .0 .valid)) (p .0 .long))
+      written-past h ownCall (st .table) (le-trans (frame-cells h (p .0 .valid)) (p .0 .long))
   call-past _ (stopped r e) = record { long = refl; past = refl }
 
   -- an accepted call: no cause holds, and the outcome is that of the rule
@@ -328,16 +393,43 @@ module _ (h : Head) (jobs : List Job) (st : State) where
     taken-table : callOf h jobs st .after .table ≡ tableLeft
     taken-table = ap (λ (o : CallOutcome). o .after .table) (taken-is n q .1)
 
+    taken-count : n .count ≡ ones (evictedSet h (st .clock) jobs (cell h (st .table)))
+    taken-count =
+        let o = taken-is n q .1 in
+        let same : n ≡ costOf h jobs st = cc in
+        ap (λ (c : Cost). c .count) same
+
+    -- the rule's table with any order of ties leaves a valid table that loses least, that of the order in force among them
+    taken-any-order : (ties : Ties) → TotalTies ties → LeastCall h (st .clock) jobs n (cell h (st .table)) (called ties h (st .clock) jobs (cell h (st .table)))
+    taken-any-order ties o =
+        let t = cell h (st .table) in
+        let r = taken-passes .0 in
+        let good = taken-passes .1 in
+        record {
+          valid = called-valid ties o h (st .clock) jobs t (r .valid) (r .wellFormed .cells) good taken-fits;
+          lost-cells = called-lost ties o h (st .clock) jobs t (r .valid) (r .wellFormed .cells) good;
+          reported = taken-count ∙ sym (called-count ties o h (st .clock) jobs t (r .valid) (r .wellFormed .cells) good);
+          least = λ v w p.
+              omega (
+                arith,
+                called-upto ties o h (st .clock) jobs t (r .valid) (r .wellFormed .cells) good p,
+                fewest-upto h (st .clock) jobs t (cell h v) (r .valid) (r .wellFormed .cells) good w p,
+              );
+        }
+
+    own-least : LeastCall h (st .clock) jobs n (cell h (st .table)) ownCall
+    own-least = taken-any-order (tieOf (st .hold)) (tie-total (st .hold))
+
     taken-valid : ValidCall h (st .clock) jobs (cell h (st .table)) (cell h (callOf h jobs st .after .table))
     taken-valid = rw taken-table (cellsLeft-valid (taken-passes .0) (taken-passes .1) taken-fits)
 
-    taken-rule : Each h (λ s b. cell h (callOf h jobs st .after .table) s b ≡ called h (st .clock) jobs (cell h (st .table)) s b)
-    taken-rule = rw taken-table (cell-written h (called h (st .clock) jobs (cell h (st .table))) (st .table))
+    taken-rule : Each h (λ s b. cell h (callOf h jobs st .after .table) s b ≡ ownCall s b)
+    taken-rule = rw taken-table (cell-written h ownCall (st .table))
 
-    taken-slots : (s : ℕ) → s < h .slots → JobsRule h (st .clock) jobs (cell h (st .table)) (cell h (callOf h jobs st .after .table)) s
+    taken-slots : (s : ℕ) → s < h .slots → JobsRule h (st .clock) (st .hold) jobs (cell h (st .table)) (cell h (callOf h jobs st .after .table)) s
     taken-slots s l =
-        subst (λ (x : List ℕ). JobsRule h (st .clock) jobs (cell h (st .table)) (cell h x) s) (sym taken-table)
-        (called-rule h (st .clock) jobs (cell h (st .table)) (taken-passes .0 .valid) (taken-passes .0 .wellFormed .cells) (taken-passes .1) cellsLeft cell-called s l)
+        subst (λ (x : List ℕ). JobsRule h (st .clock) (st .hold) jobs (cell h (st .table)) (cell h x) s) (sym taken-table)
+        (called-rule (st .hold) h (st .clock) jobs (cell h (st .table)) (taken-passes .0 .valid) (taken-passes .0 .wellFormed .cells) (taken-passes .1) cellsLeft cell-called s l)
 
     taken-order : InEvictionOrder h (st .clock) (cell h (st .table)) (evictionOrder h (st .clock) (cell h (st .table)))
     taken-order = order-is h (st .clock) (cell h (st .table)) (taken-passes .0 .valid) (taken-passes .0 .wellFormed .cells)
@@ -345,38 +437,33 @@ module _ (h : Head) (jobs : List Job) (st : State) where
     taken-lost : Each h (λ s b. lost (cell h (st .table)) (cell h (callOf h jobs st .after .table)) s b
         ≡ inSet (evictionOrder h (st .clock) (cell h (st .table))) (evictedSet h (st .clock) jobs (cell h (st .table))) s b)
     taken-lost s b l m =
-        rw taken-table
-        (sym (cellsLeft-lost s b l m)
-        ∙ called-lost h (st .clock) jobs (cell h (st .table)) (taken-passes .0 .valid) (taken-passes .0 .wellFormed .cells) (taken-passes .1) s b l m)
+        rw taken-table (sym (cellsLeft-lost s b l m) ∙ own-least .lost-cells s b l m)
 
     taken-reported : n .count ≡ cells h (λ s b. lost (cell h (st .table)) (cell h (callOf h jobs st .after .table)) s b)
     taken-reported =
-        let o = taken-is n q .1 in
-        let same : n ≡ costOf h jobs st = cc in
         rw taken-table
-        (ap (λ (c : Cost). c .count) same
-        ∙ sym (called-count h (st .clock) jobs (cell h (st .table)) (taken-passes .0 .valid) (taken-passes .0 .wellFormed .cells) (taken-passes .1))
-        ∙ cells-ext h (λ s b. lost (cell h (st .table)) (called h (st .clock) jobs (cell h (st .table))) s b) (λ s b. lost (cell h (st .table)) cellsLeft s b) cellsLeft-lost)
+        (own-least .reported
+        ∙ cells-ext h (λ s b. lost (cell h (st .table)) ownCall s b) (λ s b. lost (cell h (st .table)) cellsLeft s b) cellsLeft-lost)
 
     taken-excess : GreatestExcess (longestJobs jobs) (emptyCapacity h (st .clock) (cell h (st .table))) (n .count)
     taken-excess =
-        let o = taken-is n q .1 in
-        let same : n ≡ costOf h jobs st = cc in
-        rw (ap (λ (c : Cost). c .count) same ∙ evicts-excess h (st .clock) jobs (cell h (st .table)) (taken-passes .0 .valid) (taken-passes .0 .wellFormed .cells) taken-fits)
+        rw (taken-count ∙ evicts-excess h (st .clock) jobs (cell h (st .table)) (taken-passes .0 .valid) (taken-passes .0 .wellFormed .cells) taken-fits)
         (greatest-excess h (st .clock) jobs (cell h (st .table)))
 
     taken-least : (u : List ℕ) → ValidCall h (st .clock) jobs (cell h (st .table)) (cell h u) → (p : ℕ)
         → lostUpTo h (cell h (st .table)) (cell h (callOf h jobs st .after .table)) p ≤ lostUpTo h (cell h (st .table)) (cell h u) p
     taken-least u v p =
-        let r = taken-passes .0 in
         let better : ℕ → ℕ → Bool = λ s b. leb (priorityOf h (numberIn (cell h (st .table) s b))) p in
         rw taken-table (omega (
           arith,
-          cells-ext h (λ s b. lost (cell h (st .table)) (called h (st .clock) jobs (cell h (st .table))) s b && better s b) (λ s b. lost (cell h (st .table)) cellsLeft s b && better s b)
+          cells-ext h (λ s b. lost (cell h (st .table)) ownCall s b && better s b) (λ s b. lost (cell h (st .table)) cellsLeft s b && better s b)
               (λ s b l m. ap (λ (c : Bool). c && better s b) (cellsLeft-lost s b l m)),
-          called-upto h (st .clock) jobs (cell h (st .table)) (r .valid) (r .wellFormed .cells) (taken-passes .1) p,
-          fewest-upto h (st .clock) jobs (cell h (st .table)) (cell h u) (r .valid) (r .wellFormed .cells) (taken-passes .1) v p,
+          own-least .least u v p,
         ))
+
+-- the order of ties in force: nothing that the answer goes by has to do with it
+call-any-answer : (h : Head) (jobs : List Job) (st : State) (hold : Bool) → callOf h jobs (withOrder hold st) .answer ≡ callOf h jobs st .answer
+call-any-answer h jobs st hold = call-answer h jobs (withOrder hold st) ∙ sym (call-answer h jobs st)
 
 -- what is known of an accepted call: its frame is a running one, its jobs have passed their causes, and each needs a slot
 pub call-accepted : (h : Head) (jobs : List Job) (st : State) (n : Cost) → callOf h jobs st .answer ≡ CallAnswer.taken n
@@ -401,5 +488,7 @@ call-claim h jobs st = record {
       let p = passes h jobs st e in
       call-by-capacity h (st .clock) jobs (cell h (st .table)) (p .0 .valid) (p .0 .wellFormed .cells) (p .1);
   excess = taken-excess h jobs st;
+  any-order = taken-any-order h jobs st;
+  any-answer = call-any-answer h jobs st;
   past = call-past h jobs st (callOf h jobs st) (call-is h jobs st);
 }

@@ -16,14 +16,14 @@ use mathlib.Core.Bool.{Bool, true, false, cond, _&&_, _||_, and-false}
 use mathlib.Core.List.{List, [], _∷_, _++_, map}
 use lib.ListN.{length, replicate}
 use lib.Dec.{ltb, leb, eqb}
-use Rattle.laws.specs.Sums.{bit, only, sum, count, ascending}
+use Rattle.laws.specs.Sums.{bit, only, sum, count, Total, ascending}
 use Rattle.laws.specs.Eviction.{added, ones, evictedIn, marked, Rising, high, low}
 use Rattle.laws.proofs.Tests.{Is, is-true, is-false, is, clash, test-ext, both, left-of, right-of, or-left, or-right, or-cases}
 use Rattle.laws.proofs.Comparisons.{lt-of, ge-of, le-of, eq-of, eqb-self, leb-yes, eqb-no, eqb-comm}
 use Rattle.laws.proofs.Sums.{only-or, only-le-self, sum-ext, sum-le, sum-zero, sum-swap, sum-point, sum-only-eqb, sum-only-eqb-le}
 use Rattle.laws.proofs.Counts.{bit-le, only-bit, only-bit-comm, count-or}
 use Rattle.laws.proofs.Lists.{All, none, more, Pairwise, empty, first, all-imp, all-append, pairwise-imp, pairwise-append, pairwise-at}
-use Rattle.laws.proofs.Order.{Total, order-of-position, position-below, position-injective, ascending-total}
+use Rattle.laws.proofs.Order.{order-of-position, position-below, position-injective, ascending-total}
 use Rattle.laws.proofs.Eviction.{added-at}
 use Rattle.station.specs.Head.{Head, Valid, presetAt}
 use Rattle.placing.specs.Table.{Cells, WellFormed, cells, presetCount, numberAt, numberIn, hasPreset, isEmpty, isMandatory, isOptional}

@@ -1,7 +1,7 @@
 -- Small frames computed and proved: what the definitions of this layer say of them, and of the frame with free 3, 1, 1, 1 what holds of every
 -- placement.
 --
--- In order: what computes; a plan's ties and bridges (`three-planned`); the clock's own slot (`clock-slot`); the worst priority is evicted
+-- In order: what computes; a plan's ties and bridges (`three-planned`); the two orders of ties (`held-..`, `calls-by-order`); the clock's own slot (`clock-slot`); the worst priority is evicted
 -- (`worst-evicted`); what every valid placement of a call that is taken loses (`must-go`, `goes`); free 3, 1, 1, 1: no placement in the empty cells
 -- (`no-empty-placement`), one cell must go and one goes (`one-must-go`, `one-goes`); the room for r at both edges (`capacity-3111`, `capacity-clock`, `longest-first`, `plan-capacity`, `no-plan-3111`, `plan-3121`). Then what holds the definitions to document 01 from two sides, each a
 -- list of cases and one fact: each clause of a sound table broken alone (`sound-broken`); the limits of a call and of the lent table and clock at both edges,
@@ -12,17 +12,17 @@
 use Prim.Native.Nat.{ℕ, zero, suc, _+_, _≤_}
 use native.Mathlib.Omega.{arith}
 use mathlib.Core.Path.{_≡_, refl, sym}
-use mathlib.Core.Bool.{Bool}
+use mathlib.Core.Bool.{Bool, true, false}
 use mathlib.Core.List.{List, [], _∷_, _++_, map}
 use lib.ListN.{take, replicate}
 use Rattle.laws.specs.Sums.{sum, greatest, every}
 use Rattle.laws.specs.Lists.{at, tabulate}
-use Rattle.laws.specs.Placement.{served, left, Placed, everywhere, excess}
+use Rattle.laws.specs.Placement.{Ties, tiePlace, tieHold, served, atSlot, Placed, everywhere, excess}
 use Rattle.laws.specs.Grants.{granted, turn, most}
 use Rattle.laws.specs.Eviction.{added, searched, ones}
 use Rattle.laws.proofs.Placement.{placed-fits}
 use Rattle.laws.proofs.Excess.{excess-none}
-use Rattle.station.specs.Head.{Head, Preset, Job, valid, hasNumber, allInLimits, allDistinct, masksIn}
+use Rattle.station.specs.Head.{Head, Preset, Job, withTie, valid, hasNumber, allInLimits, allDistinct, masksIn}
 use Rattle.station.specs.Refusal.{Refusal, firstOf, outOfLimits, numberUsed, mandatoryNotFeasible, callNotFeasible, tooShort, tooMany, notWellFormed}
 use Rattle.station.proofs.Theorems.{valid-of}
 use Rattle.station.specs.declared.types.Preset as record-of-preset
@@ -50,13 +50,13 @@ use Rattle.placing.proofs.ClaimsHold.{call-claim}
 
 unfoldable pub plans : Head → List ℕ → PlanOutcome
 unfolding
-    sum greatest tabulate served left granted turn most valid hasNumber allInLimits allDistinct masksIn firstOf
+    sum greatest tabulate served atSlot granted turn most valid hasNumber allInLimits allDistinct masksIn firstOf
     needsFrom grants planned placing written planOf
 plans h t = planOf h t
 
 unfoldable pub calls : Head → List Job → State → CallOutcome
 unfolding
-    sum greatest every tabulate served left added searched ones valid hasNumber allInLimits allDistinct masksIn firstOf
+    sum greatest every tabulate served atSlot added searched ones valid hasNumber allInLimits allDistinct masksIn firstOf
     wellFormed placing called evictedSet evictionOrder downward inSet callFits written callOf
 calls h jobs st = callOf h jobs st
 
@@ -71,63 +71,108 @@ preset n p m o = record { number = n; priority = p; mandatory = m; optional = o 
 abbrev job : ℕ → ℕ → Job
 job n c = record { number = n; slots = c }
 
+-- a head with the order of ties by place
+abbrev headOf : ℕ → ℕ → List ℕ → List Preset → Head
+headOf s b busy presets = record { slots = s; bridges = b; hold = false; busy = busy; presets = presets }
+
 -- ---- the plan's ties and bridges: S 3, B 2, three presets of m 2
 
 abbrev threePresets : Head
-threePresets = record { slots = 3; bridges = 2; busy = noBusy; presets = preset 1 0 2 0 ∷ preset 2 0 2 0 ∷ preset 3 0 2 0 ∷ [] }
+threePresets = headOf 3 2 noBusy (preset 1 0 2 0 ∷ preset 2 0 2 0 ∷ preset 3 0 2 0 ∷ [])
 
 -- slot 1 holds presets 1 2, slot 2 holds 1 3, slot 3 holds 2 3
 pub three-planned : take 6 (planOf threePresets (replicate 512 0) .table) ≡ 513 ∷ 514 ∷ 513 ∷ 515 ∷ 514 ∷ 515 ∷ []
 unfolding plans
 three-planned = refl
 
+-- ---- the orders of ties
+
+-- the cells of the frame that the rule leaves with an order of ties
+abbrev plannedBy : Ties → Head → List ℕ
+plannedBy ties h = written h (planned ties h) []
+
+-- m 1 in the first line and m 2 in the second
+abbrev oneAndTwo : List Preset
+oneAndTwo = preset 1 0 1 0 ∷ preset 2 0 2 0 ∷ []
+
+-- "those with a cell in the slot just before come first": the second line stays in slot 2; by place the first line goes first
+pub held-on : (plannedBy tieHold (headOf 3 1 noBusy oneAndTwo) ≡ 514 ∷ 514 ∷ 513 ∷ []) × (plannedBy tiePlace (headOf 3 1 noBusy oneAndTwo) ≡ 514 ∷ 513 ∷ 514 ∷ [])
+unfolding plans
+held-on = (refl, refl)
+
+-- a plan goes by the order of its head
+pub held-by-head : (take 3 (planOf (withTie (headOf 3 1 noBusy oneAndTwo) true) (replicate 512 0) .table) ≡ 514 ∷ 514 ∷ 513 ∷ [])
+    × (take 3 (planOf (withTie (headOf 3 1 noBusy oneAndTwo) false) (replicate 512 0) .table) ≡ 514 ∷ 513 ∷ 514 ∷ [])
+unfolding plans
+held-by-head = (refl, refl)
+
+-- in the slot just before, and in no earlier one: where slot 2 is busy, nobody has a cell just before slot 3
+pub held-just-before : plannedBy tieHold (headOf 4 1 (2 ∷ replicate 7 0) oneAndTwo) ≡ 514 ∷ 256 ∷ 513 ∷ 514 ∷ []
+unfolding plans
+held-just-before = refl
+
+-- on any bridge: four presets of m 2 on two bridges, where the third and the fourth stay
+pub held-in-pairs : plannedBy tieHold (headOf 4 2 noBusy (preset 1 0 2 0 ∷ preset 2 0 2 0 ∷ preset 3 0 2 0 ∷ preset 4 0 2 0 ∷ []))
+    ≡ 513 ∷ 514 ∷ 515 ∷ 516 ∷ 515 ∷ 516 ∷ 513 ∷ 514 ∷ []
+unfolding plans
+held-in-pairs = refl
+
+-- the order of ties says who is chosen, and not on which bridge: "The chosen, in file order, take the free bridges in ascending order."
+pub held-bridges : plannedBy tieHold (headOf 2 2 (0 ∷ 1 ∷ replicate 6 0) oneAndTwo) ≡ 514 ∷ 256 ∷ 513 ∷ 514 ∷ []
+unfolding plans
+held-bridges = refl
+
+-- The order that is in force where a call comes: by hold c2 c2 c1, and a later call by place leaves those and places c4 c3 c4.
+abbrev calledByHold : List ℕ
+calledByHold = callOf (headOf 6 1 noBusy []) (job 1 1 ∷ job 2 2 ∷ []) (stateOf (replicate 512 0) 1 true) .after .table
+
+pub calls-by-order : (take 6 calledByHold ≡ 1026 ∷ 1026 ∷ 1025 ∷ 0 ∷ 0 ∷ 0 ∷ [])
+    × (take 6 (callOf (headOf 6 1 noBusy []) (job 3 1 ∷ job 4 2 ∷ []) (stateOf calledByHold 1 false) .after .table) ≡ 1026 ∷ 1026 ∷ 1025 ∷ 1028 ∷ 1027 ∷ 1028 ∷ [])
+unfolding calls
+calls-by-order = (refl, refl)
+
 -- ---- the clock: its own slot may be used, the one before it not
 
 abbrev oneSlot : Head
-oneSlot = record { slots = 1; bridges = 1; busy = noBusy; presets = [] }
+oneSlot = headOf 1 1 noBusy []
 
-pub clock-slot : (callOf oneSlot (job 5 1 ∷ []) (stateOf (replicate 512 0) 1) .answer ≡ CallAnswer.taken (cost 0))
-    × (callOf oneSlot (job 5 1 ∷ []) (stateOf (replicate 512 0) 2) .answer ≡ CallAnswer.refused 0 callNotFeasible)
+pub clock-slot : (callOf oneSlot (job 5 1 ∷ []) (stateOf (replicate 512 0) 1 false) .answer ≡ CallAnswer.taken (cost 0))
+    × (callOf oneSlot (job 5 1 ∷ []) (stateOf (replicate 512 0) 2 false) .answer ≡ CallAnswer.refused 0 callNotFeasible)
 unfolding calls
 clock-slot = (refl, refl)
 
 -- ---- priorities 0 and 9 hold the last slot, all else being busy: a one-slot call takes the 9's
 
 abbrev lastSlot : Head
-lastSlot = record { slots = 2; bridges = 2; busy = 1 ∷ 1 ∷ replicate 6 0; presets = preset 1 0 0 1 ∷ preset 2 9 0 1 ∷ [] }
+lastSlot = headOf 2 2 (1 ∷ 1 ∷ replicate 6 0) (preset 1 0 0 1 ∷ preset 2 9 0 1 ∷ [])
 
-pub worst-evicted : take 4 (callOf lastSlot (job 7 1 ∷ []) (stateOf (256 ∷ 256 ∷ 769 ∷ 770 ∷ replicate 508 0) 1) .after .table) ≡ 256 ∷ 256 ∷ 769 ∷ 1031 ∷ []
+pub worst-evicted : take 4 (callOf lastSlot (job 7 1 ∷ []) (stateOf (256 ∷ 256 ∷ 769 ∷ 770 ∷ replicate 508 0) 1 false) .after .table) ≡ 256 ∷ 256 ∷ 769 ∷ 1031 ∷ []
 unfolding calls
 worst-evicted = refl
 
 -- ---- a call that is taken, with n cells lost
 
-module _ (h : Head) (clock : ℕ) (jobs : List Job) (t : List ℕ) (n : ℕ) (taken : callOf h jobs (stateOf t clock) .answer ≡ CallAnswer.taken (cost n)) where
+module _ (h : Head) (clock : ℕ) (hold : Bool) (jobs : List Job) (t : List ℕ) (n : ℕ) (taken : callOf h jobs (stateOf t clock hold) .answer ≡ CallAnswer.taken (cost n)) where
   -- every valid placement loses n cells or more
   pub must-go : (u : List ℕ) → ValidCall h clock jobs (cell h t) (cell h u) → n ≤ cells h (λ s b. lost (cell h t) (cell h u) s b)
   must-go u v =
-      let c = call-claim h jobs (stateOf t clock) in
+      let c = call-claim h jobs (stateOf t clock hold) in
       omega (
         arith,
         c .reported (cost n) taken,
-        c .nine (cost n) taken (callOf h jobs (stateOf t clock) .after .table),
+        c .nine (cost n) taken (callOf h jobs (stateOf t clock hold) .after .table),
         c .nine (cost n) taken u,
         c .least (cost n) taken u v 9,
       )
 
   -- and there is one that loses n
   pub goes : (u : List ℕ) × ValidCall h clock jobs (cell h t) (cell h u) × (cells h (λ s b. lost (cell h t) (cell h u) s b) ≡ n)
-  goes = let c = call-claim h jobs (stateOf t clock) in (callOf h jobs (stateOf t clock) .after .table, c .valid (cost n) taken, sym (c .reported (cost n) taken))
+  goes = let c = call-claim h jobs (stateOf t clock hold) in (callOf h jobs (stateOf t clock hold) .after .table, c .valid (cost n) taken, sym (c .reported (cost n) taken))
 
 -- ---- free 3, 1, 1, 1 and one optional cell in slot 2, a call of 3 and 3
 
 abbrev frame3111 : Head
-frame3111 = record {
-  slots = 4;
-  bridges = 4;
-  busy = 0 ∷ 12 ∷ 14 ∷ 14 ∷ 0 ∷ 0 ∷ 0 ∷ 0 ∷ [];
-  presets = preset 1 0 1 1 ∷ [];
-}
+frame3111 = headOf 4 4 (0 ∷ 12 ∷ 14 ∷ 14 ∷ replicate 4 0) (preset 1 0 1 1 ∷ [])
 
 -- its plan: a mandatory cell in slot 1, an optional cell in slot 2
 abbrev table3111 : List ℕ
@@ -152,18 +197,18 @@ no-empty-placement a p =
     let z : excess 2 (at (3 ∷ 3 ∷ [])) 4 (emptyCount frame3111 1 (cell frame3111 table3111)) ≡ 0 = placed-fits p in
     omega arith
 
-takes-one : callOf frame3111 threeAndThree (stateOf table3111 1) .answer ≡ CallAnswer.taken (cost 1)
+takes-one : callOf frame3111 threeAndThree (stateOf table3111 1 false) .answer ≡ CallAnswer.taken (cost 1)
 unfolding calls
 takes-one = refl
 
 -- Exactly one cell must go: every valid placement loses one or more, and the one that the call leaves loses one.
 pub one-must-go : (u : List ℕ) → ValidCall frame3111 1 threeAndThree (cell frame3111 table3111) (cell frame3111 u)
     → 1 ≤ cells frame3111 (λ s b. lost (cell frame3111 table3111) (cell frame3111 u) s b)
-one-must-go = must-go frame3111 1 threeAndThree table3111 1 takes-one
+one-must-go = must-go frame3111 1 false threeAndThree table3111 1 takes-one
 
 pub one-goes : (u : List ℕ) × ValidCall frame3111 1 threeAndThree (cell frame3111 table3111) (cell frame3111 u)
     × (cells frame3111 (λ s b. lost (cell frame3111 table3111) (cell frame3111 u) s b) ≡ 1)
-one-goes = goes frame3111 1 threeAndThree table3111 1 takes-one
+one-goes = goes frame3111 1 false threeAndThree table3111 1 takes-one
 
 -- ---- the room for r, and the r largest needs, for r = 0 to 3
 
@@ -186,10 +231,10 @@ longest-first = refl
 
 -- Free 3, 1, 1, 1, and 3, 1, 2, 1, with m 3 and 3: the first has no valid plan, since the room for 2 is 5; the other has one.
 abbrev plan3111 : Head
-plan3111 = record { slots = 4; bridges = 3; busy = 0 ∷ 14 ∷ 14 ∷ replicate 5 0; presets = preset 1 0 3 0 ∷ preset 2 0 3 0 ∷ [] }
+plan3111 = headOf 4 3 (0 ∷ 14 ∷ 14 ∷ replicate 5 0) (preset 1 0 3 0 ∷ preset 2 0 3 0 ∷ [])
 
 abbrev plan3121 : Head
-plan3121 = record { slots = 4; bridges = 3; busy = 0 ∷ 10 ∷ 14 ∷ replicate 5 0; presets = preset 1 0 3 0 ∷ preset 2 0 3 0 ∷ [] }
+plan3121 = headOf 4 3 (0 ∷ 10 ∷ 14 ∷ replicate 5 0) (preset 1 0 3 0 ∷ preset 2 0 3 0 ∷ [])
 
 pub plan-capacity : (tabulate 4 (largestMandatory plan3111) ≡ 0 ∷ 3 ∷ 6 ∷ 6 ∷ [])
     × (tabulate 4 (planCapacity plan3111) ≡ 0 ∷ 4 ∷ 5 ∷ 6 ∷ [])
@@ -225,16 +270,16 @@ jobsFrom (suc k) n = job (suc n) 1 ∷ jobsFrom k (suc n)
 
 -- a frame with nothing busy and no presets; the same with one slot and one bridge, and presets
 abbrev bare : ℕ → ℕ → Head
-bare s b = record { slots = s; bridges = b; busy = noBusy; presets = [] }
+bare s b = headOf s b noBusy []
 
 abbrev holds : List Preset → Head
-holds ps = record { slots = 1; bridges = 1; busy = noBusy; presets = ps }
+holds ps = headOf 1 1 noBusy ps
 
 -- ---- "A sound table has only the five kinds, ..": each clause broken alone
 
 -- Bridge 2 is busy in slot 2; preset 1 has m 1 and o 2, preset 2 has m 0 and o 1.
 abbrev fourSlots : Head
-fourSlots = record { slots = 4; bridges = 2; busy = 0 ∷ 2 ∷ replicate 6 0; presets = preset 1 0 1 2 ∷ preset 2 0 0 1 ∷ [] }
+fourSlots = headOf 4 2 (0 ∷ 2 ∷ replicate 6 0) (preset 1 0 1 2 ∷ preset 2 0 0 1 ∷ [])
 
 -- slot 1: m1 o2; slot 2: o1 -; slot 3: o1 c9; slot 4: c9 0
 abbrev soundTable : List ℕ
@@ -277,7 +322,7 @@ brokenTables =
     ∷ []
 
 -- A call on a sound table is taken, and on each of the others refused for 11; "at most 64 job numbers" is in `calls-answered`.
-pub sound-broken : map (λ t. callOf fourSlots (job 20 1 ∷ []) (stateOf (lent t) 1) .answer) (soundTable ∷ brokenTables)
+pub sound-broken : map (λ t. callOf fourSlots (job 20 1 ∷ []) (stateOf (lent t) 1 false) .answer) (soundTable ∷ brokenTables)
     ≡ CallAnswer.taken (cost 0) ∷ replicate 18 (CallAnswer.refused 0 notWellFormed)
 unfolding calls
 sound-broken = refl
@@ -308,9 +353,9 @@ planCases =
     ∷ grants-all (bare 1 8) 512 []
     ∷ stops-plan (bare 1 9) 512 outOfLimits
     -- busy cells inside the frame only
-    ∷ grants-all (record { slots = 1; bridges = 1; busy = 1 ∷ replicate 7 0; presets = [] }) 512 []
-    ∷ stops-plan (record { slots = 1; bridges = 1; busy = 2 ∷ replicate 7 0; presets = [] }) 512 outOfLimits
-    ∷ stops-plan (record { slots = 1; bridges = 1; busy = 0 ∷ 1 ∷ replicate 6 0; presets = [] }) 512 outOfLimits
+    ∷ grants-all (headOf 1 1 (1 ∷ replicate 7 0) []) 512 []
+    ∷ stops-plan (headOf 1 1 (2 ∷ replicate 7 0) []) 512 outOfLimits
+    ∷ stops-plan (headOf 1 1 (0 ∷ 1 ∷ replicate 6 0) []) 512 outOfLimits
     -- a preset's number from 1 to 255, its priority from 0 to 9, m and o from 0 to 64, and no number twice
     ∷ stops-plan (holds (preset 0 0 0 0 ∷ [])) 512 outOfLimits
     ∷ grants-all (holds (preset 1 0 0 0 ∷ [])) 512 (0 ∷ [])
@@ -394,7 +439,7 @@ callCases =
     ∷ stops tooMany (bare 8 8) 1 (job 65 1 ∷ []) (lent (jobCells 64 0))
     ∷ []
 
-pub calls-answered : map (λ c. callOf (c .head) (c .jobs) (stateOf (c .table) (c .clock)) .answer) callCases ≡ map (λ c. c .said) callCases
+pub calls-answered : map (λ c. callOf (c .head) (c .jobs) (stateOf (c .table) (c .clock) false) .answer) callCases ≡ map (λ c. c .said) callCases
 unfolding calls jobCells jobsFrom
 calls-answered = refl
 
@@ -402,7 +447,7 @@ calls-answered = refl
 
 -- a head record that counts so many presets, and n records with the numbers n down to 1
 abbrev counting : ℕ → record-of-head.Head
-counting n = record { slots = 1; bridges = 1; busy = noBusy; count = n }
+counting n = record { slots = 1; bridges = 1; hold = false; busy = noBusy; count = n }
 
 unfoldable pub recordsTo : ℕ → List record-of-preset.Preset
 recordsTo zero = []
@@ -417,10 +462,10 @@ jobRecordsTo (suc n) = record { number = 100 + n; slots = 1 } ∷ jobRecordsTo n
 pub records-answered : (planMeant (counting 32) (recordsTo 32) (lent []) .answer ≡ PlanAnswer.granted (replicate 32 0))
     × (planMeant (counting 33) (recordsTo 33) (lent []) .answer ≡ PlanAnswer.refused 0 outOfLimits)
     × (planMeant (counting 33) (recordsTo 33) (replicate 511 0) .answer ≡ PlanAnswer.refused 0 tooShort)
-    × (callMeant (counting 33) (recordsTo 33) (job 40 2 ∷ []) (stateOf (lent (7 ∷ [])) 3) .answer ≡ CallAnswer.refused 0 outOfLimits)
-    × (callMeant (counting 33) (recordsTo 33) [] (stateOf (replicate 511 0) 1) .answer ≡ CallAnswer.refused 0 tooShort)
-    × (callMeant (counting 0) [] (callJobs 8 (jobRecordsTo 8)) (stateOf (lent []) 1) .answer ≡ CallAnswer.refused 0 callNotFeasible)
-    × (callMeant (counting 0) [] (callJobs 9 (jobRecordsTo 8)) (stateOf (lent []) 1) .answer ≡ CallAnswer.refused 0 outOfLimits)
+    × (callMeant (counting 33) (recordsTo 33) (job 40 2 ∷ []) (stateOf (lent (7 ∷ [])) 3 false) .answer ≡ CallAnswer.refused 0 outOfLimits)
+    × (callMeant (counting 33) (recordsTo 33) [] (stateOf (replicate 511 0) 1 false) .answer ≡ CallAnswer.refused 0 tooShort)
+    × (callMeant (counting 0) [] (callJobs 8 (jobRecordsTo 8)) (stateOf (lent []) 1 false) .answer ≡ CallAnswer.refused 0 callNotFeasible)
+    × (callMeant (counting 0) [] (callJobs 9 (jobRecordsTo 8)) (stateOf (lent []) 1 false) .answer ≡ CallAnswer.refused 0 outOfLimits)
 unfolding planMeant callMeant plans calls recordsTo jobRecordsTo callJobs
 records-answered = (refl, refl, refl, refl, refl, refl, refl)
 
@@ -447,18 +492,18 @@ leaves h t u = record { head = h; before = t; after = u }
 abbrev lossCases : List LossCase
 lossCases =
     -- one preset in two slots: the latest slot goes
-    leaves (record { slots = 2; bridges = 1; busy = noBusy; presets = preset 1 0 0 2 ∷ [] }) (769 ∷ 769 ∷ []) (769 ∷ 1029 ∷ [])
+    leaves (headOf 2 1 noBusy (preset 1 0 0 2 ∷ [])) (769 ∷ 769 ∷ []) (769 ∷ 1029 ∷ [])
     -- two presets of one priority: the later line is the worse one, though its cell stands in the earlier slot, and on either bridge
-    ∷ leaves (record { slots = 2; bridges = 1; busy = noBusy; presets = preset 1 0 0 1 ∷ preset 2 0 0 1 ∷ [] }) (770 ∷ 769 ∷ []) (1029 ∷ 769 ∷ [])
-    ∷ leaves (record { slots = 1; bridges = 2; busy = noBusy; presets = preset 1 0 0 1 ∷ preset 2 0 0 1 ∷ [] }) (769 ∷ 770 ∷ []) (769 ∷ 1029 ∷ [])
-    ∷ leaves (record { slots = 1; bridges = 2; busy = noBusy; presets = preset 1 0 0 1 ∷ preset 2 0 0 1 ∷ [] }) (770 ∷ 769 ∷ []) (1029 ∷ 769 ∷ [])
+    ∷ leaves (headOf 2 1 noBusy (preset 1 0 0 1 ∷ preset 2 0 0 1 ∷ [])) (770 ∷ 769 ∷ []) (1029 ∷ 769 ∷ [])
+    ∷ leaves (headOf 1 2 noBusy (preset 1 0 0 1 ∷ preset 2 0 0 1 ∷ [])) (769 ∷ 770 ∷ []) (769 ∷ 1029 ∷ [])
+    ∷ leaves (headOf 1 2 noBusy (preset 1 0 0 1 ∷ preset 2 0 0 1 ∷ [])) (770 ∷ 769 ∷ []) (1029 ∷ 769 ∷ [])
     -- not by the number: the later line has the smaller one
-    ∷ leaves (record { slots = 2; bridges = 1; busy = noBusy; presets = preset 2 0 0 1 ∷ preset 1 0 0 1 ∷ [] }) (769 ∷ 770 ∷ []) (1029 ∷ 770 ∷ [])
+    ∷ leaves (headOf 2 1 noBusy (preset 2 0 0 1 ∷ preset 1 0 0 1 ∷ [])) (769 ∷ 770 ∷ []) (1029 ∷ 770 ∷ [])
     -- the worse priority goes before the later line and before the later slot
-    ∷ leaves (record { slots = 2; bridges = 1; busy = noBusy; presets = preset 1 1 0 1 ∷ preset 2 0 0 1 ∷ [] }) (769 ∷ 770 ∷ []) (1029 ∷ 770 ∷ [])
+    ∷ leaves (headOf 2 1 noBusy (preset 1 1 0 1 ∷ preset 2 0 0 1 ∷ [])) (769 ∷ 770 ∷ []) (1029 ∷ 770 ∷ [])
     ∷ []
 
 -- A one-slot call takes the cell that document 01 says.
-pub losses : map (λ c. callOf (c .head) (job 5 1 ∷ []) (stateOf (lent (c .before)) 1) .after .table) lossCases ≡ map (λ c. lent (c .after)) lossCases
+pub losses : map (λ c. callOf (c .head) (job 5 1 ∷ []) (stateOf (lent (c .before)) 1 false) .after .table) lossCases ≡ map (λ c. lent (c .after)) lossCases
 unfolding calls
 losses = refl

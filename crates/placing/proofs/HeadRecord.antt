@@ -3,7 +3,7 @@
 -- In order: places and rows within the limits (`place-lt`, `frame-le`, `next-row`); what a valid record says (`count-high`, `record-valid`), its presets
 -- (`presets-count`, `preset-at`, `preset-of`) and their ranks (`ranks-are`).
 -- Assumes nothing.
-use Prim.Native.Nat.{ℕ, suc, _+_, _*_, _≤_, _<_}
+use Prim.Native.Nat.{ℕ, _+_, _*_, _≤_, _<_}
 use native.Mathlib.Nat.{mul-le-mul, mul-le-mul-left, suc-mul}
 use native.Mathlib.Numerals.{add-one}
 use native.Mathlib.Omega.{arith}

@@ -12,7 +12,7 @@ use mathlib.Core.Bool.{Bool, true, false, not, _&&_, _||_}
 use mathlib.Core.List.{List}
 use lib.ListN.{length, length-map}
 use lib.Dec.{ltb, leb, eqb}
-use Rattle.laws.specs.Sums.{bit, sum, count}
+use Rattle.laws.specs.Sums.{sum, count}
 use Rattle.laws.specs.Lists.{at}
 use Rattle.laws.specs.Placement.{Placed, everywhere}
 use Rattle.laws.specs.Eviction.{added, ones, FirstSmallest}

@@ -52,7 +52,7 @@ module _ (head : Head) (ps qs : List Preset) (agree : take 32 ps ≡ take 32 qs)
   same-head : leb (head .count) 32 ≡ true → headIn head ps ≡ headIn head qs
   same-head e =
       let few : head .count ≤ 32 = le-of (head .count) 32 e in
-      ap (λ (l : List Preset). record { slots = head .slots; bridges = head .bridges; busy = head .busy; presets = map presetIn l })
+      ap (λ (l : List Preset). record { slots = head .slots; bridges = head .bridges; hold = head .hold; busy = head .busy; presets = map presetIn l })
       (sym (take-take (head .count) 32 ps few) ∙ ap (take (head .count)) agree ∙ take-take (head .count) 32 qs few)
 
   same-plan : (t : List ℕ) → planMeant head ps t ≡ planMeant head qs t
@@ -104,11 +104,11 @@ module _ {n : ℕ} (head : Head) (ps : List Preset) {copied : List Preset} (coun
 
   module _ (jobs : List Job) (st : State) {u : List ℕ} {r : reply.CallAnswer} where
     -- a frame that 11 lets pass is one afterwards
-    entered-running : CallEntered (length ps) head ps jobs st u r → Running (headIn head ps) st → Running (headIn head ps) (stateOf u (st .clock))
+    entered-running : CallEntered (length ps) head ps jobs st u r → Running (headIn head ps) st → Running (headIn head ps) (stateOf u (st .clock) (st .hold))
     entered-running e run = go (is (ltb (length ps) 32))
       where
-        go : Is (ltb (length ps) 32) → Running (headIn head ps) (stateOf u (st .clock))
-        go (is-true l) = subst (λ (t : List ℕ). Running (headIn head ps) (stateOf t (st .clock))) (sym (e .short (lt-of (length ps) 32 l) .1)) run
+        go : Is (ltb (length ps) 32) → Running (headIn head ps) (stateOf u (st .clock) (st .hold))
+        go (is-true l) = subst (λ (t : List ℕ). Running (headIn head ps) (stateOf t (st .clock) (st .hold))) (sym (e .short (lt-of (length ps) 32 l) .1)) run
         go (is-false l) = done-running head ps jobs st (e .done (ge-of (length ps) 32 l)) run
 
     pub call-entry : CallEntered n head copied jobs st u r → CallEntry head ps jobs st u r

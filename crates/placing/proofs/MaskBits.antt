@@ -1,6 +1,6 @@
 -- Laws of a slot's mask of free bridges.
 --
--- In order: the bits of a number, lowest first (`taken-..`), and how many they are (`ones-hasBit`, `ones-low`); the bits of the mask of a test
+-- In order: the bits of a number, lowest first (`taken-..`), and how many the first ones are (`ones-low`); the bits of the mask of a test
 -- (`hasBit-mask`); the lowest bit that is set (`lowest`, `none-below-lowest`, `some-lowest`), and what is left without it
 -- (`cleared`).
 -- Assumes nothing.
@@ -36,24 +36,7 @@ pub hasBit-half : (m b : ℕ) → hasBit m (suc b) ≡ hasBit (m / 2) b
 hasBit-half m b =
     ap (λ (n : ℕ). eqb (n % 2) 1) (ap (λ (k : ℕ). m / 2 ^ k) (sym (one-add b)) ∙ sym (shr-shr m 1 b))
 
--- a number has as many ones as bits that are set
-pub ones-hasBit : (n m : ℕ) → m < 2 ^ n → ones m ≡ count n (hasBit m)
-unfolding sum ones
-ones-hasBit zero m h = let z : m ≡ 0 = omega arith in rw z none
-  where
-    none : ones 0 ≡ 0
-    none = refl
-ones-hasBit (suc n) m h =
-    omega (
-      arith,
-      ones-step m,
-      ones-hasBit n (m / 2) (omega (arith, pow-suc 2 n)),
-      bit-hasBit m,
-      sum-first n (λ b. bit (hasBit m b)),
-      sum-ext n (λ b. bit (hasBit m (suc b))) (λ b. bit (hasBit (m / 2) b)) (λ b l. ap bit (hasBit-half m b)),
-    )
-
--- its first n bits alone
+-- the first n bits of a number have as many ones as are set
 pub ones-low : (n m : ℕ) → ones (m % 2 ^ n) ≡ count n (hasBit m)
 unfolding sum ones
 ones-low zero m = let z : m % 2 ^ 0 ≡ 0 = omega arith in rw z none

@@ -1,36 +1,39 @@
 -- Laws of `placing`, the way jobs get their cells, for plans and calls alike, whoever has a cell in which slot.
 --
--- In order: what a cell can hold (`PlacedCell`, `placing-cases`); where a slot's jobs are at most its free cells, how many cells of the slot pass a test (`placing-count`), and the
--- cells of one job (`placing-job`); by largest remaining time first they are (`lrtf-within`).
+-- In order: the order of ties that a frame has is a total one that goes by its set alone (`tie-total`, `tie-set`); what a cell can hold (`PlacedCell`, `placing-cases`); where a slot's jobs are at most its free cells, how many cells of the slot pass a test (`placing-count`), and the
+-- cells of one job (`placing-job`).
 -- Assumes nothing.
 use Prim.Native.Nat.{ℕ, _+_, _≤_, _<_}
 use native.Mathlib.Omega.{arith}
 use mathlib.Core.Path.{_≡_, _∙_, ap}
 use mathlib.Core.Logic.{_⊎_, inl, inr}
 use mathlib.Core.Bool.{Bool, true, false, not, _&&_, cond}
-use mathlib.Core.List.{List}
-use lib.ListN.{length}
 use Rattle.laws.specs.Sums.{bit, only, sum, count}
-use Rattle.laws.specs.Lists.{at}
-use Rattle.laws.specs.Placement.{left, lrtf}
+use Rattle.laws.specs.Placement.{TotalTies}
 use Rattle.laws.specs.Cells.{takes}
 use Rattle.laws.proofs.Tests.{Is, is-true, is-false, is, left-of, right-of, never-both}
 use Rattle.laws.proofs.Sums.{sum-point}
 use Rattle.laws.proofs.Counts.{bit-le, count-none, one-selected}
-use Rattle.laws.proofs.Placement.{chosen-count}
+use Rattle.laws.proofs.Order.{place-total, hold-total}
+use Rattle.laws.proofs.Placement.{BySet, place-set, hold-set}
 use Rattle.laws.proofs.Cells.{takes-one-job, slot-holding}
 use Rattle.placing.specs.Table.{Cells}
-use Rattle.placing.specs.Plan.{placing, freeCount}
+use Rattle.placing.specs.Plan.{placing, freeCount, tieOf}
+
+-- the order of ties by `(tie hold)` or `(tie place)` is one of those that the laws speak of
+pub tie-total : (hold : Bool) → TotalTies (tieOf hold)
+tie-total true = hold-total
+tie-total false = place-total
+
+pub tie-set : (hold : Bool) (s k : ℕ) → BySet (tieOf hold) s k
+tie-set true = hold-set
+tie-set false = place-set
 
 -- What the cell of slot s, bridge b holds after jobs were placed: what it held where it was not free; else nothing, or what a job writes that has a cell in the slot.
 pub data PlacedCell (k : ℕ) (f a : ℕ → ℕ → Bool) (v : ℕ → ℕ → ℕ) (t : Cells) (s b w : ℕ) : Type 0 where
   kept : f s b ≡ false → w ≡ t s b → PlacedCell k f a v t s b w
   unused : f s b ≡ true → w ≡ 0 → PlacedCell k f a v t s b w
   written : f s b ≡ true → (i : ℕ) → i < k → a i s ≡ true → w ≡ v i s → PlacedCell k f a v t s b w
-
--- in a slot LRTF places no more jobs than it has free cells
-pub lrtf-within : (c : List ℕ) (x : ℕ → ℕ) (s : ℕ) → count (length c) (λ i. lrtf c x i s) ≤ x s
-lrtf-within c x s = chosen-count (length c) (at (left c x s)) (x s)
 
 module _ (k : ℕ) (f a : ℕ → ℕ → Bool) (v : ℕ → ℕ → ℕ) (t : Cells) (s : ℕ) where
   pub placing-cases : (b : ℕ) → PlacedCell k f a v t s b (placing k f a v t s b)

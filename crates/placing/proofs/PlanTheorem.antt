@@ -1,8 +1,8 @@
 -- The plan theorem: the mandatory slots fit exactly if a valid plan exists; the table of the plan is one, it grants each preset what the rule says,
--- and no valid plan gives the first presets by rank more.
+-- and no valid plan gives the first presets by rank more. All this for every order of ties.
 --
 -- In order: when needs fit; the needs of a well-formed table fit (`plan-fits-of-valid`); the stages of the grants; what the planned cells hold
--- and how many a preset has (`planned-valid`, `planned-optional`), by the rule of each slot (`planned-rule`); best for every number of ranks (`planned-best`); document 01's rule of the
+-- and how many a preset has (`planned-valid`, `planned-optional`), by the rule of each slot under the head's own order (`planned-rule`); best for every number of ranks (`planned-best`); document 01's rule of the
 -- grants (`grants-rule`), which leaves no choice (`grants-only`).
 -- Assumes nothing.
 use Prim.Native.Nat.{ℕ, zero, suc, _+_, _-_, _≤_, _<_}
@@ -17,16 +17,16 @@ use lib.Seq.{ext-getD}
 use lib.Dec.{ltb, eqb}
 use Rattle.laws.specs.Sums.{bit, only, sum, count}
 use Rattle.laws.specs.Lists.{at}
-use Rattle.laws.specs.Placement.{Criterion, everywhere, capacity, lrtf}
+use Rattle.laws.specs.Placement.{Criterion, everywhere, capacity, Ties, TotalTies, tiePlace, nobody, lrtf}
 use Rattle.laws.specs.Grants.{granted, raised}
 use Rattle.laws.proofs.Tests.{Is, is-true, is-false, is, clash, not-true, left-of, right-of, false-of-not, true-of-not, or-cases}
 use Rattle.laws.proofs.Comparisons.{lt-of, ge-of, eq-of, eqb-self, ne-of, ltb-no, eqb-yes, eqb-no}
 use Rattle.laws.proofs.Sums.{sum-ext, sum-add, sum-two}
 use Rattle.laws.proofs.Counts.{bit-le, count-ext, count-none, bit-pos, count-some, count-split, count-or, count-once, count-le-bit}
 use Rattle.laws.proofs.Lists.{length-tabulate, at-tabulate, tabulate-ext}
-use Rattle.laws.proofs.Order.{position-below, position-injective, ascending-total}
+use Rattle.laws.proofs.Order.{position-below, position-injective, ascending-total, place-total}
 use Rattle.laws.proofs.Placement.{criterion-less, criterion-of-placed, excess-of-criterion, broken-of-excess, criterion-of-excess, left-got, fits-placed}
-use Rattle.laws.proofs.Placement.{placed-fits, shown-rule}
+use Rattle.laws.proofs.Placement.{placed-fits, lrtf-step, shown-rule}
 use Rattle.laws.proofs.Cells.{count-below, count-first, cells-within, placed-of-cells}
 use Rattle.laws.proofs.Grants.{at-raised, at-raised-other, Premises, granted-long, granted-fits, granted-later, granted-since, granted-most, granted-low}
 use Rattle.laws.proofs.Grants.{granted-high, granted-best}
@@ -35,11 +35,11 @@ use Rattle.placing.specs.Table.{Cells, Each, WellFormed, holding, kindOf
 use Rattle.placing.specs.Table.{isMandatory, isOptional, isCall, presetCount, numberAt, hasPreset, hasJob}
 use Rattle.placing.specs.Valid.{ValidPlan, optionalOf}
 use Rattle.placing.specs.Plan.{rank, mandatories, optionals, planFree, planFreeCount, planFits, PlanFeasible, needWith, needsWith, GrantRule}
-use Rattle.placing.specs.Plan.{needs, needsFrom, grants, planCell, planned}
+use Rattle.placing.specs.Plan.{needs, needsFrom, grants, tieOf, planCell, planned}
 use Rattle.placing.specs.Claims.{cellsOfPreset, PresetsRule}
 use Rattle.placing.proofs.CountedCells.{cells-none, isBusy-no, numberIn-mandatory, numberIn-optional, hasPreset-of, numberAt-low, numberAt-lt}
 use Rattle.placing.proofs.CountedCells.{index-unique}
-use Rattle.placing.proofs.Placing.{PlacedCell, kept, unused, written, lrtf-within, placing-cases, placing-job}
+use Rattle.placing.proofs.Placing.{PlacedCell, kept, unused, written, tie-total, tie-set, placing-cases, placing-job}
 
 -- ---- when needs fit
 
@@ -191,34 +191,31 @@ module _ (h : Head) (start : planFits h (mandatories h) ≡ true) where
   pub stage-fits : (r : ℕ) → planFits h (stage h r) ≡ true
   stage-fits = granted-fits (premises h start) (optionals h)
 
-  pub stage-high : (r i : ℕ) → at (stage h r) i ≤ at (mandatories h) i + at (optionals h) i
-  stage-high = granted-high (premises h start) (optionals h)
-
   pub stage-later : (r i : ℕ) → r ≤ rank h i → at (stage h r) i ≡ at (mandatories h) i
   stage-later = granted-later (premises h start) (optionals h)
 
 -- ---- the planned cells
 
 -- the preset of line i has a cell in slot s; it is one of its first, the mandatory ones; what it then holds
-abbrev had : Head → ℕ → ℕ → Bool
-had h i s = lrtf (needs h) (planFreeCount h) i s
+abbrev had : Ties → Head → ℕ → ℕ → Bool
+had ties h i s = lrtf ties nobody (needs h) (planFreeCount h) i s
 
-abbrev early : Head → ℕ → ℕ → Bool
-early h i s = ltb (count s (λ r. had h i r)) (presetAt h i .mandatory)
+abbrev early : Ties → Head → ℕ → ℕ → Bool
+early ties h i s = ltb (count s (λ r. had ties h i r)) (presetAt h i .mandatory)
 
 abbrev presetCell : Head → ℕ → Bool → ℕ
 presetCell h i e = cond e (mandatoryCell (numberAt h i)) (optionalCell (numberAt h i))
 
 -- what a cell of the plan holds
-data PlannedCell (h : Head) (s b w : ℕ) : Type 0 where
-  busy : busyAt h s b ≡ true → w ≡ busyCell → PlannedCell h s b w
-  empty : busyAt h s b ≡ false → w ≡ 0 → PlannedCell h s b w
-  preset : busyAt h s b ≡ false → (i : ℕ) → i < presetCount h → had h i s ≡ true → w ≡ presetCell h i (early h i s) → PlannedCell h s b w
+data PlannedCell (ties : Ties) (h : Head) (s b w : ℕ) : Type 0 where
+  busy : busyAt h s b ≡ true → w ≡ busyCell → PlannedCell ties h s b w
+  empty : busyAt h s b ≡ false → w ≡ 0 → PlannedCell ties h s b w
+  preset : busyAt h s b ≡ false → (i : ℕ) → i < presetCount h → had ties h i s ≡ true → w ≡ presetCell h i (early ties h i s) → PlannedCell ties h s b w
 
 -- as many of its cells stand before slot s as its need has fallen
-planCell-is : (h : Head) (i s : ℕ) → planCell h (needs h) i s ≡ presetCell h i (early h i s)
-planCell-is h i s =
-    ap (λ (n : ℕ). presetCell h i (ltb n (presetAt h i .mandatory))) (omega (arith, left-got (needs h) (planFreeCount h) i s))
+planCell-is : (ties : Ties) (h : Head) (i s : ℕ) → planCell ties h (needs h) i s ≡ presetCell h i (early ties h i s)
+planCell-is ties h i s =
+    ap (λ (n : ℕ). presetCell h i (ltb n (presetAt h i .mandatory))) (omega (arith, left-got ties nobody (needs h) (planFreeCount h) i s))
 
 module _ (h : Head) (i : ℕ) where
   presetCell-mandatory : (e : Bool) → eqb (presetCell h i e) (mandatoryCell (numberAt h i)) ≡ e
@@ -244,196 +241,198 @@ module _ (h : Head) (valid : Valid h) (start : planFits h (mandatories h) ≡ tr
   unfolding needsFrom
   needs-long = granted-long (premises h start) (optionals h) (presetCount h)
 
-  planned-cases : (s b : ℕ) → PlannedCell h s b (planned h s b)
+-- the table of the plan, whatever the order of ties
+module _ (ties : Ties) (o : TotalTies ties) (h : Head) (valid : Valid h) (start : planFits h (mandatories h) ≡ true) where
+  planned-cases : (s b : ℕ) → PlannedCell ties h s b (planned ties h s b)
   unfolding planned
-  planned-cases s b = go (placing-cases (length (needs h)) (planFree h) (λ i r. had h i r) (planCell h (needs h)) (λ s b. busyCell) s b)
+  planned-cases s b = go (placing-cases (length (needs h)) (planFree h) (λ i r. had ties h i r) (planCell ties h (needs h)) (λ s b. busyCell) s b)
     where
-      go : {w : ℕ} → PlacedCell (length (needs h)) (planFree h) (λ i r. had h i r) (planCell h (needs h)) (λ s b. busyCell) s b w → PlannedCell h s b w
+      go : {w : ℕ} → PlacedCell (length (needs h)) (planFree h) (λ i r. had ties h i r) (planCell ties h (needs h)) (λ s b. busyCell) s b w → PlannedCell ties h s b w
       go (kept e q) = busy (true-of-not (busyAt h s b) e) q
       go (unused e q) = empty (false-of-not (busyAt h s b) e) q
-      go (written e i l d q) = preset (false-of-not (busyAt h s b) e) i (omega (arith, needs-long)) d (q ∙ planCell-is h i s)
+      go (written e i l d q) = preset (false-of-not (busyAt h s b) e) i (omega (arith, needs-long h valid start)) d (q ∙ planCell-is ties h i s)
 
   -- nothing but busy cells, empty ones and presets' cells
-  planned-kind : (s b : ℕ) → kindOf (planned h s b) ≤ 3
+  planned-kind : (s b : ℕ) → kindOf (planned ties h s b) ≤ 3
   planned-kind s b = go (planned-cases s b)
     where
-      go : {w : ℕ} → PlannedCell h s b w → kindOf w ≤ 3
+      go : {w : ℕ} → PlannedCell ties h s b w → kindOf w ≤ 3
       go (busy e q) = omega arith
       go (empty e q) = omega arith
-      go (preset e i l d q) = omega (arith, presetCell-kind h valid i l (early h i s) .1)
+      go (preset e i l d q) = omega (arith, presetCell-kind h valid i l (early ties h i s) .1)
 
-  planned-plain : (s b : ℕ) → kindOf (planned h s b) ≤ 1 → numberIn (planned h s b) ≡ 0
+  planned-plain : (s b : ℕ) → kindOf (planned ties h s b) ≤ 1 → numberIn (planned ties h s b) ≡ 0
   planned-plain s b = go (planned-cases s b)
     where
-      go : {w : ℕ} → PlannedCell h s b w → kindOf w ≤ 1 → numberIn w ≡ 0
+      go : {w : ℕ} → PlannedCell ties h s b w → kindOf w ≤ 1 → numberIn w ≡ 0
       go (busy e q) k = omega arith
       go (empty e q) k = omega arith
-      go (preset e i l d q) k = absurd (omega (arith, presetCell-kind h valid i l (early h i s) .0, ap kindOf q))
+      go (preset e i l d q) k = absurd (omega (arith, presetCell-kind h valid i l (early ties h i s) .0, ap kindOf q))
 
-  planned-busy : (s b : ℕ) → isBusy (planned h s b) ≡ busyAt h s b
+  planned-busy : (s b : ℕ) → isBusy (planned ties h s b) ≡ busyAt h s b
   planned-busy s b = go (planned-cases s b)
     where
-      go : {w : ℕ} → PlannedCell h s b w → isBusy w ≡ busyAt h s b
+      go : {w : ℕ} → PlannedCell ties h s b w → isBusy w ≡ busyAt h s b
       go (busy e q) = eqb-yes _ busyCell q ∙ sym e
       go (empty e q) = ap isBusy q ∙ sym e
-      go {w} (preset e i l d q) = isBusy-no w (omega (arith, presetCell-kind h valid i l (early h i s) .0, ap kindOf q)) ∙ sym e
+      go {w} (preset e i l d q) = isBusy-no w (omega (arith, presetCell-kind h valid i l (early ties h i s) .0, ap kindOf q)) ∙ sym e
 
-  planned-presets : (s b : ℕ) → (isMandatory (planned h s b) || isOptional (planned h s b)) ≡ true → hasPreset h (numberIn (planned h s b)) ≡ true
+  planned-presets : (s b : ℕ) → (isMandatory (planned ties h s b) || isOptional (planned ties h s b)) ≡ true → hasPreset h (numberIn (planned ties h s b)) ≡ true
   planned-presets s b = go (planned-cases s b)
     where
-      go : {w : ℕ} → PlannedCell h s b w → (isMandatory w || isOptional w) ≡ true → hasPreset h (numberIn w) ≡ true
+      go : {w : ℕ} → PlannedCell ties h s b w → (isMandatory w || isOptional w) ≡ true → hasPreset h (numberIn w) ≡ true
       go (busy e q) k = absurd (clash (sym k ∙ ap (λ (v : ℕ). isMandatory v || isOptional v) q))
       go (empty e q) k = absurd (clash (sym k ∙ ap (λ (v : ℕ). isMandatory v || isOptional v) q))
-      go (preset e i l d q) k = rw (q, presetCell-number h valid i l (early h i s)) (hasPreset-of h i l)
+      go (preset e i l d q) k = rw (q, presetCell-number h valid i l (early ties h i s)) (hasPreset-of h i l)
 
-  planned-no-call : (s b : ℕ) → isCall (planned h s b) ≡ false
-  planned-no-call s b = eqb-no (kindOf (planned h s b)) 4 (λ e. omega (arith, planned-kind s b))
+  planned-no-call : (s b : ℕ) → isCall (planned ties h s b) ≡ false
+  planned-no-call s b = eqb-no (kindOf (planned ties h s b)) 4 (λ e. omega (arith, planned-kind s b))
 
-  planned-no-job : (n : ℕ) → hasJob h (planned h) n ≡ false
+  planned-no-job : (n : ℕ) → hasJob h (planned ties h) n ≡ false
   planned-no-job n =
-      ltb-no 0 (holding h (planned h) (callCell n))
+      ltb-no 0 (holding h (planned ties h) (callCell n))
       (omega (
         arith,
-        cells-none h (λ s b. eqb (planned h s b) (callCell n))
-            (λ s b l m. eqb-no (planned h s b) (callCell n) (λ e. omega (arith, planned-kind s b))),
+        cells-none h (λ s b. eqb (planned ties h s b) (callCell n))
+            (λ s b l m. eqb-no (planned ties h s b) (callCell n) (λ e. omega (arith, planned-kind s b))),
       ))
 
   -- the cells of one preset in a slot, by a test that only cells with its number pass
   planned-count : (i s : ℕ) → i < presetCount h → (q : ℕ → Bool) → ((w : ℕ) → q w ≡ true → numberIn w ≡ numberAt h i)
-      → count (h .bridges) (λ b. q (planned h s b)) ≡ bit (had h i s && q (presetCell h i (early h i s)))
+      → count (h .bridges) (λ b. q (planned ties h s b)) ≡ bit (had ties h i s && q (presetCell h i (early ties h i s)))
   unfolding planned
   planned-count i s l q only-own =
-      placing-job (length (needs h)) (planFree h) (λ j r. had h j r) (planCell h (needs h)) (λ s b. busyCell) s (h .bridges)
-      (lrtf-within (needs h) (planFreeCount h) s) q
-      (plain 0 refl) i (omega (arith, needs-long)) (λ j m. others j (omega (arith, needs-long)))
+      placing-job (length (needs h)) (planFree h) (λ j r. had ties h j r) (planCell ties h (needs h)) (λ s b. busyCell) s (h .bridges)
+      (lrtf-step ties o nobody (needs h) (planFreeCount h) s .fits) q
+      (plain 0 refl) i (omega (arith, needs-long h valid start)) (λ j m. others j (omega (arith, needs-long h valid start)))
       (λ b m e. plain busyCell refl)
-      ∙ ap (λ (w : ℕ). bit (had h i s && q w)) (planCell-is h i s)
+      ∙ ap (λ (w : ℕ). bit (had ties h i s && q w)) (planCell-is ties h i s)
     where
       plain : (w : ℕ) → numberIn w ≡ 0 → q w ≡ false
       plain w z = not-true (q w) (λ e. omega (arith, only-own w e, numberAt-low h valid i l))
 
-      number : (j : ℕ) → j < presetCount h → numberIn (planCell h (needs h) j s) ≡ numberAt h j
-      number j m = ap numberIn (planCell-is h j s) ∙ presetCell-number h valid j m (early h j s)
+      number : (j : ℕ) → j < presetCount h → numberIn (planCell ties h (needs h) j s) ≡ numberAt h j
+      number j m = ap numberIn (planCell-is ties h j s) ∙ presetCell-number h valid j m (early ties h j s)
 
-      others : (j : ℕ) → j < presetCount h → (j ≡ i → ⊥) → q (planCell h (needs h) j s) ≡ false
+      others : (j : ℕ) → j < presetCount h → (j ≡ i → ⊥) → q (planCell ties h (needs h) j s) ≡ false
       others j m ne = not-true _ (λ e. ne (index-unique h valid j i m l (sym (number j m) ∙ only-own _ e)))
 
-  planned-once : (s a b : ℕ) → a < b → b < h .bridges → numberIn (planned h s a) ≡ numberIn (planned h s b) → numberIn (planned h s b) ≡ 0
+  planned-once : (s a b : ℕ) → a < b → b < h .bridges → numberIn (planned ties h s a) ≡ numberIn (planned ties h s b) → numberIn (planned ties h s b) ≡ 0
   planned-once s a b l m same = go (planned-cases s b) same
     where
-      two : (i : ℕ) → i < presetCount h → numberIn (planned h s a) ≡ numberAt h i → numberIn (planned h s b) ≡ numberAt h i → ⊥
+      two : (i : ℕ) → i < presetCount h → numberIn (planned ties h s a) ≡ numberAt h i → numberIn (planned ties h s b) ≡ numberAt h i → ⊥
       two i r p q =
           let n = numberAt h i in
           omega (
             arith,
             planned-count i s r (λ w. eqb (numberIn w) n) (λ w e. eq-of (numberIn w) n e),
-            bit-le (had h i s && eqb (numberIn (presetCell h i (early h i s))) n),
-            sum-two (h .bridges) (λ c. bit (eqb (numberIn (planned h s c)) n)) a b (omega arith) m (λ e. omega arith),
-            ap bit (eqb-yes (numberIn (planned h s a)) n p),
-            ap bit (eqb-yes (numberIn (planned h s b)) n q),
+            bit-le (had ties h i s && eqb (numberIn (presetCell h i (early ties h i s))) n),
+            sum-two (h .bridges) (λ c. bit (eqb (numberIn (planned ties h s c)) n)) a b (omega arith) m (λ e. omega arith),
+            ap bit (eqb-yes (numberIn (planned ties h s a)) n p),
+            ap bit (eqb-yes (numberIn (planned ties h s b)) n q),
           )
 
-      go : PlannedCell h s b (planned h s b) → numberIn (planned h s a) ≡ numberIn (planned h s b) → numberIn (planned h s b) ≡ 0
+      go : PlannedCell ties h s b (planned ties h s b) → numberIn (planned ties h s a) ≡ numberIn (planned ties h s b) → numberIn (planned ties h s b) ≡ 0
       go (busy e q) z = omega (arith, ap numberIn q)
       go (empty e q) z = omega (arith, ap numberIn q)
       go (preset e i r d q) z =
-          let n : numberIn (planned h s b) ≡ numberAt h i = ap numberIn q ∙ presetCell-number h valid i r (early h i s) in
+          let n : numberIn (planned ties h s b) ≡ numberAt h i = ap numberIn q ∙ presetCell-number h valid i r (early ties h i s) in
           absurd (two i r (z ∙ n) n)
 
   module _ (i : ℕ) (l : i < presetCount h) where
     -- it has as many slots as it needs
-    planned-slots : count (h .slots) (λ s. had h i s) ≡ at (needs h) i
+    planned-slots : count (h .slots) (λ s. had ties h i s) ≡ at (needs h) i
     unfolding needsFrom
     planned-slots =
         let fits = eq-of _ 0 (granted-fits (premises h start) (optionals h) (presetCount h)) in
-        fits-placed (needs h) (h .slots) (planFreeCount h) fits .exact i (omega (arith, needs-long))
+        fits-placed ties o nobody (needs h) (h .slots) (planFreeCount h) fits .exact i (omega (arith, needs-long h valid start))
 
     -- a cell value v with its number, t telling whether it is the mandatory one or the optional one
     module _ (v : ℕ) (t : Bool → Bool) (number : numberIn v ≡ numberAt h i) (test : (e : Bool) → eqb (presetCell h i e) v ≡ t e) where
-      slot-with : (s : ℕ) → count (h .bridges) (λ b. eqb (planned h s b) v) ≡ bit (had h i s && t (early h i s))
+      slot-with : (s : ℕ) → count (h .bridges) (λ b. eqb (planned ties h s b) v) ≡ bit (had ties h i s && t (early ties h i s))
       slot-with s =
           planned-count i s l (λ w. eqb w v) (λ w e. ap numberIn (eq-of w v e) ∙ number)
-          ∙ ap (λ (e : Bool). bit (had h i s && e)) (test (early h i s))
+          ∙ ap (λ (e : Bool). bit (had ties h i s && e)) (test (early ties h i s))
 
-      holding-with : holding h (planned h) v ≡ count (h .slots) (λ s. had h i s && t (early h i s))
+      holding-with : holding h (planned ties h) v ≡ count (h .slots) (λ s. had ties h i s && t (early ties h i s))
       holding-with =
-          sum-ext (h .slots) (λ s. count (h .bridges) (λ b. eqb (planned h s b) v)) (λ s. bit (had h i s && t (early h i s))) (λ s m. slot-with s)
+          sum-ext (h .slots) (λ s. count (h .bridges) (λ b. eqb (planned ties h s b) v)) (λ s. bit (had ties h i s && t (early ties h i s))) (λ s m. slot-with s)
 
-      cell-with : (s b : ℕ) → b < h .bridges → planned h s b ≡ v → (had h i s && t (early h i s)) ≡ true
+      cell-with : (s b : ℕ) → b < h .bridges → planned ties h s b ≡ v → (had ties h i s && t (early ties h i s)) ≡ true
       cell-with s b m e =
-          bit-pos _ (omega (arith, slot-with s, count-some (h .bridges) (λ a. eqb (planned h s a) v) b m (eqb-yes (planned h s b) v e)))
+          bit-pos _ (omega (arith, slot-with s, count-some (h .bridges) (λ a. eqb (planned ties h s a) v) b m (eqb-yes (planned ties h s b) v e)))
 
-    planned-mandatory : holding h (planned h) (mandatoryCell (numberAt h i)) ≡ presetAt h i .mandatory
+    planned-mandatory : holding h (planned ties h) (mandatoryCell (numberAt h i)) ≡ presetAt h i .mandatory
     unfolding needsFrom
     planned-mandatory =
         omega (
           arith,
           holding-with (mandatoryCell (numberAt h i)) (λ e. e) (presetCell-number h valid i l true) (presetCell-mandatory h i),
-          count-first (h .slots) (λ s. had h i s) (presetAt h i .mandatory),
+          count-first (h .slots) (λ s. had ties h i s) (presetAt h i .mandatory),
           planned-slots,
           granted-low (premises h start) (optionals h) (presetCount h) i,
           at-mandatories h i,
         )
 
     -- mandatory and optional slots together are its need
-    planned-need : presetAt h i .mandatory + optionalOf h (planned h) i ≡ at (needs h) i
+    planned-need : presetAt h i .mandatory + optionalOf h (planned ties h) i ≡ at (needs h) i
     planned-need =
         omega (
           arith,
           holding-with (mandatoryCell (numberAt h i)) (λ e. e) (presetCell-number h valid i l true) (presetCell-mandatory h i),
           holding-with (optionalCell (numberAt h i)) not (presetCell-number h valid i l false) (presetCell-optional h i),
-          count-split (h .slots) (λ s. had h i s) (λ s. early h i s),
+          count-split (h .slots) (λ s. had ties h i s) (λ s. early ties h i s),
           planned-slots,
           planned-mandatory,
         )
 
     -- a mandatory cell has fewer than m of its preset's before it, an optional one at least m, and that number grows in time
     planned-first : (r s a b : ℕ) → a < h .bridges → b < h .bridges
-        → planned h r a ≡ mandatoryCell (numberAt h i) → planned h s b ≡ optionalCell (numberAt h i) → r < s
+        → planned ties h r a ≡ mandatoryCell (numberAt h i) → planned ties h s b ≡ optionalCell (numberAt h i) → r < s
     unfolding sum
     planned-first r s a b la lb p q =
         lt-of-not-le (λ z.
         omega (
           arith,
-          count-below (suc r) (λ t. had h i t) s (omega arith),
-          ap bit (left-of (had h i r) _ in-r),
-          ap bit (left-of (had h i s) _ in-s),
-          lt-of _ (presetAt h i .mandatory) (right-of (had h i r) _ in-r),
-          ge-of _ (presetAt h i .mandatory) (false-of-not (early h i s) (right-of (had h i s) _ in-s)),
+          count-below (suc r) (λ t. had ties h i t) s (omega arith),
+          ap bit (left-of (had ties h i r) _ in-r),
+          ap bit (left-of (had ties h i s) _ in-s),
+          lt-of _ (presetAt h i .mandatory) (right-of (had ties h i r) _ in-r),
+          ge-of _ (presetAt h i .mandatory) (false-of-not (early ties h i s) (right-of (had ties h i s) _ in-s)),
         ))
       where
-        in-r : (had h i r && early h i r) ≡ true
+        in-r : (had ties h i r && early ties h i r) ≡ true
         in-r = cell-with (mandatoryCell (numberAt h i)) (λ e. e) (presetCell-number h valid i l true) (presetCell-mandatory h i) r a la p
 
-        in-s : (had h i s && not (early h i s)) ≡ true
+        in-s : (had ties h i s && not (early ties h i s)) ≡ true
         in-s = cell-with (optionalCell (numberAt h i)) not (presetCell-number h valid i l false) (presetCell-optional h i) s b lb q
 
 -- the table of the plan is a valid plan
-pub planned-valid : {h : Head} → Valid h → planFits h (mandatories h) ≡ true → ValidPlan h (planned h)
+pub planned-valid : (ties : Ties) → TotalTies ties → {h : Head} → Valid h → planFits h (mandatories h) ≡ true → ValidPlan h (planned ties h)
 unfolding needsFrom
-planned-valid {h} valid start =
+planned-valid ties o {h} valid start =
     record {
       wellFormed = record {
-        kinds = λ s b l m. omega (arith, planned-kind h valid start s b);
-        plain = λ s b l m. planned-plain h valid start s b;
-        busy = λ s b l m. planned-busy h valid start s b;
-        presets = λ s b l m. planned-presets h valid start s b;
-        calls = λ s b l m e. absurd (clash (sym e ∙ planned-no-call h valid start s b));
-        once = λ s a b l. planned-once h valid start s a b;
-        exact = planned-mandatory h valid start;
-        first = λ i l r s a b lr ls. planned-first h valid start i l r s a b;
+        kinds = λ s b l m. omega (arith, planned-kind ties o h valid start s b);
+        plain = λ s b l m. planned-plain ties o h valid start s b;
+        busy = λ s b l m. planned-busy ties o h valid start s b;
+        presets = λ s b l m. planned-presets ties o h valid start s b;
+        calls = λ s b l m e. absurd (clash (sym e ∙ planned-no-call ties o h valid start s b));
+        once = λ s a b l. planned-once ties o h valid start s a b;
+        exact = planned-mandatory ties o h valid start;
+        first = λ i l r s a b lr ls. planned-first ties o h valid start i l r s a b;
         most = λ i l.
             omega (
               arith,
-              planned-need h valid start i l,
+              planned-need ties o h valid start i l,
               granted-high (premises h start) (optionals h) (presetCount h) i,
               at-mandatories h i,
               at-optionals h i,
             );
-        jobs = omega (arith, count-none 256 (λ n. hasJob h (planned h) n) (λ n l. planned-no-job h valid start n));
-        apart = λ n l e. absurd (clash (sym e ∙ planned-no-job h valid start n));
+        jobs = omega (arith, count-none 256 (λ n. hasJob h (planned ties h) n) (λ n l. planned-no-job ties o h valid start n));
+        apart = λ n l e. absurd (clash (sym e ∙ planned-no-job ties o h valid start n));
       };
-      no-calls = λ s b l m. planned-no-call h valid start s b;
+      no-calls = λ s b l m. planned-no-call ties o h valid start s b;
     }
 
 pub at-grants : (h : Head) (i : ℕ) → i < presetCount h → at (grants h) i ≡ at (needs h) i - at (mandatories h) i
@@ -441,30 +440,37 @@ unfolding grants
 at-grants h i l = at-tabulate (presetCount h) (λ j. at (needs h) j - at (mandatories h) j) i l
 
 -- its grants are the optional cells of its presets
-pub planned-optional : {h : Head} → Valid h → planFits h (mandatories h) ≡ true → (i : ℕ) → i < presetCount h
-    → optionalOf h (planned h) i ≡ at (grants h) i
-planned-optional {h} valid start i l =
-    omega (arith, planned-need h valid start i l, at-grants h i l, at-mandatories h i)
+pub planned-optional : (ties : Ties) → TotalTies ties → {h : Head} → Valid h → planFits h (mandatories h) ≡ true → (i : ℕ) → i < presetCount h
+    → optionalOf h (planned ties h) i ≡ at (grants h) i
+planned-optional ties o {h} valid start i l =
+    omega (arith, planned-need ties o h valid start i l, at-grants h i l, at-mandatories h i)
 
--- in a table w with the same cells the presets of each slot are those that the rule chooses, by what the table itself shows
-pub planned-rule : {h : Head} → Valid h → planFits h (mandatories h) ≡ true → (w : Cells) → Each h (λ s b. planned h s b ≡ w s b)
+-- in a table w with the same cells, placed by the head's order of ties, the presets of each slot are those that the rule chooses, by what the table itself shows
+pub planned-rule : {h : Head} → Valid h → planFits h (mandatories h) ≡ true → (w : Cells) → Each h (λ s b. planned (tieOf (h .hold)) h s b ≡ w s b)
     → (s : ℕ) → s < h .slots → PresetsRule h (grants h) w s
 planned-rule {h} valid start w equal s l =
-    shown-rule (needs h) (planFreeCount h) s (presetCount h) (λ i. presetAt h i .mandatory + at (grants h) i) (cellsOfPreset h w) (planFreeCount h s)
-    (needs-long h valid start) (λ i k. omega (arith, planned-need h valid start i k, planned-optional valid start i k)) refl
-    (λ i k r m. count-ext (h .bridges) (λ b. eqb (numberIn (w r b)) (numberAt h i)) (λ b. eqb (numberIn (planned h r b)) (numberAt h i))
+    shown-rule ties o (needs h) (planFreeCount h) s (presetCount h) (tie-set (h .hold) s (presetCount h)) (λ i. presetAt h i .mandatory + at (grants h) i)
+    (cellsOfPreset h w) (planFreeCount h s) (needs-long h valid start)
+    (λ i k. omega (arith, planned-need ties o h valid start i k, planned-optional ties o valid start i k)) refl
+    (λ i k r m. count-ext (h .bridges) (λ b. eqb (numberIn (w r b)) (numberAt h i)) (λ b. eqb (numberIn (planned ties h r b)) (numberAt h i))
     (λ b n. ap (λ (v : ℕ). eqb (numberIn v) (numberAt h i)) (sym (equal r b (omega arith) n)))
-    ∙ planned-count h valid start i r k (λ v. eqb (numberIn v) (numberAt h i)) (λ v e. eq-of (numberIn v) (numberAt h i) e)
-    ∙ ap (λ (c : Bool). bit (had h i r && c))
-    (eqb-yes (numberIn (presetCell h i (early h i r))) (numberAt h i) (presetCell-number h valid i k (early h i r)))
-    ∙ ap bit (and-true (had h i r)))
+    ∙ planned-count ties o h valid start i r k (λ v. eqb (numberIn v) (numberAt h i)) (λ v e. eq-of (numberIn v) (numberAt h i) e)
+    ∙ ap (λ (c : Bool). bit (had ties h i r && c))
+    (eqb-yes (numberIn (presetCell h i (early ties h i r))) (numberAt h i) (presetCell-number h valid i k (early ties h i r)))
+    ∙ ap bit (and-true (had ties h i r)))
+  where
+    ties : Ties
+    ties = tieOf (h .hold)
+
+    o : TotalTies ties
+    o = tie-total (h .hold)
 
 -- for every r, every other valid plan has at most as many optional cells of the first r presets by rank
-pub planned-best : {h : Head} {u : Cells} → Valid h → planFits h (mandatories h) ≡ true → ValidPlan h u → (r : ℕ)
+pub planned-best : (ties : Ties) → TotalTies ties → {h : Head} {u : Cells} → Valid h → planFits h (mandatories h) ≡ true → ValidPlan h u → (r : ℕ)
     → sum (presetCount h) (λ i. only (ltb (rank h i) r) (optionalOf h u i))
-    ≤ sum (presetCount h) (λ i. only (ltb (rank h i) r) (optionalOf h (planned h) i))
+    ≤ sum (presetCount h) (λ i. only (ltb (rank h i) r) (optionalOf h (planned ties h) i))
 unfolding needsFrom
-planned-best {h} {u} valid start p r =
+planned-best ties o {h} {u} valid start p r =
     omega (
       arith,
       granted-best (premises h start) (optionals h) r (r + presetCount h) (omega arith) given
@@ -473,11 +479,11 @@ planned-best {h} {u} valid start p r =
           (λ i l. omega (arith, p .wellFormed .most i l, at-mandatories h i, at-optionals h i)),
       sum-ext (presetCount h) (λ i. first i (given i - at (mandatories h) i)) (λ i. first i (optionalOf h u i))
           (λ i l. ap (first i) (omega (arith, at-mandatories h i))),
-      sum-ext (presetCount h) (λ i. first i (at (stage h (r + presetCount h)) i - at (mandatories h) i)) (λ i. first i (optionalOf h (planned h) i))
+      sum-ext (presetCount h) (λ i. first i (at (stage h (r + presetCount h)) i - at (mandatories h) i)) (λ i. first i (optionalOf h (planned ties h) i))
           (λ i l. ap (first i) (omega (
             arith,
             at-mandatories h i,
-            planned-need h valid start i l,
+            planned-need ties o h valid start i l,
             granted-since (premises h start) (optionals h) (presetCount h) (r + presetCount h) i (rank-below h i l) (omega arith),
           ))),
     )
@@ -499,7 +505,7 @@ record TestedRule (h : Head) (gs : List ℕ) : Type 0 where
 
 -- the test says whether a placement exists
 pub feasible-of : (h : Head) (c : List ℕ) → planFits h c ≡ true → PlanFeasible h c
-feasible-of h c e = (lrtf c (planFreeCount h), fits-placed c (h .slots) (planFreeCount h) (eq-of _ 0 e))
+feasible-of h c e = (lrtf tiePlace nobody c (planFreeCount h), fits-placed tiePlace place-total nobody c (h .slots) (planFreeCount h) (eq-of _ 0 e))
 
 pub of-feasible : (h : Head) (c : List ℕ) → PlanFeasible h c → planFits h c ≡ true
 of-feasible h c w = eqb-yes _ 0 (placed-fits (w .1))

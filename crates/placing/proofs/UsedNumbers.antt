@@ -10,7 +10,7 @@ use mathlib.Core.List.{List}
 use lib.ListN.{length}
 use lib.Dec.{ltb, eqb}
 use Rattle.laws.specs.Sums.{bit, count, sum}
-use Rattle.laws.proofs.Tests.{Is, is, is-true, is-false, clash, not-true, or-left, or-right, neither-right}
+use Rattle.laws.proofs.Tests.{Is, is, is-true, is-false, clash, not-true, or-right, neither-right}
 use Rattle.laws.proofs.Comparisons.{ge-of, lt-of, eq-of, ltb-yes, ltb-no, eqb-yes, eqb-no, eqb-self}
 use Rattle.laws.proofs.Sums.{sum-but}
 use Rattle.laws.proofs.Counts.{count-ext, count-none, count-pos, count-some, count-or}

@@ -9,7 +9,7 @@ use lib.ListN.{length, getD}
 use lib.Dec.{eqb}
 use Rattle.laws.specs.Sums.{bit, sum, only}
 use Rattle.laws.specs.Lists.{at}
-use Rattle.laws.specs.Placement.{excess, lrtf}
+use Rattle.laws.specs.Placement.{Ties, nobody, excess, lrtf}
 use Rattle.laws.specs.Eviction.{added, searched}
 use Rattle.station.specs.Head.{Head, Job}
 use Rattle.placing.specs.Table.{Cells, Each, cells, presetCount, numberAt, numberIn, isEmpty, isOptional, callCell}
@@ -111,9 +111,9 @@ callFree h clock jobs t s b = emptyFree clock t s b || inSet (evictionOrder h cl
 abbrev pub callFreeCount : Head → ℕ → List Job → Cells → ℕ → ℕ
 callFreeCount h clock jobs t = freeCount (h .bridges) (callFree h clock jobs t)
 
--- "Jobs are then placed by the rule above over the empty and lost cells, in the call's order."
-unfoldable pub called : Head → ℕ → List Job → Cells → Cells
+-- "Jobs are then placed by the rule above over the empty and lost cells, in the call's order", under an order of ties. The jobs are new: nobody has a cell before.
+unfoldable pub called : Ties → Head → ℕ → List Job → Cells → Cells
 unfolding placing
-called h clock jobs t =
-    placing (length (lengths jobs)) (callFree h clock jobs t) (λ i s. lrtf (lengths jobs) (callFreeCount h clock jobs t) i s)
+called ties h clock jobs t =
+    placing (length (lengths jobs)) (callFree h clock jobs t) (λ i s. lrtf ties nobody (lengths jobs) (callFreeCount h clock jobs t) i s)
     (λ i s. callCell (jobAt jobs i .number)) t

@@ -1,4 +1,4 @@
--- What is claimed of plan and call: the meaning of their answers. Document 01, "What demand 3 speaks of". The claims speak of the very functions that the
+-- What is claimed of plan and call: the meaning of their answers. Document 01, "What demand 3 speaks of"; document 02, 2026-02. The claims speak of the very functions that the
 -- entries are held to, `planOf` and `callOf`; that they hold for all inputs is proved in proofs/Theorems.antt.
 -- Assumes nothing.
 use Prim.Native.Nat.{ℕ, _+_, _-_, _*_, _≤_, _<_}
@@ -11,15 +11,15 @@ use lib.ListN.{length, drop}
 use lib.Dec.{ltb, eqb}
 use Rattle.laws.specs.Sums.{sum, count, only}
 use Rattle.laws.specs.Lists.{at}
-use Rattle.laws.specs.Placement.{Placed, SlotRule, everywhere}
+use Rattle.laws.specs.Placement.{Placed, Ties, TotalTies, holders, SlotRule, everywhere}
 use Rattle.laws.specs.Eviction.{FirstSmallest}
 use Rattle.station.specs.Limits.{worstPriority, leastCells}
-use Rattle.station.specs.Head.{Head, Job, Valid, presetAt}
+use Rattle.station.specs.Head.{Head, Job, Valid, withTie, presetAt}
 use Rattle.station.specs.Refusal.{Refusal, mandatoryNotFeasible, callNotFeasible, firstOf}
 use Rattle.placing.specs.Table.{Cells, cell, cells, Each, presetCount, numberAt, numberIn, callCell}
-use Rattle.placing.specs.State.{State, WellFormedFrame}
+use Rattle.placing.specs.State.{State, withOrder, WellFormedFrame}
 use Rattle.placing.specs.Valid.{ValidPlan, ValidCall, jobAt, lost, lostUpTo, optionalOf}
-use Rattle.placing.specs.Plan.{rank, planFreeCount}
+use Rattle.placing.specs.Plan.{rank, planFreeCount, tieOf, planned}
 use Rattle.placing.specs.Call.{evictionOrder, InEvictionOrder, slotsOf, inSet, emptyFree, emptyCount, lengths, evictedSet, called}
 use Rattle.placing.specs.Capacity.{PlanByCapacity, CallByCapacity, GreatestExcess, longestJobs, emptyCapacity}
 use Rattle.placing.specs.Outcomes.{Cost, PlanAnswer, planOf, frameCauses, jobCauses, CallAnswer, callOf, joining}
@@ -43,12 +43,19 @@ optionalOfFirst h t r = sum (presetCount h) (λ i. only (ltb (rank h i) r) (opti
 abbrev pub cellsOfPreset : Head → Cells → ℕ → ℕ → ℕ
 cellsOfPreset h u i s = count (h .bridges) (λ b. eqb (numberIn (u s b)) (numberAt h i))
 
--- "as many presets as there are free bridges, those with the most slots still to get, never one with none left. Equal ones: the earlier line first": slot s of the
--- table u of a plan with the grants g. A preset has its required slots and its grant still to get, less its cells in the slots before.
+-- "as many presets as there are free bridges, those with the most slots still to get, never one with none left": slot s of the table u of a plan with the grants g. A preset has its
+-- required slots and its grant still to get, less its cells in the slots before. Of equal ones those go first whom the head's order of ties puts first: "the earlier line first", or by
+-- `(tie hold)` "those with a cell in the slot just before .., then file .. order".
 abbrev pub PresetsRule : Head → List ℕ → Cells → ℕ → Type 0
 PresetsRule h g u s =
-    SlotRule (presetCount h) (λ i. presetAt h i .mandatory + at g i - sum s (λ r. cellsOfPreset h u i r)) (planFreeCount h s)
+    SlotRule (tieOf (h .hold) s (holders (λ i r. ltb 0 (cellsOfPreset h u i r)) s)) (presetCount h) (λ i. presetAt h i .mandatory + at g i - sum s (λ r. cellsOfPreset h u i r)) (planFreeCount h s)
     (λ i. ltb 0 (cellsOfPreset h u i s))
+
+-- "Optimality is shown for every order of ties": the table u of a plan with the grants g is valid, shows these grants, and no valid plan grants the first k presets by rank more.
+pub record BestPlan (h : Head) (g : List ℕ) (u : Cells) : Type 0 where
+  pub valid : ValidPlan h u
+  pub reported : (i : ℕ) → i < presetCount h → at g i ≡ optionalOf h u i
+  pub best : (v : List ℕ) → ValidPlan h (cell h v) → (k : ℕ) → optionalOfFirst h (cell h v) k ≤ optionalOfFirst h u k
 
 pub record PlanClaim (h : Head) (t : List ℕ) : Type 0 where
   -- 5 comes exactly when no cause tried before it holds and no valid plan exists
@@ -66,6 +73,9 @@ pub record PlanClaim (h : Head) (t : List ℕ) : Type 0 where
       → (u : List ℕ) → ValidPlan h (cell h u) → (k : ℕ) → optionalOfFirst h (cell h u) k ≤ optionalOfFirst h (cell h (planOf h t .table)) k
   -- "Needs fit exactly if, for every r, the r largest needs together do not exceed" the room for r: a valid plan of the head exists exactly then
   pub capacity : Valid h → PlanByCapacity h
+  -- all this of the table that the rule makes with any order of ties; and 5 and the grants do not depend on the order
+  pub any-order : (g : List ℕ) → planOf h t .answer ≡ PlanAnswer.granted g → (ties : Ties) → TotalTies ties → BestPlan h g (planned ties h)
+  pub any-answer : (hold : Bool) → planOf (withTie h hold) t .answer ≡ planOf h t .answer
   pub past : SamePast h t (planOf h t .table)
 
 -- "the meaning of "fits" is that a valid placement exists": the jobs have a placement in the free cells x
@@ -77,15 +87,24 @@ abbrev pub cellsOfJob : Head → List Job → Cells → ℕ → ℕ → ℕ
 cellsOfJob h jobs u i s = count (h .bridges) (λ b. eqb (u s b) (callCell (jobAt jobs i .number)))
 
 -- "Jobs are then placed by the rule above over the empty and lost cells, in the call's order": slot s of the table u that a call leaves of t. A job has its length still
--- to get less its cells in the slots before; of equal jobs the earlier in the call goes first.
-abbrev pub JobsRule : Head → ℕ → List Job → Cells → Cells → ℕ → Type 0
-JobsRule h clock jobs t u s =
-    SlotRule (length jobs) (λ i. jobAt jobs i .slots - sum s (λ r. cellsOfJob h jobs u i r))
+-- to get less its cells in the slots before. Of equal jobs those go first whom the order of ties puts first that is in force: the earlier in the call, or by `(tie hold)` "those with a cell in
+-- the slot just before .., then .. call order".
+abbrev pub JobsRule : Head → ℕ → Bool → List Job → Cells → Cells → ℕ → Type 0
+JobsRule h clock hold jobs t u s =
+    SlotRule (tieOf hold s (holders (λ i r. ltb 0 (cellsOfJob h jobs u i r)) s)) (length jobs) (λ i. jobAt jobs i .slots - sum s (λ r. cellsOfJob h jobs u i r))
     (count (h .bridges) (λ b. emptyFree clock t s b || lost t u s b)) (λ i. ltb 0 (cellsOfJob h jobs u i s))
 
 -- the causes tried before 7
 abbrev pub beforeSeven : Head → List Job → State → List (Option Refusal)
 beforeSeven h jobs st = frameCauses h st ++ jobCauses h jobs (cell h (st .table))
+
+-- "Optimality is shown for every order of ties": the table u that a call of cost n leaves of t is valid, has lost the first smallest set and no other cell, n counts these, and no valid placement
+-- loses less, in all or for any priority and better.
+pub record LeastCall (h : Head) (clock : ℕ) (jobs : List Job) (n : Cost) (t u : Cells) : Type 0 where
+  pub valid : ValidCall h clock jobs t u
+  pub lost-cells : Each h (λ s b. lost t u s b ≡ inSet (evictionOrder h clock t) (evictedSet h clock jobs t) s b)
+  pub reported : n .count ≡ cells h (λ s b. lost t u s b)
+  pub least : (v : List ℕ) → ValidCall h clock jobs t (cell h v) → (p : ℕ) → lostUpTo h t u p ≤ lostUpTo h t (cell h v) p
 
 pub record CallClaim (h : Head) (jobs : List Job) (st : State) : Type 0 where
   -- "Number 7 comes exactly when a call meets no cause tried before 7 and has no valid placement."
@@ -94,10 +113,10 @@ pub record CallClaim (h : Head) (jobs : List Job) (st : State) : Type 0 where
   -- "An accepted call leaves a valid one, that of the rules above":
   pub valid : (n : Cost) → callOf h jobs st .answer ≡ CallAnswer.taken n → ValidCall h (st .clock) (joining h st jobs) (cell h (st .table)) (cell h (callOf h jobs st .after .table))
   pub rule : (n : Cost) → callOf h jobs st .answer ≡ CallAnswer.taken n
-      → Each h (λ s b. cell h (callOf h jobs st .after .table) s b ≡ called h (st .clock) (joining h st jobs) (cell h (st .table)) s b)
+      → Each h (λ s b. cell h (callOf h jobs st .after .table) s b ≡ called (tieOf (st .hold)) h (st .clock) (joining h st jobs) (cell h (st .table)) s b)
   -- the jobs that have a cell in a slot of it are those that the rule chooses there
   pub slots : (n : Cost) → callOf h jobs st .answer ≡ CallAnswer.taken n
-      → (s : ℕ) → s < h .slots → JobsRule h (st .clock) (joining h st jobs) (cell h (st .table)) (cell h (callOf h jobs st .after .table)) s
+      → (s : ℕ) → s < h .slots → JobsRule h (st .clock) (st .hold) (joining h st jobs) (cell h (st .table)) (cell h (callOf h jobs st .after .table)) s
   -- "The order of loss: worst rank first; for one preset the latest slot first."
   pub order : (n : Cost) → callOf h jobs st .answer ≡ CallAnswer.taken n → InEvictionOrder h (st .clock) (cell h (st .table)) (evictionOrder h (st .clock) (cell h (st .table)))
   -- "The lost cells: of the smallest sets with which the call fits, each written as a list in the order of loss, the one whose list comes first."
@@ -121,4 +140,8 @@ pub record CallClaim (h : Head) (jobs : List Job) (st : State) : Type 0 where
   -- empty cells; and what is lost is the greatest excess
   pub capacity : firstOf (beforeSeven h jobs st) ≡ none → CallByCapacity h (st .clock) jobs (cell h (st .table))
   pub excess : (n : Cost) → callOf h jobs st .answer ≡ CallAnswer.taken n → GreatestExcess (longestJobs jobs) (emptyCapacity h (st .clock) (cell h (st .table))) (n .count)
+  -- all this of the table that the rule makes with any order of ties; and 7 and the cost do not depend on the order
+  pub any-order : (n : Cost) → callOf h jobs st .answer ≡ CallAnswer.taken n → (ties : Ties) → TotalTies ties
+      → LeastCall h (st .clock) (joining h st jobs) n (cell h (st .table)) (called ties h (st .clock) (joining h st jobs) (cell h (st .table)))
+  pub any-answer : (hold : Bool) → callOf h jobs (withOrder hold st) .answer ≡ callOf h jobs st .answer
   pub past : SamePast h (st .table) (callOf h jobs st .after .table)

@@ -38,5 +38,5 @@ pub record CallEntered (n : ℕ) (head : Head) (ps : List Preset) (jobs : List J
 pub record CallEntry (head : Head) (ps : List Preset) (jobs : List Job) (st : State) (u : List ℕ) (r : CallAnswer) : Type 0 where
   pub done : CallEntered (length ps) head ps jobs st u r
   -- a frame that 11 lets pass is such a frame afterwards: "Each event gets the table and clock that the last one left"
-  pub kept : Running (headIn head ps) st → Running (headIn head ps) (stateOf u (st .clock))
+  pub kept : Running (headIn head ps) st → Running (headIn head ps) (stateOf u (st .clock) (st .hold))
   pub claim : CallClaim (headIn head ps) jobs st

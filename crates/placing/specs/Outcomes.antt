@@ -16,7 +16,7 @@ use Rattle.station.specs.Refusal.{Refusal, outOfLimits, numberUsed, mandatoryNo
 use Rattle.placing.specs.Table.{Cells, cell, isUsed, jobCount}
 use Rattle.placing.specs.State.{State, withTable, wellFormedFrame}
 use Rattle.placing.specs.Valid.{jobAt}
-use Rattle.placing.specs.Plan.{planFits, mandatories, grants, planned}
+use Rattle.placing.specs.Plan.{planFits, mandatories, grants, tieOf, planned}
 use Rattle.placing.specs.Call.{evictedSet, callFits, called}
 
 -- The lent table with the cells of u in the frame: "Cells past S × B are never changed".
@@ -45,7 +45,7 @@ planCauses h t =
 unfoldable pub planOf : Head → List ℕ → PlanOutcome
 planOf h t =
     elim (firstOf (planCauses h t)) [
-      | none ↦ record { answer = granted (grants h); table = written h (planned h) t }
+      | none ↦ record { answer = granted (grants h); table = written h (planned (tieOf (h .hold)) h) t }
       | some r ↦ record { answer = refused 0 r; table = t }
     ]
 
@@ -110,9 +110,9 @@ pub record CallOutcome : Type 0 where
   pub answer : CallAnswer
   pub after : State
 
--- what a call leaves that is carried out: the table with its jobs, and the clock as it was
+-- what a call leaves that is carried out: the table with its jobs, placed by the order of ties in force; the clock and this order as they were
 abbrev pub calledState : Head → List Job → State → State
-calledState h jobs st = withTable (written h (called h (st .clock) (joining h st jobs) (cell h (st .table))) (st .table)) st
+calledState h jobs st = withTable (written h (called (tieOf (st .hold)) h (st .clock) (joining h st jobs) (cell h (st .table))) (st .table)) st
 
 unfoldable pub callOf : Head → List Job → State → CallOutcome
 callOf h jobs st =

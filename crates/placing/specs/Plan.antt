@@ -1,14 +1,14 @@
--- The plan: rank, grants, and where the presets go. Document 01, "What is granted, and where it goes".
+-- The plan: rank, grants, and where the presets go. Document 01, "What is granted, and where it goes"; document 02, 2026-02.
 -- Assumes nothing.
 use Prim.Native.Nat.{ℕ, _+_, _-_, _≤_, _<_}
 use mathlib.Core.Path.{_≡_}
-use mathlib.Core.Bool.{Bool, not, cond}
+use mathlib.Core.Bool.{Bool, true, false, not, cond}
 use mathlib.Core.List.{List, map}
 use lib.ListN.{length}
 use lib.Dec.{ltb, eqb}
 use Rattle.laws.specs.Sums.{only, count, position, ascending}
 use Rattle.laws.specs.Lists.{at, tabulate}
-use Rattle.laws.specs.Placement.{Placed, everywhere, left, lrtf, excess}
+use Rattle.laws.specs.Placement.{Placed, everywhere, Ties, tiePlace, tieHold, nobody, left, lrtf, excess}
 use Rattle.laws.specs.Cells.{slotCell}
 use Rattle.laws.specs.Grants.{granted}
 use Rattle.station.specs.Head.{Head, Preset, busyAt, presetAt}
@@ -76,15 +76,22 @@ needs h = needsFrom h (mandatories h)
 unfoldable pub grants : Head → List ℕ
 grants h = tabulate (presetCount h) (λ i. at (needs h) i - at (mandatories h) i)
 
+-- the order of ties: "`(tie hold)` changes the order of equal remaining times", "`(tie place)` brings back the old order"
+abbrev pub tieOf : Bool → Ties
+tieOf true = tieHold
+tieOf false = tiePlace
+
 -- "A preset's first m cells in time are required, the rest refinement."
-abbrev pub planCell : Head → List ℕ → ℕ → ℕ → ℕ
-planCell h c i s =
+abbrev pub planCell : Ties → Head → List ℕ → ℕ → ℕ → ℕ
+planCell ties h c i s =
     cond
-    (ltb (at c i - at (left c (planFreeCount h) s) i) (presetAt h i .mandatory))
+    (ltb (at c i - at (left ties nobody c (planFreeCount h) s) i) (presetAt h i .mandatory))
     (mandatoryCell (numberAt h i))
     (optionalCell (numberAt h i))
 
--- The table of the plan: "Placing, slot by slot from the first: as many presets as there are free bridges, those with the most slots still to get, never one with none left."
-unfoldable pub planned : Head → Cells
+-- The table of the plan under an order of ties: "Placing, slot by slot from the first: as many presets as there are free bridges, those with the most slots still to get, never one
+-- with none left." Before its first slot nobody has a cell.
+unfoldable pub planned : Ties → Head → Cells
 unfolding placing
-planned h = placing (length (needs h)) (planFree h) (λ i s. lrtf (needs h) (planFreeCount h) i s) (planCell h (needs h)) (λ s b. busyCell)
+planned ties h =
+    placing (length (needs h)) (planFree h) (λ i s. lrtf ties nobody (needs h) (planFreeCount h) i s) (planCell ties h (needs h)) (λ s b. busyCell)

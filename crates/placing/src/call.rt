@@ -76,11 +76,12 @@ fn carry_out(
     presets: [Preset; MOST_PRESETS],
     table: &mut [Cell],
     clock: usize,
+    hold: bool,
     jobs: [Job; MOST_JOBS],
     n: usize,
 ) -> CallAnswer
     ensures { λ r. ⌜ (validRecord head presets ≡ true → leastCells ≤ length (now (table .entry)) → n ≤ mostJobs → jobsOutside (jobsIn n jobs) ≡ false
-        → CallCarriedOut (headIn head presets) (jobsIn n jobs) (stateOf (now (table .entry)) clock) (now (table .exit)) r) ⌝ }
+        → CallCarriedOut (headIn head presets) (jobsIn n jobs) (stateOf (now (table .entry)) clock hold) (now (table .exit)) r) ⌝ }
 {
     let slots = head.slots;
     let bridges = head.bridges;
@@ -105,11 +106,12 @@ fn carry_out(
         cells,
         cells,
         clean,
+        hold,
     );
     CallAnswer::Taken(count)
 }
 
-// Takes a call of the first n jobs on a running frame whose clock is at `clock`, by the counts of its table and clock: the causes 2, 4, 9 of its jobs, then 7 where it
+// Takes a call of the first n jobs on a running frame whose clock is at `clock` and whose order of ties is `hold`, by the counts of its table and clock: the causes 2, 4, 9 of its jobs, then 7 where it
 // does not fit. A refusal changes nothing; a call that is taken brings the counts up to the table that it leaves. Who keeps them between calls need not have the table
 // counted for each. They are lent in their parts: the numbers that are used, how many of them the call cells have, and the capacities.
 pub fn call_by_counts(
@@ -117,40 +119,42 @@ pub fn call_by_counts(
     presets: [Preset; MOST_PRESETS],
     table: &mut [Cell],
     clock: usize,
+    hold: bool,
     jobs: [Job; MOST_JOBS],
     n: usize,
     used: &mut [u8; 256],
     admitted: &mut usize,
     capacities: &mut [usize; CAPACITY_COUNT],
 ) -> CallAnswer
-    ensures { λ r. ⌜ (validRecord head presets ≡ true → Running (headIn head presets) (stateOf (now (table .entry)) clock)
+    ensures { λ r. ⌜ (validRecord head presets ≡ true → Running (headIn head presets) (stateOf (now (table .entry)) clock hold)
         → CountsOf (headIn head presets) clock (cell (headIn head presets) (now (table .entry))) (now (used .entry)) (now (admitted .entry)) (now (capacities .entry))
-        → CallDone head presets (callJobs n jobs) (stateOf (now (table .entry)) clock) (now (table .exit)) r
+        → CallDone head presets (callJobs n jobs) (stateOf (now (table .entry)) clock hold) (now (table .exit)) r
         × CountsOf (headIn head presets) clock (cell (headIn head presets) (now (table .exit))) (now (used .exit)) (now (admitted .exit)) (now (capacities .exit))) ⌝ }
 {
     if let Cause::Met(r) = cause_by_counts(used, *admitted, capacities, jobs, n) {
         return CallAnswer::Refused(0, r);
     }
-    let answer = carry_out(head, presets, table, clock, jobs, n);
+    let answer = carry_out(head, presets, table, clock, hold, jobs, n);
     mark_jobs(used, jobs, n);
     *admitted = *admitted + n;
     *capacities = capacities_at(head.slots, head.bridges, table, clock);
     answer
 }
 
-// Takes a call of the first n jobs on the frame whose clock is at `clock`: the causes 8, 2, 11, then 2, 4, 9 of its jobs, then 7 where it does not fit. A refusal
+// Takes a call of the first n jobs on the frame whose clock is at `clock` and whose order of ties is `hold`: the causes 8, 2, 11, then 2, 4, 9 of its jobs, then 7 where it does not fit. A refusal
 // changes nothing. A frame that 11 lets pass is such a frame afterwards.
 pub fn call_by_value(
     head: Head,
     presets: [Preset; MOST_PRESETS],
     table: &mut [Cell],
     clock: usize,
+    hold: bool,
     jobs: [Job; MOST_JOBS],
     n: usize,
 ) -> CallAnswer
-    ensures done { λ r. ⌜ CallDone head presets (callJobs n jobs) (stateOf (now (table .entry)) clock) (now (table .exit)) r ⌝ }
-    ensures kept { λ _. ⌜ (Running (headIn head presets) (stateOf (now (table .entry)) clock) → Running (headIn head presets) (stateOf (now (table .exit)) clock)) ⌝ }
-    ensures claim { λ _. ⌜ CallClaim (headIn head presets) (callJobs n jobs) (stateOf (now (table .entry)) clock) ⌝ }
+    ensures done { λ r. ⌜ CallDone head presets (callJobs n jobs) (stateOf (now (table .entry)) clock hold) (now (table .exit)) r ⌝ }
+    ensures kept { λ _. ⌜ (Running (headIn head presets) (stateOf (now (table .entry)) clock hold) → Running (headIn head presets) (stateOf (now (table .exit)) clock hold)) ⌝ }
+    ensures claim { λ _. ⌜ CallClaim (headIn head presets) (callJobs n jobs) (stateOf (now (table .entry)) clock hold) ⌝ }
 {
     if let Cause::Met(r) = frame_cause(head, presets, table, clock) {
         return CallAnswer::Refused(0, r);
@@ -164,6 +168,7 @@ pub fn call_by_value(
         presets,
         table,
         clock,
+        hold,
         jobs,
         n,
         &mut used,
@@ -179,18 +184,19 @@ fn call_counted(
     copied: [Preset; MOST_PRESETS],
     table: &mut [Cell],
     clock: usize,
+    hold: bool,
     jobs: [Job; MOST_JOBS],
     n: usize,
 ) -> CallAnswer
-    ensures { λ r. ⌜ CallEntered records head copied (callJobs n jobs) (stateOf (now (table .entry)) clock) (now (table .exit)) r ⌝ }
+    ensures { λ r. ⌜ CallEntered records head copied (callJobs n jobs) (stateOf (now (table .entry)) clock hold) (now (table .exit)) r ⌝ }
 {
     if records < LEAST_RECORDS {
         return CallAnswer::Refused(0, Refusal::TooShort);
     }
-    call_by_value(head, copied, table, clock, jobs, n)
+    call_by_value(head, copied, table, clock, hold, jobs, n)
 }
 
-// Takes a call of the first n jobs on the frame whose clock is at `clock`, the presets being the list's first records: the causes 8 (a table below 512 cells or
+// Takes a call of the first n jobs on the frame whose clock is at `clock` and whose order of ties is `hold`, the presets being the list's first records: the causes 8 (a table below 512 cells or
 // a list below 32 records), 2, 11, then 2, 4, 9 of its jobs, then 7 where it does not fit. A refusal changes nothing. A frame that 11 lets pass is such a frame
 // afterwards.
 pub fn call(
@@ -198,12 +204,13 @@ pub fn call(
     presets: &[Preset],
     table: &mut [Cell],
     clock: usize,
+    hold: bool,
     jobs: [Job; MOST_JOBS],
     n: usize,
 ) -> CallAnswer
-    ensures { λ r. ⌜ CallEntry head (now (presets .entry)) (callJobs n jobs) (stateOf (now (table .entry)) clock) (now (table .exit)) r ⌝ }
+    ensures { λ r. ⌜ CallEntry head (now (presets .entry)) (callJobs n jobs) (stateOf (now (table .entry)) clock hold) (now (table .exit)) r ⌝ }
 {
     let records = record_count(presets);
     let copied = load(presets);
-    call_counted(records, head, copied, table, clock, jobs, n)
+    call_counted(records, head, copied, table, clock, hold, jobs, n)
 }

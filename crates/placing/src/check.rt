@@ -11,7 +11,7 @@ use station::types::Preset;
 use station::types::Refusal;
 ghost use Prim.Native.Nat.{_≤_};
 ghost use mathlib.Core.Path.{_≡_};
-ghost use mathlib.Core.Bool.{true};
+ghost use mathlib.Core.Bool.{Bool, true};
 ghost use lib.ListN.{length};
 ghost use Rattle.station.specs.Limits.{leastCells};
 ghost use Rattle.station.specs.Refusal.{firstOf};
@@ -50,7 +50,7 @@ fn well_formed_frame(
     clock: usize,
 ) -> bool
     requires { ⌜ (validRecord head presets ≡ true) × (leastCells ≤ length (now table)) ⌝ }
-    ensures { λ r. ⌜ r ≡ wellFormedFrame (headIn head presets) (stateOf (now (table .entry)) clock) ⌝ }
+    ensures { λ r. ⌜ ((hold : Bool) → r ≡ wellFormedFrame (headIn head presets) (stateOf (now (table .entry)) clock hold)) ⌝ }
 {
     let slots = head.slots;
     if !well_formed(head, presets, table) {
@@ -60,14 +60,14 @@ fn well_formed_frame(
 }
 
 // The causes of a running frame: 8 for a table below 512 cells, 2 for a head record that no text yields, 11 for a table that is not well-formed or a clock
-// outside 1 to S + 1.
+// outside 1 to S + 1, whatever the order of ties is.
 pub fn frame_cause(
     head: Head,
     presets: [Preset; MOST_PRESETS],
     table: &[Cell],
     clock: usize,
 ) -> Cause
-    ensures { λ r. ⌜ causeIn r ≡ firstOf (frameCausesOf head presets (stateOf (now (table .entry)) clock)) ⌝ }
+    ensures { λ r. ⌜ ((hold : Bool) → causeIn r ≡ firstOf (frameCausesOf head presets (stateOf (now (table .entry)) clock hold))) ⌝ }
 {
     if table.len() < LEAST_CELLS {
         return Cause::Met(Refusal::TooShort);

@@ -26,7 +26,7 @@ ghost use Rattle.station.specs.Types.{headIn, validRecord};
 ghost use Rattle.placing.specs.method.Limits.{mostPlaced};
 ghost use Rattle.placing.specs.method.Records.{recordAt};
 ghost use Rattle.placing.specs.method.Grants.{GrantedValid};
-ghost use Rattle.placing.specs.Plan.{planned};
+ghost use Rattle.placing.specs.Plan.{tieOf, planned};
 ghost use Rattle.placing.specs.Outcomes.{written};
 ghost use Rattle.placing.specs.Claims.{PlanClaim};
 ghost use Rattle.placing.specs.PlanDone.{PlanDone};
@@ -90,7 +90,7 @@ fn grants_of(needs: [u8; MOST_PLACED], mandatory: [u8; MOST_PLACED], k: usize) -
 // Writes the plan's table: busy cells first, then the presets with what each of them gets.
 fn write_plan(head: Head, presets: [Preset; MOST_PRESETS], table: &mut [Cell], granted: Granted)
     requires { ⌜ (validRecord head presets ≡ true) × (leastCells ≤ length (now table)) × GrantedValid head presets granted × (granted .fits ≡ true) ⌝ }
-    ensures { λ _. ⌜ now (table .exit) ≡ written (headIn head presets) (planned (headIn head presets)) (now (table .entry)) ⌝ }
+    ensures { λ _. ⌜ now (table .exit) ≡ written (headIn head presets) (planned (tieOf (head .hold)) (headIn head presets)) (now (table .entry)) ⌝ }
 {
     let slots = head.slots;
     let bridges = head.bridges;
@@ -114,6 +114,7 @@ fn write_plan(head: Head, presets: [Preset; MOST_PRESETS], table: &mut [Cell], g
         early,
         late,
         clean,
+        head.hold,
     );
 }
 

@@ -10,6 +10,7 @@ use crate::numbers::widened;
 use crate::rule::levels::LEVELS;
 use crate::rule::levels::choose;
 use crate::rule::levels::enter;
+use crate::rule::levels::held_after;
 use crate::rule::levels::highest;
 use crate::rule::masks::count_free;
 use crate::rule::row::write_row;
@@ -22,6 +23,7 @@ ghost use Rattle.laws.specs.Sums.{every};
 ghost use Rattle.laws.specs.Lists.{at};
 ghost use Rattle.station.specs.Limits.{mostLength};
 ghost use Rattle.placing.specs.method.Limits.{mostPlaced};
+ghost use Rattle.placing.specs.Plan.{tieOf};
 ghost use Rattle.placing.specs.method.Rule.{CleanFrom, placeable, placedWithin};
 
 // Whether none of the first k needs is above the longest job.
@@ -60,6 +62,7 @@ fn placeable(
 
 // Places jobs 0 to k - 1 with the needs into the free bridges, largest remaining time first, slot by slot from the first. Job i writes `early[i]` in its first
 // `first[i]` slots and `late[i]` in the others. A free bridge that nobody takes becomes 0; one that is not free keeps its cell, and so does all past the frame.
+// Of jobs that need the same the earlier one goes first; by `hold` those go before it that have a cell in the slot just before.
 // From slot `clean` on the free bridges are to be empty already: none is emptied there, and once every job has its cells, nothing is looked at there.
 // Of a mask the first `bridges` bridges count. Where the frame, k, one of the needs or the table is beyond the limits, nothing is written.
 pub(crate) fn place(
@@ -73,9 +76,10 @@ pub(crate) fn place(
     early: [Cell; MOST_PLACED],
     late: [Cell; MOST_PLACED],
     clean: usize,
+    hold: bool,
 )
     ensures { λ _. ⌜ (CleanFrom clean slots bridges free (now (table .entry))
-        → now (table .exit) ≡ placedWithin slots bridges free needs k first early late (now (table .entry))) ⌝ }
+        → now (table .exit) ≡ placedWithin (tieOf hold) slots bridges free needs k first early late (now (table .entry))) ⌝ }
 {
     if !placeable(slots, bridges, &needs, k, table.len()) {
         return;
@@ -84,6 +88,7 @@ pub(crate) fn place(
     let mut levels = [0u64; LEVELS];
     // Nobody stands above it: it only goes down.
     let mut top = enter(&mut levels, &needs, k);
+    let mut held: u64 = 0;
     let mut s = 0;
     while s < slots {
         top = highest(&levels, top, 0);
@@ -93,8 +98,9 @@ pub(crate) fn place(
             }
         }
         let mask = free[s];
+        let mut chosen: u64 = 0;
         if mask != 0 {
-            let chosen = choose(&mut levels, top, count_free(mask, bridges));
+            chosen = choose(&mut levels, top, count_free(mask, bridges), held);
             write_row(
                 table,
                 s * bridges,
@@ -107,6 +113,7 @@ pub(crate) fn place(
                 s < clean,
             );
         }
+        held = held_after(chosen, hold);
         s += 1;
     }
 }

@@ -4,29 +4,30 @@
 -- Assumes nothing.
 use Prim.Native.Nat.{ℕ, _≤_}
 use native.Mathlib.Omega.{arith}
-use mathlib.Core.Path.{_≡_, refl, sym, _∙_, ap, subst}
-use mathlib.Core.Bool.{true}
-use mathlib.Core.List.{List, [], _∷_, _++_, map}
-use lib.ListN.{length, length-set}
+use mathlib.Core.Path.{_≡_, refl, sym, _∙_, ap}
+use mathlib.Core.Bool.{Bool, true}
+use mathlib.Core.List.{List, [], _∷_, map}
+use lib.ListN.{length, getD}
 use lib.Seq.{length-sets}
 use lib.Dec.{ltb, leb}
+use Rattle.laws.specs.Sums.{bit}
 use Rattle.laws.proofs.Tests.{both}
 use Rattle.laws.proofs.Comparisons.{ge-of, ltb-no, leb-yes}
-use Rattle.station.specs.Head.{Head, valid}
-use Rattle.station.specs.Refusal.{tooShort, firstOf}
+use Rattle.station.specs.Head.{valid}
+use Rattle.station.specs.Refusal.{tooShort}
 use Rattle.station.specs.Types.{headIn, validRecord}
 use Rattle.station.specs.declared.types.Head as record-of-head
 use Rattle.station.specs.ReadHead.{headRecord, recordOf}
 use Rattle.station.proofs.Theorems.{passed, first-none, of-valid, number-some}
 use Rattle.placing.specs.State.{State, stateOf}
-use Rattle.placing.specs.Causes.{causesOf, frameCausesOf}
+use Rattle.placing.specs.Causes.{frameCausesOf}
 use Rattle.placing.proofs.Theorems.{causes-none, frame-running, running-frame}
-use Rattle.frame.specs.Event.{Event, line, Answer, Outcome, eventOf, Run, runOf}
+use Rattle.frame.specs.Event.{line, Outcome, eventOf, Run, runOf}
 use Rattle.frame.specs.Text.{Whole, notRead, notPlanned, ran}
 use Rattle.frame.specs.TextDone.{endOf}
 use Rattle.frame.proofs.Theorems.{demand-3, meant-event}
-use Rattle.planner.specs.Layout.{recordsIn, bytesOf, frameNumbers, headOfNumbers, clockOfNumbers, headOver, numbersOver, clockOver}
-use Rattle.planner.proofs.RoundTrip.{head-back, clock-head, clock-new, clock-same, clock-again}
+use Rattle.planner.specs.Layout.{recordsIn, bytesOf, frameNumbers, tieInForce, headOfNumbers, clockOfNumbers, holdOfNumbers, headOver, tieOver, numbersOver, clockOver}
+use Rattle.planner.proofs.RoundTrip.{head-back, run-others, run-length, run-head, run-clock, run-hold}
 use Rattle.planner.proofs.RunText.{on-ran}
 use Rattle.planner.proofs.EventLine.{on-enough}
 use Rattle.planner.specs.Exports.{headOn, stateOn, RunningOn, textOn, endReturned, frameAfter, recordsAfter, TextLeaves, TextPromise, eventOn, EventLeaves}
@@ -54,20 +55,27 @@ module _ (p : List ℕ) (s : 128 ≤ length p) where
           let a : answeredBy (eventOn f p t l .answer) ≡ answeredBy (o .answer) = ap (λ (x : Outcome). answeredBy (x .answer)) line-meant in
           ap (λ (k : ℕ). record { answer = k; number = n }) (d .answer) ∙ ap (λ (k : ℕ). record { answer = answeredBy (eventOn f p t l .answer) .answer; number = k }) (d .number) ∙ a
 
-      line-frame : f₁ ≡ clockOver (o .after .clock) f
-      line-frame = d .frame ∙ ap (λ (x : Outcome). clockOver (x .after .clock) f) line-meant
+      line-frame : f₁ ≡ tieOver tieInForce (o .after .hold) (clockOver (o .after .clock) f)
+      line-frame = d .frame ∙ ap (λ (x : Outcome). tieOver tieInForce (x .after .hold) (clockOver (x .after .clock) f)) line-meant
 
       same-head : headOfNumbers f₁ ≡ headOfNumbers f
-      same-head = ap headOfNumbers line-frame ∙ clock-head (o .after .clock) f
+      same-head = ap headOfNumbers line-frame ∙ run-head (o .after .clock) (o .after .hold) f
+
+      same-length : length f₁ ≡ length f
+      same-length = ap length line-frame ∙ run-length (o .after .clock) (o .after .hold) f
+
+      same-others : (i : ℕ) → (i ≡ 3 → ⊥) → (i ≡ tieInForce → ⊥) → getD f₁ i 0 ≡ getD f i 0
+      same-others i a b = ap (λ (m : List ℕ). getD m i 0) line-frame ∙ run-others (o .after .clock) (o .after .hold) f i a b
 
       line-state : stateOn f₁ t₁ ≡ o .after
       line-state =
-          ap (λ (u : List ℕ). stateOf u (clockOfNumbers f₁)) (d .table ∙ ap (λ (x : Outcome). x .after .table) line-meant)
-          ∙ ap (stateOf (o .after .table)) (ap clockOfNumbers line-frame ∙ clock-new (o .after .clock) f (ready .0))
+          ap (λ (u : List ℕ). stateOf u (clockOfNumbers f₁) (holdOfNumbers f₁)) (d .table ∙ ap (λ (x : Outcome). x .after .table) line-meant)
+          ∙ ap (λ (c : ℕ). stateOf (o .after .table) c (holdOfNumbers f₁)) (ap clockOfNumbers line-frame ∙ run-clock (o .after .clock) (o .after .hold) f (ready .0))
+          ∙ ap (stateOf (o .after .table) (o .after .clock)) (ap holdOfNumbers line-frame ∙ run-hold (o .after .clock) (o .after .hold) f (ready .0))
 
       line-ready : RunningOn f₁ p t₁ → Ready f₁ t₁
       line-ready run = (
-        omega (arith, ready .0, ap length line-frame, length-set f 3 (o .after .clock)),
+        omega (arith, ready .0, same-length),
         ap (λ (h : record-of-head.Head). validRecord h (recordsIn p)) same-head ∙ ready .1,
         run,
       )
@@ -82,23 +90,24 @@ module _ (p : List ℕ) (s : 128 ≤ length p) where
 
   abbrev Comes : List ℕ → List ℕ → List (List ℕ) → List Answered → List ℕ → List ℕ → Type 0
   Comes f t ls answers last end =
-      (answers ≡ map answeredBy (runOn f p t ls .answers)) × (last ≡ clockOver (runOn f p t ls .after .clock) f) × (end ≡ runOn f p t ls .after .table)
+      (answers ≡ map answeredBy (runOn f p t ls .answers))
+      × (stateOn last end ≡ runOn f p t ls .after)
+      × (length last ≡ length f)
+      × ((i : ℕ) → (i ≡ 3 → ⊥) → (i ≡ tieInForce → ⊥) → getD last i 0 ≡ getD f i 0)
 
   lines-run : {f t last end : List ℕ} {ls : List (List ℕ)} {answers : List Answered} → Ready f t → HandedOn p f t ls answers last end → Comes f t ls answers last end
   unfolding runOf
-  lines-run ready (no-more {frame}) = (refl, sym (clock-same frame), refl)
-  lines-run ready (by-event {frame} {t} {l} {frame₁} {t₁} {last} {end} {ls = ls} {answers} d promise after) =
+  lines-run ready no-more = (refl, refl, refl, λ i a b. refl)
+  lines-run ready (by-event {frame} {t} {l} {ls = ls} {answers} d promise after) =
       let next = lines-run (line-ready frame t l ready d (promise .kept (ready .2))) after in
       let same = rest-run frame t l ready d ls in
       let h = headOn frame p in
       let x = eventOf h (stateOn frame t) (line l) in (
         ap (λ (a : Answered). a ∷ answers) (line-answer frame t l ready d)
             ∙ ap (λ (rest : List Answered). answeredBy (x .answer) ∷ rest) (next .0 ∙ ap (λ (y : Run). map answeredBy (y .answers)) same),
-        next .1
-            ∙ ap (clockOver (runOn frame₁ p t₁ ls .after .clock)) (line-frame frame t l ready d)
-            ∙ clock-again (runOn frame₁ p t₁ ls .after .clock) (x .after .clock) frame
-            ∙ ap (λ (y : Run). clockOver (y .after .clock) frame) same,
-        next .2 ∙ ap (λ (y : Run). y .after .table) same,
+        next .1 ∙ ap (λ (y : Run). y .after) same,
+        next .2 ∙ same-length frame t l ready d,
+        λ i a b. next .3 i a b ∙ same-others frame t l ready d i a b,
       )
 
 -- The claim, for every list of lines handed over from a start that 11 lets pass.
@@ -111,11 +120,11 @@ handed-on frame presets t {ls = ls} start handed =
     let second = first-none tooShort (ltb (length presets) 128) own (first .1) in
     let passes = frame-running head (recordsIn presets) (stateOn frame t) (second .1) in
     let comes = lines-run presets (ge-of (length presets) 128 (second .0)) (ge-of (length frame) frameNumbers (first .0), passes .0, passes .1) handed in
-    record { answered = comes .0; left = comes .1; table = comes .2; demand3 = demand-3 (headOn frame presets) (stateOn frame t) (map line ls) (passes .1) }
+    record { answered = comes .0; left = comes .1; numbers = comes .2; others = comes .3; demand3 = demand-3 (headOn frame presets) (stateOn frame t) (map line ls) (passes .1) }
 
 -- writing a frame leaves its length
-frame-size : (hd : record-of-head.Head) (c : ℕ) (f : List ℕ) → length (numbersOver hd c f) ≡ length f
-frame-size hd c f = length-sets (headOver hd c f) 12 (0 ∷ 0 ∷ 0 ∷ 0 ∷ []) ∙ length-sets f 0 (hd .slots ∷ hd .bridges ∷ hd .count ∷ c ∷ hd .busy)
+frame-size : (hd : record-of-head.Head) (c : ℕ) (hold : Bool) (f : List ℕ) → length (numbersOver hd c hold f) ≡ length f
+frame-size hd c hold f = length-sets (headOver hd c f) 12 (0 ∷ bit (hd .hold) ∷ bit hold ∷ 0 ∷ []) ∙ length-sets f 0 (hd .slots ∷ hd .bridges ∷ hd .count ∷ c ∷ hd .busy)
 
 -- "It starts from an accepted head with its plan": a text that `planner_run_text` ran leaves such a start, its contract being the premises.
 pub ran-lets-pass : (text f p t out : List ℕ) {f₁ p₁ t₁ out₁ : List ℕ} {n r : ℕ} → TextLeaves (textOn text f p t out) f p t out f₁ p₁ t₁ out₁ n r
@@ -132,11 +141,11 @@ ran-lets-pass text f p t out {f₁} {p₁} {t₁} d promise z = go (textOn text 
         let ok = promise .claim .demand3 h m g x whole .running .valid in
         let frame = d .frame ∙ ap (λ (w : Whole). frameAfter w f) e in
         let records = d .presets ∙ ap (λ (w : Whole). recordsAfter w p) e in
-        let head : headOfNumbers f₁ ≡ headRecord h = ap headOfNumbers frame ∙ head-back (headRecord h) (x .after .clock) f (ok .masks) (long .0) in
+        let head : headOfNumbers f₁ ≡ headRecord h = ap headOfNumbers frame ∙ head-back (headRecord h) (x .after .clock) (x .after .hold) f (ok .masks) (long .0) in
         let count = ap (λ (y : record-of-head.Head). y .count) head in
         let few = leb-yes (headOfNumbers f₁ .count) 32 (omega (arith, count, ok .number-of-presets)) in
         let run = promise .running z in
-        let size : length f₁ ≡ length f = ap length frame ∙ frame-size (headRecord h) (x .after .clock) f in
+        let size : length f₁ ≡ length f = ap length frame ∙ frame-size (headRecord h) (x .after .clock) (x .after .hold) f in
         let bytes : length p₁ ≡ length p = ap length records ∙ length-sets p 0 (bytesOf (map recordOf (h .presets))) in
         passed tooShort (ltb (length f₁) frameNumbers) _ (ltb-no (length f₁) frameNumbers (omega (arith, size, long .0)))
         ∙ passed tooShort (ltb (length p₁) 128) _ (ltb-no (length p₁) 128 (omega (arith, bytes, long .1)))

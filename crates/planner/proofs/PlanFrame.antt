@@ -42,8 +42,8 @@ of-keeps h t l = go (firstOf (planCauses h t)) refl
     go none q = let z : 0 < 0 = rw (q, planOf) at l in absurd (omega (arith, z))
     go (some r) q = rw (q, planOf) refl
 
--- and any other leaves that of a running frame with the first clock
-of-runs : (h : Head) (t : List ℕ) (a : PlanAnswer) → planOf h t .answer ≡ a → planReturned a .number ≡ 0 → Running h (startOf (planOf h t .table))
+-- and any other leaves that of a running frame with the first clock and the head's order of ties
+of-runs : (h : Head) (t : List ℕ) (a : PlanAnswer) → planOf h t .answer ≡ a → planReturned a .number ≡ 0 → Running h (startOf h (planOf h t .table))
 of-runs h t (PlanAnswer.granted g) e z = planned-running h t g e
 of-runs h t (PlanAnswer.refused _ r) e z = absurd (number-some r z)
 
@@ -56,11 +56,11 @@ module _ (head : record-of-head.Head) (ps : List record-of-preset.Preset) (t : L
       go none q = rw (q, planMeant) (of-keeps (headIn head ps) t (rw (q, planMeant) at l))
       go (some r) q = rw (q, planMeant) refl
 
-  plan-runs : planReturned (planMeant head ps t .answer) .number ≡ 0 → Running (headIn head ps) (startOf (planMeant head ps t .table))
+  plan-runs : planReturned (planMeant head ps t .answer) .number ≡ 0 → Running (headIn head ps) (startOf (headIn head ps) (planMeant head ps t .table))
   unfolding planMeant
   plan-runs z = go (firstOf (causesOf head ps t)) refl
     where
-      go : (c : Option Refusal) → firstOf (causesOf head ps t) ≡ c → Running (headIn head ps) (startOf (planMeant head ps t .table))
+      go : (c : Option Refusal) → firstOf (causesOf head ps t) ≡ c → Running (headIn head ps) (startOf (headIn head ps) (planMeant head ps t .table))
       go none q = rw (q, planMeant) (of-runs (headIn head ps) t (planOf (headIn head ps) t .answer) refl (rw (q, planMeant) at z))
       go (some r) q = absurd (number-some r (rw (q, planMeant) at z))
 
@@ -111,7 +111,7 @@ module _ (f p t g : List ℕ) where
       record {
         unchanged = λ z. d .table ∙ plan-keeps (headOfNumbers f) (recordsIn p) t (omega (arith, z, e));
         claim = plan-claim (headOn f p) t;
-        running = λ z. subst (λ (u : List ℕ). Running (headOn f p) (startOf u)) (sym (d .table)) (plan-runs (headOfNumbers f) (recordsIn p) t (sym e ∙ z));
+        running = λ z. subst (λ (u : List ℕ). Running (headOn f p) (startOf (headOn f p) u)) (sym (d .table)) (plan-runs (headOfNumbers f) (recordsIn p) t (sym e ∙ z));
       },
     )
 

@@ -1,24 +1,27 @@
 -- The layout's round trips: reading and writing are inverse, and what stands past the records and the frame never changes.
 --
 -- In order: a run of stores (`sets-cons`, `sets-four`, `sets-short`, `sets-past`); preset records: what was written is read back (`records-back`), what was read and is
--- written changes nothing (`bytes-back`), nor does what was read behind other records (`bytes-over-rest`), and bytes past them stay (`bytes-past`); a frame: its reserved
--- places are not looked at (`reserved-head`, `reserved-clock`), what was written is read back (`head-back`, `clock-back`) with 0 in the reserved places
--- (`cleared-zero`), numbers past it stay (`head-past`, `numbers-past`), the head and the clock that were read and are written change nothing (`head-same`), and with the
--- reserved numbers exactly if these are 0 (`numbers-back`, `back-zero`); its clock alone (`clock-head`, `clock-new`, `clock-same`, `clock-again`); its
--- masks alone (`masks-head`, `masks-same`).
+-- written changes nothing (`bytes-back`), nor does what was read behind other records (`bytes-over-rest`), and bytes past them stay (`bytes-past`); a frame: the places of its head
+-- (`head-agrees`, `head-equal`), its reserved places are not looked at (`reserved-head`, `reserved-clock`, `reserved-hold`), what was written is read back (`head-back`, `clock-back`, `hold-back`),
+-- numbers past it stay (`head-past`, `numbers-past`), the head and the clock that were read and are written change nothing (`head-same`), nor does a whole frame exactly if it stands as it is
+-- written (`AsWritten`, `as-written`, `numbers-back`, `back-written`); an order of ties alone, which stands already or is written (`Ordered`, `ordered`, `tie-same`),
+-- and the head that was read, with its own (`read-same`); a clock and the order of ties in force, as an event leaves them (`run-others`, `run-length`, `run-head`, `run-clock`, `run-hold`, `run-same`); its masks alone (`masks-head`, `masks-same`).
 -- Assumes nothing.
 use Prim.Native.Nat.{ℕ, zero, suc, _+_, _*_, _≤_, _<_}
 use native.Mathlib.Omega.{arith}
 use mathlib.Core.Path.{_≡_, refl, sym, _∙_, ap, subst}
+use mathlib.Core.Bool.{Bool, true, false}
 use mathlib.Core.List.{List, [], _∷_, _++_, append-nil}
-use lib.ListN.{length, getD, set, drop}
-use lib.Seq.{sets, sets-eq, drop-set-lt, getD-set-same, getD-set-other, set-getD}
+use lib.ListN.{length, getD, set, drop, length-set}
+use lib.Seq.{sets, length-sets, sets-eq, drop-set-lt, getD-set-same, getD-set-other, set-getD}
+use Rattle.laws.specs.Sums.{bit}
 use Rattle.laws.specs.Lists.{tabulate}
+use Rattle.laws.proofs.Tests.{Is, is, is-true, is-false, clash}
 use Rattle.laws.proofs.Stores.{sets-out}
 use Rattle.station.specs.declared.types.Preset.{Preset}
 use Rattle.station.specs.declared.types.Head.{Head}
-use Rattle.station.specs.Types.{withMasks}
-use Rattle.planner.specs.Layout.{firstRecords, bytesOf, bytesOver, frameNumbers, headOfNumbers, clockOfNumbers, headOver, reservedCleared, numbersOver, clockOver, masksOver}
+use Rattle.station.specs.Types.{withHold, withMasks}
+use Rattle.planner.specs.Layout.{firstRecords, bytesOf, bytesOver, frameNumbers, headTie, tieInForce, saysHold, headOfNumbers, clockOfNumbers, holdOfNumbers, headOver, tieOver, numbersOver, clockOver, masksOver}
 
 -- ---- a run of stores
 
@@ -109,105 +112,215 @@ below-sets : (l : List ℕ) (k : ℕ) (vs : List ℕ) (i : ℕ) → i < k → ge
 below-sets l k [] i h = refl
 below-sets l k (v ∷ vs) i h = below-sets (set l k v) (suc k) vs i (omega arith) ∙ getD-set-other l k i v 0 (omega arith)
 
--- The reserved places are not looked at: whatever is written there, the head and the clock are the same.
-pub reserved-head : (l vs : List ℕ) → headOfNumbers (sets l 12 vs) ≡ headOfNumbers l
-unfolding tabulate
-reserved-head l vs =
-    let at : (i : ℕ) → i < 12 → getD (sets l 12 vs) i 0 ≡ getD l i 0 = below-sets l 12 vs in
-    rw (at 0 (omega arith), at 1 (omega arith), at 2 (omega arith), at 4 (omega arith), at 5 (omega arith), at 6 (omega arith), at 7 (omega arith), at 8 (omega arith), at 9 (omega arith), at 10 (omega arith), at 11 (omega arith))
-    refl
+-- and one past it
+past-sets : (l : List ℕ) (k : ℕ) (vs : List ℕ) (i : ℕ) → k + length vs ≤ i → getD (sets l k vs) i 0 ≡ getD l i 0
+past-sets l k [] i h = refl
+past-sets l k (v ∷ vs) i h = past-sets (set l k v) (suc k) vs i (omega arith) ∙ getD-set-other l k i v 0 (omega arith)
 
-pub reserved-clock : (l vs : List ℕ) → clockOfNumbers (sets l 12 vs) ≡ clockOfNumbers l
-reserved-clock l vs = below-sets l 12 vs 3 (omega arith)
+-- The head is made of the numbers at its places: a frame that agrees there with another has the same head but for its order of ties.
+module _ (l m : List ℕ) (at : (i : ℕ) → i < 12 → (i ≡ 3 → ⊥) → getD m i 0 ≡ getD l i 0) where
+  head-agrees : (hold : Bool) → saysHold (getD m headTie 0) ≡ hold → headOfNumbers m ≡ withHold (headOfNumbers l) hold
+  unfolding tabulate
+  head-agrees hold tie =
+      rw (at 0 (omega arith) (λ e. omega arith), at 1 (omega arith) (λ e. omega arith), at 2 (omega arith) (λ e. omega arith), at 4 (omega arith) (λ e. omega arith), at 5 (omega arith) (λ e. omega arith), at 6 (omega arith) (λ e. omega arith), at 7 (omega arith) (λ e. omega arith), at 8 (omega arith) (λ e. omega arith), at 9 (omega arith) (λ e. omega arith), at 10 (omega arith) (λ e. omega arith), at 11 (omega arith) (λ e. omega arith), tie)
+      refl
+
+  -- and the same head where it agrees there too
+  head-equal : getD m headTie 0 ≡ getD l headTie 0 → headOfNumbers m ≡ headOfNumbers l
+  head-equal tie = head-agrees (saysHold (getD l headTie 0)) (ap saysHold tie)
+
+-- The reserved places are not looked at: whatever is written there, the head, the clock and the order of ties in force are the same.
+module _ (l : List ℕ) (supply jobs : ℕ) where
+  reserved-at : (i : ℕ) → (i ≡ 12 → ⊥) → (i ≡ 15 → ⊥) → getD (set (set l 12 supply) 15 jobs) i 0 ≡ getD l i 0
+  reserved-at i a b = getD-set-other (set l 12 supply) 15 i jobs 0 b ∙ getD-set-other l 12 i supply 0 a
+
+  pub reserved-head : headOfNumbers (set (set l 12 supply) 15 jobs) ≡ headOfNumbers l
+  reserved-head =
+      head-equal l (set (set l 12 supply) 15 jobs) (λ i h k. reserved-at i (λ e. omega arith) (λ e. omega arith)) (reserved-at headTie (λ e. omega arith) (λ e. omega arith))
+
+  pub reserved-clock : clockOfNumbers (set (set l 12 supply) 15 jobs) ≡ clockOfNumbers l
+  reserved-clock = reserved-at 3 (λ e. omega arith) (λ e. omega arith)
+
+  pub reserved-hold : holdOfNumbers (set (set l 12 supply) 15 jobs) ≡ holdOfNumbers l
+  reserved-hold = ap saysHold (reserved-at tieInForce (λ e. omega arith) (λ e. omega arith))
+
+-- both orders of ties, with 0 in the reserved places beside them
+says-bit : (hold : Bool) → saysHold (bit hold) ≡ hold
+says-bit true = refl
+says-bit false = refl
+
+module _ (l : List ℕ) (kept hold : Bool) where
+  abbrev both-orders : List ℕ
+  both-orders = sets l 12 (0 ∷ bit kept ∷ bit hold ∷ 0 ∷ [])
+
+  abbrev to-twelve : List ℕ
+  to-twelve = set l 12 0
+
+  abbrev to-thirteen : List ℕ
+  to-thirteen = set to-twelve 13 (bit kept)
+
+  orders-below : (i : ℕ) → i < 12 → getD both-orders i 0 ≡ getD l i 0
+  orders-below = below-sets l 12 (0 ∷ bit kept ∷ bit hold ∷ 0 ∷ [])
+
+  orders-head : frameNumbers ≤ length l → headOfNumbers both-orders ≡ withHold (headOfNumbers l) kept
+  orders-head h =
+      let read : getD both-orders headTie 0 ≡ bit kept =
+      below-sets to-thirteen 14 (bit hold ∷ 0 ∷ []) 13 (omega arith) ∙ getD-set-same to-twelve 13 (bit kept) 0 (omega (arith, h, length-set l 12 0)) in
+      head-agrees l both-orders (λ i k n. orders-below i k) kept (ap saysHold read ∙ says-bit kept)
+
+  orders-hold : frameNumbers ≤ length l → holdOfNumbers both-orders ≡ hold
+  orders-hold h =
+      let read : getD both-orders tieInForce 0 ≡ bit hold =
+      below-sets (set to-thirteen 14 (bit hold)) 15 (0 ∷ []) 14 (omega arith)
+      ∙ getD-set-same to-thirteen 14 (bit hold) 0 (omega (arith, h, length-set to-twelve 13 (bit kept), length-set l 12 0)) in
+      ap saysHold read ∙ says-bit hold
 
 -- what was written is read back
-module _ (head : Head) (clock : ℕ) (l : List ℕ) (eight : length (head .busy) ≡ 8) where
+module _ (head : Head) (clock : ℕ) (hold : Bool) (l : List ℕ) (eight : length (head .busy) ≡ 8) where
   numbers-are : frameNumbers ≤ length l → headOver head clock l ≡ head .slots ∷ head .bridges ∷ head .count ∷ clock ∷ (head .busy ++ drop 12 l)
   numbers-are h = sets-eq (head .slots ∷ head .bridges ∷ head .count ∷ clock ∷ head .busy) l 0 (omega (arith, eight)) ∙ rw eight refl
 
-  pub head-back : frameNumbers ≤ length l → headOfNumbers (numbersOver head clock l) ≡ head
+  head-long : frameNumbers ≤ length l → frameNumbers ≤ length (headOver head clock l)
+  head-long h = omega (arith, h, length-sets l 0 (head .slots ∷ head .bridges ∷ head .count ∷ clock ∷ head .busy))
+
+  pub head-back : frameNumbers ≤ length l → headOfNumbers (numbersOver head clock hold l) ≡ head
   unfolding tabulate
   head-back h =
       let masks : tabulate 8 (λ i. getD (head .busy ++ drop 12 l) i 0) ≡ head .busy = rw eight at (firsts-read (head .busy) (drop 12 l)) in
-      reserved-head (headOver head clock l) (0 ∷ 0 ∷ 0 ∷ 0 ∷ []) ∙ rw (numbers-are h, masks) refl
+      orders-head (headOver head clock l) (head .hold) hold (head-long h) ∙ rw (numbers-are h, masks) refl
 
-  pub clock-back : frameNumbers ≤ length l → clockOfNumbers (numbersOver head clock l) ≡ clock
-  clock-back h = reserved-clock (headOver head clock l) (0 ∷ 0 ∷ 0 ∷ 0 ∷ []) ∙ rw (numbers-are h) refl
+  pub clock-back : frameNumbers ≤ length l → clockOfNumbers (numbersOver head clock hold l) ≡ clock
+  clock-back h = orders-below (headOver head clock l) (head .hold) hold 3 (omega arith) ∙ rw (numbers-are h) refl
+
+  pub hold-back : frameNumbers ≤ length l → holdOfNumbers (numbersOver head clock hold l) ≡ hold
+  hold-back h = orders-hold (headOver head clock l) (head .hold) hold (head-long h)
 
   -- numbers past those written never change: past the twelfth with the head and the clock alone, past the sixteenth with a whole frame
   pub head-past : drop 12 (headOver head clock l) ≡ drop 12 l
   head-past = sets-past 12 l 0 (head .slots ∷ head .bridges ∷ head .count ∷ clock ∷ head .busy) (omega (arith, eight))
 
-  pub numbers-past : drop frameNumbers (numbersOver head clock l) ≡ drop frameNumbers l
+  pub numbers-past : drop frameNumbers (numbersOver head clock hold l) ≡ drop frameNumbers l
   numbers-past =
-      sets-past frameNumbers (headOver head clock l) 12 (0 ∷ 0 ∷ 0 ∷ 0 ∷ []) (omega arith)
+      sets-past frameNumbers (headOver head clock l) 12 (0 ∷ bit (head .hold) ∷ bit hold ∷ 0 ∷ []) (omega arith)
       ∙ sets-past frameNumbers l 0 (head .slots ∷ head .bridges ∷ head .count ∷ clock ∷ head .busy) (omega (arith, eight))
 
--- writing the head and the clock that were read changes nothing
-pub head-same : (l : List ℕ) → headOver (headOfNumbers l) (clockOfNumbers l) l ≡ l
+-- writing the head but for its order of ties and the clock that were read changes nothing
+head-same : (l : List ℕ) → headOver (headOfNumbers l) (clockOfNumbers l) l ≡ l
 unfolding tabulate
 head-same l =
     rw (set-getD l 0 0, set-getD l 1 0, set-getD l 2 0, set-getD l 3 0, set-getD l 4 0, set-getD l 5 0, set-getD l 6 0, set-getD l 7 0, set-getD l 8 0, set-getD l 9 0, set-getD l 10 0, set-getD l 11 0)
     refl
 
--- the reserved numbers are 0
-pub record ReservedZero (l : List ℕ) : Type 0 where
+-- A frame as a text that ran leaves it: the reserved numbers are 0, and an order of ties is 0 or 1.
+pub record AsWritten (l : List ℕ) : Type 0 where
   pub supply : getD l 12 0 ≡ 0
-  pub tie : getD l 13 0 ≡ 0
-  pub tie-now : getD l 14 0 ≡ 0
+  pub tie : getD l headTie 0 ≡ bit (saysHold (getD l headTie 0))
+  pub tie-now : getD l tieInForce 0 ≡ bit (saysHold (getD l tieInForce 0))
   pub jobs : getD l 15 0 ≡ 0
 
--- 0 that was written at a place stands there, and past the end 0 is read; written where it stands it changes nothing
+-- 0 that was written at a place stands there, and past the end 0 is read; an order of ties too; a number written where it stands changes nothing
 zero-at : (l : List ℕ) (i : ℕ) → getD (set l i 0) i 0 ≡ 0
 zero-at [] i = refl
 zero-at (x ∷ l) zero = refl
 zero-at (x ∷ l) (suc i) = zero-at l i
 
-zero-same : (l : List ℕ) (i : ℕ) → getD l i 0 ≡ 0 → set l i 0 ≡ l
-zero-same l i e = ap (set l i) (sym e) ∙ set-getD l i 0
+bit-at : (l : List ℕ) (i : ℕ) (b : Bool) → getD (set l i (bit b)) i 0 ≡ bit (saysHold (getD (set l i (bit b)) i 0))
+bit-at [] i b = refl
+bit-at (x ∷ l) zero b = ap bit (sym (says-bit b))
+bit-at (x ∷ l) (suc i) b = bit-at l i b
 
-pub cleared-zero : (l : List ℕ) → ReservedZero (reservedCleared l)
-cleared-zero l =
+put-same : (l : List ℕ) (i v : ℕ) → getD l i 0 ≡ v → set l i v ≡ l
+put-same l i v e = ap (set l i) (sym e) ∙ set-getD l i 0
+
+pub as-written : (l : List ℕ) (kept hold : Bool) → AsWritten (sets l 12 (0 ∷ bit kept ∷ bit hold ∷ 0 ∷ []))
+as-written l kept hold =
     let l₁ = set l 12 0 in
-    let l₂ = set l₁ 13 0 in
-    let l₃ = set l₂ 14 0 in
+    let l₂ = set l₁ 13 (bit kept) in
+    let l₃ = set l₂ 14 (bit hold) in
+    let thirteen = below-sets l₂ 14 (bit hold ∷ 0 ∷ []) 13 (omega arith) in
+    let fourteen = below-sets l₃ 15 (0 ∷ []) 14 (omega arith) in
     record {
-      supply = below-sets l₁ 13 (0 ∷ 0 ∷ 0 ∷ []) 12 (omega arith) ∙ zero-at l 12;
-      tie = below-sets l₂ 14 (0 ∷ 0 ∷ []) 13 (omega arith) ∙ zero-at l₁ 13;
-      tie-now = below-sets l₃ 15 (0 ∷ []) 14 (omega arith) ∙ zero-at l₂ 14;
+      supply = below-sets l₁ 13 (bit kept ∷ bit hold ∷ 0 ∷ []) 12 (omega arith) ∙ zero-at l 12;
+      tie = thirteen ∙ bit-at l₁ 13 kept ∙ ap (λ (n : ℕ). bit (saysHold n)) (sym thirteen);
+      tie-now = fourteen ∙ bit-at l₂ 14 hold ∙ ap (λ (n : ℕ). bit (saysHold n)) (sym fourteen);
       jobs = zero-at l₃ 15;
     }
 
--- Writing the whole frame that was read changes nothing exactly if they are.
-pub numbers-back : (l : List ℕ) → ReservedZero l → numbersOver (headOfNumbers l) (clockOfNumbers l) l ≡ l
-numbers-back l z = ap reservedCleared (head-same l) ∙ rw (zero-same l 12 (z .supply), zero-same l 13 (z .tie), zero-same l 14 (z .tie-now), zero-same l 15 (z .jobs)) refl
+-- Writing the whole frame that was read changes nothing exactly if it is so.
+pub numbers-back : (l : List ℕ) → AsWritten l → numbersOver (headOfNumbers l) (clockOfNumbers l) (holdOfNumbers l) l ≡ l
+numbers-back l z =
+    let kept = saysHold (getD l headTie 0) in
+    let hold = holdOfNumbers l in
+    ap (λ (m : List ℕ). sets m 12 (0 ∷ bit kept ∷ bit hold ∷ 0 ∷ [])) (head-same l)
+    ∙ rw (put-same l 12 0 (z .supply), put-same l headTie (bit kept) (z .tie), put-same l tieInForce (bit hold) (z .tie-now), put-same l 15 0 (z .jobs)) refl
 
-pub back-zero : (l : List ℕ) → numbersOver (headOfNumbers l) (clockOfNumbers l) l ≡ l → ReservedZero l
-back-zero l e = subst ReservedZero e (cleared-zero (headOver (headOfNumbers l) (clockOfNumbers l) l))
+pub back-written : (l : List ℕ) → numbersOver (headOfNumbers l) (clockOfNumbers l) (holdOfNumbers l) l ≡ l → AsWritten l
+back-written l e = subst AsWritten e (as-written (headOver (headOfNumbers l) (clockOfNumbers l) l) (saysHold (getD l headTie 0)) (holdOfNumbers l))
 
--- ---- its clock alone
+-- ---- an order of ties alone
 
-pub clock-head : (c : ℕ) (l : List ℕ) → headOfNumbers (clockOver c l) ≡ headOfNumbers l
-unfolding tabulate
-clock-head c [] = refl
-clock-head c (x ∷ []) = refl
-clock-head c (x ∷ y ∷ []) = refl
-clock-head c (x ∷ y ∷ z ∷ []) = refl
-clock-head c (x ∷ y ∷ z ∷ w ∷ l) = refl
+-- it stands at its place already, in whatever number, or it is written there
+data Ordered (place : ℕ) (hold : Bool) (l : List ℕ) : List ℕ → Type 0 where
+  stands : saysHold (getD l place 0) ≡ hold → Ordered place hold l l
+  written : (saysHold (getD l place 0) ≡ hold → ⊥) → Ordered place hold l (set l place (bit hold))
 
-pub clock-new : (c : ℕ) (l : List ℕ) → frameNumbers ≤ length l → clockOfNumbers (clockOver c l) ≡ c
-clock-new c l h = getD-set-same l 3 c 0 (omega arith)
+ordered : (place : ℕ) (hold : Bool) (l : List ℕ) → Ordered place hold l (tieOver place hold l)
+ordered place hold l = go (is (saysHold (getD l place 0))) hold
+  where
+    go : Is (saysHold (getD l place 0)) → (hold : Bool) → Ordered place hold l (tieOver place hold l)
+    go (is-true e) true = rw e (stands e)
+    go (is-true e) false = rw e (written (λ q. clash (sym e ∙ q)))
+    go (is-false e) true = rw e (written (λ q. clash (sym q ∙ e)))
+    go (is-false e) false = rw e (stands e)
 
-pub clock-same : (l : List ℕ) → clockOver (clockOfNumbers l) l ≡ l
-clock-same l = set-getD l 3 0
+module _ {place : ℕ} {hold : Bool} {l : List ℕ} where
+  ordered-length : {m : List ℕ} → Ordered place hold l m → length m ≡ length l
+  ordered-length (stands e) = refl
+  ordered-length (written k) = length-set l place (bit hold)
 
--- the clock that is written last stands
-pub clock-again : (c d : ℕ) (l : List ℕ) → clockOver c (clockOver d l) ≡ clockOver c l
-clock-again c d [] = refl
-clock-again c d (x ∷ []) = refl
-clock-again c d (x ∷ y ∷ []) = refl
-clock-again c d (x ∷ y ∷ z ∷ []) = refl
-clock-again c d (x ∷ y ∷ z ∷ w ∷ l) = refl
+  ordered-other : {m : List ℕ} (i : ℕ) → (i ≡ place → ⊥) → Ordered place hold l m → getD m i 0 ≡ getD l i 0
+  ordered-other i d (stands e) = refl
+  ordered-other i d (written k) = getD-set-other l place i (bit hold) 0 d
+
+  ordered-says : {m : List ℕ} → place < length l → Ordered place hold l m → saysHold (getD m place 0) ≡ hold
+  ordered-says h (stands e) = e
+  ordered-says h (written k) = ap saysHold (getD-set-same l place (bit hold) 0 h) ∙ says-bit hold
+
+  ordered-same : {m : List ℕ} → saysHold (getD l place 0) ≡ hold → Ordered place hold l m → m ≡ l
+  ordered-same q (stands e) = refl
+  ordered-same q (written k) = absurd (k q)
+
+-- an order that stands changes nothing, whatever number says it
+tie-same : (place : ℕ) (l : List ℕ) → tieOver place (saysHold (getD l place 0)) l ≡ l
+tie-same place l = ordered-same refl (ordered place (saysHold (getD l place 0)) l)
+
+-- writing the head and the clock that were read changes nothing
+pub read-same : (l : List ℕ) → tieOver headTie (headOfNumbers l .hold) (headOver (headOfNumbers l) (clockOfNumbers l) l) ≡ l
+read-same l = ap (tieOver headTie (headOfNumbers l .hold)) (head-same l) ∙ tie-same headTie l
+
+-- ---- its clock and its order of ties in force
+
+module _ (c : ℕ) (hold : Bool) (l : List ℕ) where
+  abbrev run-on : List ℕ
+  run-on = tieOver tieInForce hold (clockOver c l)
+
+  pub run-others : (i : ℕ) → (i ≡ 3 → ⊥) → (i ≡ tieInForce → ⊥) → getD run-on i 0 ≡ getD l i 0
+  run-others i a b = ordered-other i b (ordered tieInForce hold (clockOver c l)) ∙ getD-set-other l 3 i c 0 a
+
+  pub run-length : length run-on ≡ length l
+  run-length = ordered-length (ordered tieInForce hold (clockOver c l)) ∙ length-set l 3 c
+
+  pub run-head : headOfNumbers run-on ≡ headOfNumbers l
+  run-head = head-equal l run-on (λ i h k. run-others i k (λ e. omega arith)) (run-others headTie (λ e. omega arith) (λ e. omega arith))
+
+  pub run-clock : frameNumbers ≤ length l → clockOfNumbers run-on ≡ c
+  run-clock h = ordered-other 3 (λ e. omega arith) (ordered tieInForce hold (clockOver c l)) ∙ getD-set-same l 3 c 0 (omega arith)
+
+  pub run-hold : frameNumbers ≤ length l → holdOfNumbers run-on ≡ hold
+  run-hold h = ordered-says (omega (arith, h, length-set l 3 c)) (ordered tieInForce hold (clockOver c l))
+
+pub run-same : (l : List ℕ) → tieOver tieInForce (holdOfNumbers l) (clockOver (clockOfNumbers l) l) ≡ l
+run-same l = ap (tieOver tieInForce (holdOfNumbers l)) (set-getD l 3 0) ∙ tie-same tieInForce l
 
 -- ---- its masks alone
 
@@ -221,7 +334,7 @@ masks-head ms (x ∷ y ∷ z ∷ []) eight h = absurd (omega arith)
 masks-head ms (x ∷ y ∷ z ∷ w ∷ l) eight h =
     let masks : tabulate 8 (λ i. getD (ms ++ drop 8 l) i 0) ≡ ms = rw eight at (firsts-read ms (drop 8 l)) in
     let there : sets l 0 ms ≡ ms ++ drop 8 l = sets-eq ms l 0 (omega (arith, eight)) ∙ rw eight refl in
-    rw (sets-four x y z w l ms, there, masks) refl
+    rw (past-sets (x ∷ y ∷ z ∷ w ∷ l) 4 ms headTie (omega (arith, eight)), sets-four x y z w l ms, there, masks) refl
 
 -- writing the masks that were read changes nothing
 pub masks-same : (l : List ℕ) → masksOver (headOfNumbers l .busy) l ≡ l

@@ -7,6 +7,7 @@
 use Prim.Native.Nat.{ℕ, _≤_, _<_}
 use native.Mathlib.Omega.{arith}
 use mathlib.Core.Path.{_≡_, refl, sym, _∙_, ap, subst}
+use mathlib.Core.Bool.{Bool}
 use mathlib.Core.List.{List, map}
 use lib.ListN.{length, drop, length-map, length-append, length-drop}
 use lib.Dec.{ltb}
@@ -24,10 +25,10 @@ use Rattle.placing.specs.Claims.{Running}
 use Rattle.frame.specs.Text.{Whole, notRead, notPlanned, ran}
 use Rattle.frame.specs.Event.{Run}
 use Rattle.frame.specs.declared.text.TextRun as run
-use Rattle.frame.specs.TextDone.{wholeWithOutput, End, endIn, endOf, headAfter, presetsAfter, tableAfter, clockAfter, outputAfter, TextDone}
+use Rattle.frame.specs.TextDone.{wholeWithOutput, End, endIn, endOf, headAfter, presetsAfter, tableAfter, clockAfter, holdAfter, outputAfter, TextDone}
 use Rattle.frame.proofs.Theorems.{beside-long, text-claim}
-use Rattle.planner.specs.Layout.{recordsIn, bytesOver, frameNumbers, headOfNumbers, clockOfNumbers, numbersOver}
-use Rattle.planner.proofs.RoundTrip.{records-back, bytes-back, bytes-over-rest, length-records, head-back, clock-back, head-same}
+use Rattle.planner.specs.Layout.{recordsIn, bytesOver, frameNumbers, headOfNumbers, clockOfNumbers, holdOfNumbers, numbersOver}
+use Rattle.planner.proofs.RoundTrip.{records-back, bytes-back, bytes-over-rest, length-records, head-back, clock-back, hold-back, read-same}
 use Rattle.planner.specs.Exports.{RunningOn, textOn, endReturned, value, frameLeft, frameAfter, recordsAfter, TextLeaves, TextPromise}
 
 module _ (text f p t out : List ℕ) where
@@ -89,9 +90,9 @@ module _ (text f p t out : List ℕ) where
   text-short-presets l k s = text-stopped tooShort (on-short-presets l k s)
 
   -- what a text leaves of the frame and of the records by value, written back
-  frame-left : (w : Whole) → frameLeft (endOf w out) (headAfter w (headOfNumbers f)) (clockAfter w (clockOfNumbers f)) f ≡ frameAfter w f
-  unfolding endOf headAfter clockAfter frameAfter
-  frame-left (notRead n r) = head-same f
+  frame-left : (w : Whole) → frameLeft (endOf w out) (headAfter w (headOfNumbers f)) (clockAfter w (clockOfNumbers f)) (holdAfter w (holdOfNumbers f)) f ≡ frameAfter w f
+  unfolding endOf headAfter clockAfter holdAfter frameAfter
+  frame-left (notRead n r) = read-same f
   frame-left (notPlanned h n r) = refl
   frame-left (ran h n g r) = refl
 
@@ -105,24 +106,25 @@ module _ (text f p t out : List ℕ) where
   presets-left (ran h n g r) = over-left h
 
   -- a head and its records, written and read again
-  head-again : (h : Head) (c : ℕ) {f₁ p₁ : List ℕ} → frameNumbers ≤ length f → 128 ≤ length p → length (h .busy) ≡ 8 → length (h .presets) ≤ 32
-      → f₁ ≡ numbersOver (headRecord h) c f → p₁ ≡ bytesOver (recordsOver (h .presets) (recordsIn p)) p
-      → (headIn (headOfNumbers f₁) (recordsIn p₁) ≡ h) × (clockOfNumbers f₁ ≡ c)
-  head-again h c {f₁} {p₁} k s eight few a b =
+  head-again : (h : Head) (c : ℕ) (hold : Bool) {f₁ p₁ : List ℕ} → frameNumbers ≤ length f → 128 ≤ length p → length (h .busy) ≡ 8 → length (h .presets) ≤ 32
+      → f₁ ≡ numbersOver (headRecord h) c hold f → p₁ ≡ bytesOver (recordsOver (h .presets) (recordsIn p)) p
+      → (headIn (headOfNumbers f₁) (recordsIn p₁) ≡ h) × (clockOfNumbers f₁ ≡ c) × (holdOfNumbers f₁ ≡ hold)
+  head-again h c hold {f₁} {p₁} k s eight few a b =
       let all : length (recordsOver (h .presets) (recordsIn p)) ≡ 32 =
       omega (arith, few, length-append (map recordOf (h .presets)) (drop (length (h .presets)) (recordsIn p)), length-map (h .presets) recordOf, length-drop (length (h .presets)) (recordsIn p), length-records 32 p) in
       let back : recordsIn p₁ ≡ recordsOver (h .presets) (recordsIn p) =
       ap recordsIn b ∙ (rw all at (records-back (recordsOver (h .presets) (recordsIn p)) p (omega (arith, all, s)))) in (
-        ap (λ (g : record-of-head.Head). headIn g (recordsIn p₁)) (ap headOfNumbers a ∙ head-back (headRecord h) c f eight k)
+        ap (λ (g : record-of-head.Head). headIn g (recordsIn p₁)) (ap headOfNumbers a ∙ head-back (headRecord h) c hold f eight k)
             ∙ ap (headIn (headRecord h)) back
             ∙ heads.head-back h (recordsIn p),
-        ap clockOfNumbers a ∙ clock-back (headRecord h) c f eight k,
+        ap clockOfNumbers a ∙ clock-back (headRecord h) c hold f eight k,
+        ap holdOfNumbers a ∙ hold-back (headRecord h) c hold f eight k,
       )
 
-  module _ {f₁ p₁ t₁ out₁ : List ℕ} {x : run.TextRun} (k : frameNumbers ≤ length f) (s : 128 ≤ length p) (d : TextDone text (headOfNumbers f) (recordsIn p) t (clockOfNumbers f) out t₁ out₁ x)
-      (a : f₁ ≡ frameLeft (endIn (x .ended)) (x .head) (x .clock) f) (b : p₁ ≡ bytesOver (x .presets) p) where
+  module _ {f₁ p₁ t₁ out₁ : List ℕ} {x : run.TextRun} (k : frameNumbers ≤ length f) (s : 128 ≤ length p) (d : TextDone text (headOfNumbers f) (recordsIn p) t (clockOfNumbers f) (holdOfNumbers f) out t₁ out₁ x)
+      (a : f₁ ≡ frameLeft (endIn (x .ended)) (x .head) (x .clock) (x .hold) f) (b : p₁ ≡ bytesOver (x .presets) p) where
     ran-left : (w : Whole) → wholeWithOutput text t out ≡ w → endReturned (endOf w out) .number ≡ 0 → RunningOn f₁ p₁ t₁
-    unfolding endOf headAfter presetsAfter tableAfter clockAfter
+    unfolding endOf headAfter presetsAfter tableAfter clockAfter holdAfter
     ran-left (notRead n r) e z = absurd (number-some r z)
     ran-left (notPlanned h n r) e z = absurd (number-some r z)
     ran-left (ran h n g r) e z =
@@ -131,15 +133,20 @@ module _ (text f p t out : List ℕ) where
         let end : endIn (x .ended) ≡ endOf (ran h n g r) out = d .ended ∙ ap (λ (w : Whole). endOf w out) e in
         let head : x .head ≡ headRecord h = d .head ∙ ap (λ (w : Whole). headAfter w (headOfNumbers f)) e in
         let clock : x .clock ≡ r .after .clock = d .clock ∙ ap (λ (w : Whole). clockAfter w (clockOfNumbers f)) e in
+        let hold : x .hold ≡ r .after .hold = d .hold ∙ ap (λ (w : Whole). holdAfter w (holdOfNumbers f)) e in
         let records : x .presets ≡ recordsOver (h .presets) (recordsIn p) = d .presets ∙ ap (λ (w : Whole). presetsAfter w (recordsIn p)) e in
         let table : t₁ ≡ r .after .table = d .table ∙ ap (λ (w : Whole). tableAfter w t) e in
-        let again = head-again h (r .after .clock) k s (after .valid .masks) (after .valid .number-of-presets)
+        let again = head-again h (r .after .clock) (r .after .hold) k s (after .valid .masks) (after .valid .number-of-presets)
         (a
-        ∙ ap (λ (y : End). frameLeft y (x .head) (x .clock) f) end
-        ∙ ap (λ (g : record-of-head.Head). numbersOver g (x .clock) f) head
-        ∙ ap (λ (c : ℕ). numbersOver (headRecord h) c f) clock)
+        ∙ ap (λ (y : End). frameLeft y (x .head) (x .clock) (x .hold) f) end
+        ∙ ap (λ (g : record-of-head.Head). numbersOver g (x .clock) (x .hold) f) head
+        ∙ ap (λ (c : ℕ). numbersOver (headRecord h) c (x .hold) f) clock
+        ∙ ap (λ (b : Bool). numbersOver (headRecord h) (r .after .clock) b f) hold)
         (b ∙ ap (λ (l : List record-of-preset.Preset). bytesOver l p) records) in
-        rw (again .0, again .1, table) after
+        rw (again .0, again .1, again .2, table) after
+
+    abbrev whole : Whole
+    whole = wholeWithOutput text t out
 
     text-run : {n r : ℕ} → n ≡ value (endReturned (endIn (x .ended))) → r ≡ endReturned (endIn (x .ended)) .number → Done f₁ p₁ t₁ out₁ n r
     text-run {n} {r} e₁ e₂ = (
@@ -148,23 +155,24 @@ module _ (text f p t out : List ℕ) where
         end = e₁ ∙ ap (λ (x : End). value (endReturned x)) (d .ended);
         frame =
             a
-            ∙ ap (λ (y : End). frameLeft y (x .head) (x .clock) f) (d .ended)
-            ∙ ap (λ (g : record-of-head.Head). frameLeft (endOf (wholeWithOutput text t out) out) g (x .clock) f) (d .head)
-            ∙ ap (λ (c : ℕ). frameLeft (endOf (wholeWithOutput text t out) out) (headAfter (wholeWithOutput text t out) (headOfNumbers f)) c f) (d .clock)
-            ∙ frame-left (wholeWithOutput text t out);
-        presets = b ∙ ap (λ (l : List record-of-preset.Preset). bytesOver l p) (d .presets) ∙ presets-left (wholeWithOutput text t out);
+            ∙ ap (λ (y : End). frameLeft y (x .head) (x .clock) (x .hold) f) (d .ended)
+            ∙ ap (λ (g : record-of-head.Head). frameLeft (endOf whole out) g (x .clock) (x .hold) f) (d .head)
+            ∙ ap (λ (c : ℕ). frameLeft (endOf whole out) (headAfter whole (headOfNumbers f)) c (x .hold) f) (d .clock)
+            ∙ ap (λ (b : Bool). frameLeft (endOf whole out) (headAfter whole (headOfNumbers f)) (clockAfter whole (clockOfNumbers f)) b f) (d .hold)
+            ∙ frame-left whole;
+        presets = b ∙ ap (λ (l : List record-of-preset.Preset). bytesOver l p) (d .presets) ∙ presets-left whole;
         table = d .table;
         output = d .output;
       }),
       record {
         long = on-enough;
         claim = text-claim text t out;
-        running = λ z. ran-left (wholeWithOutput text t out) refl (sym (ap (λ (x : End). endReturned x .number) (d .ended)) ∙ sym e₂ ∙ z);
+        running = λ z. ran-left whole refl (sym (ap (λ (x : End). endReturned x .number) (d .ended)) ∙ sym e₂ ∙ z);
       },
     )
 
   -- the same of what was read of the frame and of the presets
-  pub text-handed : (hd : record-of-head.Head) (ps : List record-of-preset.Preset) (c : ℕ) (x : run.TextRun) {f₁ p₁ t₁ out₁ : List ℕ} {n r : ℕ} → frameNumbers ≤ length f → 128 ≤ length p
-      → hd ≡ headOfNumbers f → ps ≡ recordsIn p → c ≡ clockOfNumbers f → TextDone text hd ps t c out t₁ out₁ x
-      → f₁ ≡ frameLeft (endIn (x .ended)) (x .head) (x .clock) f → p₁ ≡ bytesOver (x .presets) p → n ≡ value (endReturned (endIn (x .ended))) → r ≡ endReturned (endIn (x .ended)) .number → Done f₁ p₁ t₁ out₁ n r
-  text-handed hd ps c x k s a b e d f₂ p₂ n r = text-run {x = x} k s (rw (a, b, e) at d) f₂ p₂ n r
+  pub text-handed : (hd : record-of-head.Head) (ps : List record-of-preset.Preset) (c : ℕ) (hold : Bool) (x : run.TextRun) {f₁ p₁ t₁ out₁ : List ℕ} {n r : ℕ} → frameNumbers ≤ length f → 128 ≤ length p
+      → hd ≡ headOfNumbers f → ps ≡ recordsIn p → c ≡ clockOfNumbers f → hold ≡ holdOfNumbers f → TextDone text hd ps t c hold out t₁ out₁ x
+      → f₁ ≡ frameLeft (endIn (x .ended)) (x .head) (x .clock) (x .hold) f → p₁ ≡ bytesOver (x .presets) p → n ≡ value (endReturned (endIn (x .ended))) → r ≡ endReturned (endIn (x .ended)) .number → Done f₁ p₁ t₁ out₁ n r
+  text-handed hd ps c hold x k s a b e i d f₂ p₂ n r = text-run {x = x} k s (rw (a, b, e, i) at d) f₂ p₂ n r

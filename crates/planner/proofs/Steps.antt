@@ -1,15 +1,17 @@
 -- Laws of the layout, record by record and number by number, as the code reads and writes them.
 --
 -- In order: one record of those read (`record-read`), one more read into the copied (`read-more`, `read-all`); a record written byte by byte (`record-written`), one more
--- of them (`write-more`, `written-all`); one more number written (`number-more`, `numbers-all`); a frame written number by number (`head-written`, `reserved-written`), after a text
--- that ran and after a refusal (`ran-written`, `refused-written`).
+-- of them (`write-more`, `written-all`); one more number written (`number-more`, `numbers-all`); a frame written number by number (`head-written`, `orders-written`); an order of ties that stands
+-- already or is written (`tie-stands`, `tie-written`); a frame after a text that ran and after a refusal (`ran-written`, `refused-written`).
 -- Assumes nothing.
 use Prim.Native.Nat.{ℕ, zero, suc, _+_, _*_, _≤_, _<_}
 use native.Mathlib.Omega.{arith}
 use mathlib.Core.Path.{_≡_, refl, sym, _∙_, ap}
+use mathlib.Core.Bool.{Bool, true, false, Bool·beq}
 use mathlib.Core.List.{List, [], _∷_}
 use lib.ListN.{length, getD, set, take, drop, drop-of-length-le}
 use lib.Seq.{sets, drop-cons, getD-drop, take-suc, take-suc-set, take-all}
+use Rattle.laws.specs.Sums.{bit}
 use Rattle.station.specs.declared.types.Preset.{Preset}
 use Rattle.station.specs.declared.types.Head.{Head}
 use Rattle.station.specs.declared.types.Refusal.{Refusal}
@@ -17,7 +19,7 @@ use Rattle.frame.specs.declared.text.Ended.{Ended}
 use Rattle.frame.specs.declared.text.Ended.the-variants.{Ran, Refused}
 use Rattle.frame.specs.TextDone.{endIn}
 use Rattle.station.specs.Types.{noRecord}
-use Rattle.planner.specs.Layout.{recordAt, firstRecords, recordsIn, bytesOf, headOver, reservedCleared}
+use Rattle.planner.specs.Layout.{recordAt, firstRecords, recordsIn, bytesOf, headTie, saysHold, headOver, tieOver}
 use Rattle.planner.specs.Exports.{frameLeft}
 use Rattle.planner.proofs.RoundTrip.{length-records}
 
@@ -87,15 +89,26 @@ pub head-written : (head : Head) (clock : ℕ) (l : List ℕ) {l₁ l₂ l₃ l�
     → l₁ ≡ set l 0 (head .slots) → l₂ ≡ set l₁ 1 (head .bridges) → l₃ ≡ set l₂ 2 (head .count) → l₄ ≡ set l₃ 3 clock → l₅ ≡ sets l₄ 4 (head .busy) → l₅ ≡ headOver head clock l
 head-written head clock l e₁ e₂ e₃ e₄ e₅ = rw (e₅, e₄, e₃, e₂, e₁) refl
 
--- and 0 in the reserved places
-pub reserved-written : (l : List ℕ) {l₁ l₂ l₃ l₄ : List ℕ}
-    → l₁ ≡ set l 12 0 → l₂ ≡ set l₁ 13 0 → l₃ ≡ set l₂ 14 0 → l₄ ≡ set l₃ 15 0 → l₄ ≡ reservedCleared l
-reserved-written l e₁ e₂ e₃ e₄ = rw (e₄, e₃, e₂, e₁) refl
+-- both orders of ties, and 0 in the reserved places beside them
+pub orders-written : (l : List ℕ) (kept hold : Bool) {l₁ l₂ l₃ l₄ : List ℕ} {a b : ℕ}
+    → l₁ ≡ set l 12 0 → a ≡ bit kept → l₂ ≡ set l₁ 13 a → b ≡ bit hold → l₃ ≡ set l₂ 14 b → l₄ ≡ set l₃ 15 0 → l₄ ≡ sets l 12 (0 ∷ bit kept ∷ bit hold ∷ 0 ∷ [])
+orders-written l kept hold e₁ a e₂ b e₃ e₄ = rw (e₄, e₃, b, e₂, a, e₁) refl
+
+-- an order of ties at a place, which stands there already or is written
+module _ (place : ℕ) (hold : Bool) (l : List ℕ) {n : ℕ} {says : Bool} (read : n ≡ getD l place 0) (is-said : says ≡ saysHold n) where
+  compared : Bool·beq (saysHold (getD l place 0)) hold ≡ Bool·beq says hold
+  compared = ap (λ (b : Bool). Bool·beq b hold) (sym (is-said ∙ ap saysHold read))
+
+  pub tie-stands : Bool·beq says hold ≡ true → l ≡ tieOver place hold l
+  tie-stands e = rw (compared ∙ e) refl
+
+  pub tie-written : {a : ℕ} {l₁ : List ℕ} → Bool·beq says hold ≡ false → a ≡ bit hold → l₁ ≡ set l place a → l₁ ≡ tieOver place hold l
+  tie-written e a put = put ∙ ap (set l place) a ∙ rw (compared ∙ e) refl
 
 -- what a text that ran leaves of a frame, and what a refusal leaves
-module _ (x : Ended) (head : Head) (clock : ℕ) (l : List ℕ) {l₁ : List ℕ} where
-  pub ran-written : {n : ℕ} {l₂ : List ℕ} → x ≡ Ran n → l₁ ≡ headOver head clock l → l₂ ≡ reservedCleared l₁ → l₂ ≡ frameLeft (endIn x) head clock l
-  ran-written q e₁ e₂ = rw (q, e₂, e₁) refl
+module _ (x : Ended) (head : Head) (clock : ℕ) (hold : Bool) (l : List ℕ) {l₁ l₂ : List ℕ} (e : l₁ ≡ headOver head clock l) where
+  pub ran-written : {n : ℕ} → x ≡ Ran n → l₂ ≡ sets l₁ 12 (0 ∷ bit (head .hold) ∷ bit hold ∷ 0 ∷ []) → l₂ ≡ frameLeft (endIn x) head clock hold l
+  ran-written q e₂ = rw (q, e₂, e) refl
 
-  pub refused-written : {n : ℕ} {r : Refusal} → x ≡ Refused n r → l₁ ≡ headOver head clock l → l₁ ≡ frameLeft (endIn x) head clock l
-  refused-written q e₁ = rw (q, e₁) refl
+  pub refused-written : {n : ℕ} {r : Refusal} → x ≡ Refused n r → l₂ ≡ tieOver headTie (head .hold) l₁ → l₂ ≡ frameLeft (endIn x) head clock hold l
+  refused-written q e₂ = rw (q, e₂, e) refl

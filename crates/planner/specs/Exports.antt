@@ -1,5 +1,5 @@
 -- What the six exported functions are held to: what each answers, and every number, byte and cell that was handed over, afterwards, for all inputs; and what is
--- claimed of it. Document 01, "Causes", "One listing, whole" and "What demand 3 speaks of"; document 02, 2026-01. A frame and preset records are read and written as Layout says.
+-- claimed of it. Document 01, "Causes", "One listing, whole" and "What demand 3 speaks of"; document 02, 2026-01 and 2026-02. A frame and preset records are read and written as Layout says.
 --
 -- In order: the running frame that numbers and bytes stand for; what is returned (`Returned`); `planner_run_text` (`TextLeaves`, `TextPromise`), `planner_event`
 -- (`EventLeaves`, `EventPromise`), `planner_plan` (`PlanLeaves`, `PlanPromise`), `planner_listing` (`ListingLeaves`, `ListingWhole`), `planner_read_rows`
@@ -8,11 +8,12 @@
 use Prim.Native.Nat.{ℕ, _≤_, _<_}
 use mathlib.Core.Path.{_≡_}
 use mathlib.Core.Option.{Option, none, some}
-use mathlib.Core.Bool.{true}
+use mathlib.Core.Bool.{Bool, true}
 use mathlib.Core.List.{List, [], _∷_, _++_, map}
 use lib.ListN.{length, take}
 use lib.Seq.{sets}
 use lib.Dec.{ltb}
+use Rattle.laws.specs.Sums.{bit}
 use Rattle.laws.specs.Lists.{at}
 use Rattle.station.specs.Head.{Head, withBusy}
 use Rattle.station.specs.Limits.{mostPresets, mostBytes}
@@ -31,14 +32,14 @@ use Rattle.placing.specs.State.{State, stateOf}
 use Rattle.placing.specs.Claims.{Running, PlanClaim}
 use Rattle.placing.specs.Outcomes.{PlanAnswer, PlanOutcome}
 use Rattle.placing.specs.PlanDone.{planMeant}
-use Rattle.frame.specs.Event.{Event, Answer, clockNow, taken, refused, Outcome}
+use Rattle.frame.specs.Event.{Event, Answer, clockNow, tieNow, taken, refused, Outcome}
 use Rattle.frame.specs.Text.{Whole, notRead, notPlanned, ran, startOf, wholeOf}
 use Rattle.frame.specs.Listing.{listingOf}
 use Rattle.frame.specs.Demands.{Demand3}
 use Rattle.frame.specs.EventDone.{eventMeant}
 use Rattle.frame.specs.TextDone.{wholeWithOutput, End, listed, refusedAt, endOf, tableAfter, outputAfter, TextClaim}
 use Rattle.frame.specs.WriteListing.{listingCause, listingMeant}
-use Rattle.planner.specs.Layout.{presetBytes, recordsIn, bytesOver, frameNumbers, headOfNumbers, clockOfNumbers, headOver, numbersOver, clockOver, masksOver}
+use Rattle.planner.specs.Layout.{presetBytes, recordsIn, bytesOver, frameNumbers, headTie, tieInForce, headOfNumbers, clockOfNumbers, holdOfNumbers, headOver, tieOver, numbersOver, clockOver, masksOver}
 use Rattle.placing.specs.Types.{filled}
 
 -- ---- the running frame
@@ -49,7 +50,7 @@ headOn frame presets = headIn (headOfNumbers frame) (recordsIn presets)
 
 -- the state that the numbers of a frame and a table stand for
 abbrev pub stateOn : List ℕ → List ℕ → State
-stateOn frame t = stateOf t (clockOfNumbers frame)
+stateOn frame t = stateOf t (clockOfNumbers frame) (holdOfNumbers frame)
 
 -- a running frame that 8, 2 and 11 let pass
 abbrev pub RunningOn : List ℕ → List ℕ → List ℕ → Type 0
@@ -91,9 +92,10 @@ abbrev pub endReturned : End → Returned
 endReturned (listed n) = accepts (n ∷ [])
 endReturned (refusedAt n r) = refuses n r
 
--- of an event: "the new clock; the cells evicted"
+-- of an event: "the new clock; the cells evicted"; of a tie 1 for hold and 0 for place
 abbrev pub answerReturned : Answer → Returned
 answerReturned (clockNow t) = accepts (t ∷ [])
+answerReturned (tieNow hold) = accepts (bit hold ∷ [])
 answerReturned (taken c) = accepts (c .count ∷ [])
 answerReturned (refused n r) = refuses n r
 
@@ -124,17 +126,17 @@ unfoldable pub textOn : List ℕ → List ℕ → List ℕ → List ℕ → List
 textOn text frame presets t out =
     elim (firstOf (textCauses text frame presets)) [ none ↦ wholeWithOutput text t out | some r ↦ notRead 0 r ]
 
--- What a head and a clock make of a frame: all its numbers where the text ran, and after a refusal all but the reserved ones, which stay.
-abbrev pub frameLeft : End → record-of-head.Head → ℕ → List ℕ → List ℕ
-frameLeft (listed n) head clock frame = numbersOver head clock frame
-frameLeft (refusedAt n r) head clock frame = headOver head clock frame
+-- What a head, a clock and the order of ties in force make of a frame: all its numbers where the text ran, and after a refusal those of the head and the clock.
+abbrev pub frameLeft : End → record-of-head.Head → ℕ → Bool → List ℕ → List ℕ
+frameLeft (listed n) head clock hold frame = numbersOver head clock hold frame
+frameLeft (refusedAt n r) head clock hold frame = tieOver headTie (head .hold) (headOver head clock frame)
 
 -- The frame and the presets afterwards: a head that is not read leaves both as they were; "the head is the one read" where the required slots do not fit, and the
--- clock and the reserved numbers stay; where the text ran, the clock is the one it left, and the reserved numbers are 0.
+-- clock, the order of ties in force and the reserved numbers stay; where the text ran, the clock and the order are those it left, and the reserved numbers are 0.
 unfoldable pub frameAfter : Whole → List ℕ → List ℕ
 frameAfter (notRead n r) frame = frame
-frameAfter (notPlanned h n r) frame = headOver (headRecord h) (clockOfNumbers frame) frame
-frameAfter (ran h n g r) frame = numbersOver (headRecord h) (r .after .clock) frame
+frameAfter (notPlanned h n r) frame = tieOver headTie (h .hold) (headOver (headRecord h) (clockOfNumbers frame) frame)
+frameAfter (ran h n g r) frame = numbersOver (headRecord h) (r .after .clock) (r .after .hold) frame
 
 unfoldable pub recordsAfter : Whole → List ℕ → List ℕ
 recordsAfter (notRead n r) presets = presets
@@ -156,7 +158,7 @@ pub record TextPromise (text frame presets t out frame₁ presets₁ t₁ : List
   pub long : frameNumbers ≤ length frame → presetBytes ≤ length presets → textOn text frame presets t out ≡ wholeWithOutput text t out
   -- demands 1 to 3 and what is claimed of the plan
   pub claim : TextClaim text t out
-  -- "Each event gets the table and clock that the last one left": a text that ran leaves a running frame for `planner_event`
+  -- "Each event gets the table and clock that the last one left", and the order of ties: a text that ran leaves a running frame for `planner_event`
   pub running : r ≡ 0 → RunningOn frame₁ presets₁ t₁
 
 -- ---- planner_event
@@ -169,11 +171,11 @@ eventOn frame presets t l =
       | some r ↦ record { answer = refused 0 r; after = stateOn frame t }
     ]
 
--- What `planner_event` answers (r and n, the `number`) and leaves where the event comes to o: of the frame f only the clock changes, of the presets nothing.
+-- What `planner_event` answers (r and n, the `number`) and leaves where the event comes to o: of the frame f only the clock and the order of ties in force change, of the presets nothing.
 pub record EventLeaves (o : Outcome) (f f₁ t₁ : List ℕ) (n r : ℕ) : Type 0 where
   pub answer : r ≡ answerReturned (o .answer) .number
   pub number : n ≡ value (answerReturned (o .answer))
-  pub frame : f₁ ≡ clockOver (o .after .clock) f
+  pub frame : f₁ ≡ tieOver tieInForce (o .after .hold) (clockOver (o .after .clock) f)
   pub table : t₁ ≡ o .after .table
 
 pub record EventPromise (frame presets t l frame₁ t₁ : List ℕ) (r : ℕ) : Type 0 where
@@ -182,11 +184,11 @@ pub record EventPromise (frame presets t l frame₁ t₁ : List ℕ) (r : ℕ) :
   -- a running frame that 11 lets pass is one afterwards, so that the next event starts from one
   pub kept : RunningOn frame presets t → RunningOn frame₁ presets t₁
   -- demand 3 for this event; `runOf` is its fold
-  pub claim : RunningOn frame presets t → Demand3 (headOn frame presets) (stateOf t (clockOfNumbers frame)) (Event.line l ∷ [])
+  pub claim : RunningOn frame presets t → Demand3 (headOn frame presets) (stateOn frame t) (Event.line l ∷ [])
 
 -- ---- planner_plan
 
--- A plan: 8 of the frame, of the presets and of fewer than 32 grants, which change nothing, then what the plan comes to. The clock is not looked at.
+-- A plan: 8 of the frame, of the presets and of fewer than 32 grants, which change nothing, then what the plan comes to. The clock and the order of ties in force are not looked at.
 unfoldable pub planOn : List ℕ → List ℕ → List ℕ → List ℕ → PlanOutcome
 planOn frame presets t grants =
     elim (firstOf (try tooShort (ltb (length frame) frameNumbers) ∷ try tooShort (ltb (length presets) presetBytes) ∷ try tooShort (ltb (length grants) mostPresets) ∷ [])) [
@@ -210,8 +212,8 @@ pub record PlanPromise (frame presets t t₁ : List ℕ) (r : ℕ) : Type 0 wher
   pub unchanged : 0 < r → t₁ ≡ t
   -- 5 exactly when no valid plan exists, best for every k
   pub claim : PlanClaim (headOn frame presets) t
-  -- "It starts from an accepted head with its plan and the first clock": with the clock 1 the table is one of a running frame
-  pub running : r ≡ 0 → Running (headOn frame presets) (startOf t₁)
+  -- "It starts from an accepted head with its plan and the first clock": with the clock 1 and the head's order of ties the table is one of a running frame
+  pub running : r ≡ 0 → Running (headOn frame presets) (startOf (headOn frame presets) t₁)
 
 -- ---- planner_listing
 

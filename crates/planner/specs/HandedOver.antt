@@ -7,11 +7,12 @@ use Prim.Native.Nat.{ℕ}
 use mathlib.Core.Path.{_≡_}
 use mathlib.Core.Option.{none}
 use mathlib.Core.List.{List, [], _∷_, _++_, map}
+use lib.ListN.{length, getD}
 use Rattle.station.specs.Refusal.{firstOf}
 use Rattle.placing.specs.Causes.{frameCausesOf}
-use Rattle.frame.specs.Event.{Event, line, Answer, Run, runOf}
+use Rattle.frame.specs.Event.{line, Answer, Run, runOf}
 use Rattle.frame.specs.Demands.{Demand3}
-use Rattle.planner.specs.Layout.{recordsIn, headOfNumbers, clockOver}
+use Rattle.planner.specs.Layout.{recordsIn, headOfNumbers, tieInForce}
 use Rattle.planner.specs.Exports.{headOn, stateOn, shortCauses, eventOn, answerReturned, value, EventLeaves, EventPromise}
 
 -- "any sound table and clock that 11 lets pass": none of the causes that `planner_event` tries of the frame, the presets and the table holds.
@@ -26,7 +27,7 @@ pub record Answered : Type 0 where
 abbrev pub answeredBy : Answer → Answered
 answeredBy a = record { answer = answerReturned a .number; number = value (answerReturned a) }
 
--- A list of lines handed over: both premises are what `planner_event` promises of one call, each call meets "the table and clock that the last one left", and "nobody else writes
+-- A list of lines handed over: both premises are what `planner_event` promises of one call, each call meets "the table and clock that the last one left" and the order of ties, and "nobody else writes
 -- these, the head or the preset list meanwhile".
 pub data HandedOn (presets : List ℕ) : List ℕ → List ℕ → List (List ℕ) → List Answered → List ℕ → List ℕ → Type 0 where
   no-more : {frame t : List ℕ} → HandedOn presets frame t [] [] frame t
@@ -41,7 +42,8 @@ runOn frame presets t ls = runOf (headOn frame presets) (stateOn frame t) (map l
 -- What is claimed of it: "one claim about the whole list". That it holds of every list handed over from such a start is `handed-on` in proofs/HandedOver.antt.
 pub record HandedOnClaim (frame presets t : List ℕ) (ls : List (List ℕ)) (answers : List Answered) (last end : List ℕ) : Type 0 where
   pub answered : answers ≡ map answeredBy (runOn frame presets t ls .answers)
-  -- of the frame only the clock changes
-  pub left : last ≡ clockOver (runOn frame presets t ls .after .clock) frame
-  pub table : end ≡ runOn frame presets t ls .after .table
+  -- the last frame and table stand for what the list leaves, and of the frame only the clock and the order of ties in force change
+  pub left : stateOn last end ≡ runOn frame presets t ls .after
+  pub numbers : length last ≡ length frame
+  pub others : (i : ℕ) → (i ≡ 3 → ⊥) → (i ≡ tieInForce → ⊥) → getD last i 0 ≡ getD frame i 0
   pub demand3 : Demand3 (headOn frame presets) (stateOn frame t) (map line ls)

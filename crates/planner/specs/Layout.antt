@@ -1,13 +1,16 @@
 -- The layout of what a caller in another language lends: preset records as bytes, a frame as numbers. It is defined here and nowhere else; that reading and
 -- writing are inverse is proved in proofs/RoundTrip.antt.
 --
--- In order: the bytes of preset records, read (`recordsIn`) and written (`bytesOver`); the numbers of a frame, read (`headOfNumbers`, `clockOfNumbers`) and
--- written (`headOver`, `reservedCleared`, `numbersOver`, `clockOver`, `masksOver`).
+-- In order: the bytes of preset records, read (`recordsIn`) and written (`bytesOver`); the numbers of a frame, read (`headOfNumbers`, `clockOfNumbers`, `holdOfNumbers`) and
+-- written (`headOver`, `tieOver`, `numbersOver`, `clockOver`, `masksOver`).
 -- Assumes nothing.
 use Prim.Native.Nat.{ℕ, zero, suc, _+_, _*_}
+use mathlib.Core.Bool.{Bool, cond, Bool·beq}
 use mathlib.Core.List.{List, [], _∷_}
 use lib.ListN.{getD, set, drop}
 use lib.Seq.{sets}
+use lib.Dec.{ltb}
+use Rattle.laws.specs.Sums.{bit}
 use Rattle.laws.specs.Lists.{tabulate}
 use Rattle.station.specs.Limits.{mostBridges, mostPresets, leastRecords}
 use Rattle.station.specs.declared.types.Preset.{Preset}
@@ -46,32 +49,46 @@ bytesOf (p ∷ ps) = p .number ∷ p .priority ∷ p .mandatory ∷ p .optional 
 abbrev pub bytesOver : List Preset → List ℕ → List ℕ
 bytesOver ps l = sets l 0 (bytesOf ps)
 
--- ---- the running frame: its head, and "the clock"
+-- ---- the running frame: its head, "the clock", and the order of ties in force
 
--- A frame is sixteen numbers: slots, bridges, how many presets, the clock, the busy slots of bridges 1 to 8, one mask each with slot 1 as the lowest bit, and four that
--- are reserved for requests to come: at 12 the supply (2026-03), at 13 the head's tie and at 14 the tie in force (2026-02), at 15 how many jobs were admitted (2026-06).
--- Until then these four are not looked at. A text that ran leaves 0 there, so that a later version can tell a frame stored by this one; nothing else writes there.
+-- A frame is sixteen numbers: slots, bridges, how many presets, the clock, the busy slots of bridges 1 to 8, one mask each with slot 1 as the lowest bit, at 13 the head's order of ties, at 14 the
+-- one in force, and two that are reserved for requests to come: at 12 the supply (2026-03), at 15 how many jobs were admitted (2026-06).
+-- Until then these two are not looked at. A text that ran leaves 0 there, so that a later version can tell a frame stored by this one; nothing else writes there.
 abbrev pub frameNumbers : ℕ
 frameNumbers = 16
 
+-- the places of the two orders of ties
+abbrev pub headTie : ℕ
+headTie = 13
+
+abbrev pub tieInForce : ℕ
+tieInForce = 14
+
+-- what a number there says: 0 is place, any other number hold
+abbrev pub saysHold : ℕ → Bool
+saysHold n = ltb 0 n
+
 -- what is read of them; the reserved ones are not
 abbrev pub headOfNumbers : List ℕ → Head
-headOfNumbers l = record { slots = getD l 0 0; bridges = getD l 1 0; busy = tabulate mostBridges (λ b. getD l (4 + b) 0); count = getD l 2 0 }
+headOfNumbers l = record { slots = getD l 0 0; bridges = getD l 1 0; hold = saysHold (getD l headTie 0); busy = tabulate mostBridges (λ b. getD l (4 + b) 0); count = getD l 2 0 }
 
 abbrev pub clockOfNumbers : List ℕ → ℕ
 clockOfNumbers l = getD l 3 0
 
--- A list of numbers with a head and a clock written over its start: every number past the twelfth, the reserved ones too, is as it was.
+abbrev pub holdOfNumbers : List ℕ → Bool
+holdOfNumbers l = saysHold (getD l tieInForce 0)
+
+-- A list of numbers with a head but for its order of ties and a clock written over its start: every number past the twelfth is as it was.
 abbrev pub headOver : Head → ℕ → List ℕ → List ℕ
 headOver head clock l = sets l 0 (head .slots ∷ head .bridges ∷ head .count ∷ clock ∷ head .busy)
 
--- with 0 in the reserved places
-abbrev pub reservedCleared : List ℕ → List ℕ
-reservedCleared l = sets l 12 (0 ∷ 0 ∷ 0 ∷ 0 ∷ [])
+-- with an order of ties at a place: 0 for place and 1 for hold, and a number that says it already stays as it is
+abbrev pub tieOver : ℕ → Bool → List ℕ → List ℕ
+tieOver place hold l = cond (Bool·beq (saysHold (getD l place 0)) hold) l (set l place (bit hold))
 
--- with a whole frame, that is with both: every number past the sixteenth is as it was
-abbrev pub numbersOver : Head → ℕ → List ℕ → List ℕ
-numbersOver head clock l = reservedCleared (headOver head clock l)
+-- with a whole frame, that is with head and clock, both orders of ties, and 0 in the reserved places: every number past the sixteenth is as it was
+abbrev pub numbersOver : Head → ℕ → Bool → List ℕ → List ℕ
+numbersOver head clock hold l = sets (headOver head clock l) 12 (0 ∷ bit (head .hold) ∷ bit hold ∷ 0 ∷ [])
 
 -- and with a clock alone
 abbrev pub clockOver : ℕ → List ℕ → List ℕ

@@ -1,4 +1,5 @@
 // Answers as numbers: 0 or the number of the refusal, and the count that goes with it.
+use crate::numbers::tie_number;
 use frame::text::Ended;
 use frame::types::Answer;
 use station::causes::cause_number;
@@ -46,17 +47,19 @@ pub(crate) fn answer_number(answer: Answer) -> u32
 {
     match answer {
         Answer::Now(_) => 0,
+        Answer::Tie(_) => 0,
         Answer::Taken(_) => 0,
         Answer::Refused(_, cause) => refusal_number(cause),
     }
 }
 
-// The new clock, or how many cells were evicted; or the line of the refusal.
+// The new clock, the new order of ties (1 for hold), or how many cells were evicted; or the line of the refusal.
 pub(crate) fn answer_count(answer: Answer) -> u64
     ensures { λ r. ⌜ r ≡ value (answerReturned (answerIn answer)) ⌝ }
 {
     match answer {
         Answer::Now(t) => t as u64,
+        Answer::Tie(hold) => tie_number(hold),
         Answer::Taken(n) => n as u64,
         Answer::Refused(line, _) => line as u64,
     }

@@ -12,9 +12,11 @@ use crate::answers::written_number;
 use crate::grants::save_grants;
 use crate::numbers::clock_of;
 use crate::numbers::head_of;
+use crate::numbers::hold_of;
 use crate::numbers::save_clock;
 use crate::numbers::save_masks;
 use crate::numbers::save_run;
+use crate::numbers::save_tie;
 use crate::presets::load_presets;
 use crate::presets::save_presets;
 use crate::sizes::FRAME_NUMBERS;
@@ -66,19 +68,27 @@ pub extern "C" fn planner_run_text(
     }
     let head = head_of(frame);
     let copied = load_presets(presets);
-    let run = run_text_by_value(text, head, copied, table, clock_of(frame), out);
+    let run = run_text_by_value(
+        text,
+        head,
+        copied,
+        table,
+        clock_of(frame),
+        hold_of(frame),
+        out,
+    );
     let ended = run.ended;
     let found = run.head;
     let records = run.presets;
-    save_run(frame, ended, found, run.clock);
+    save_run(frame, ended, found, run.clock, run.hold);
     save_presets(presets, records);
     *end = end_place(ended);
     end_number(ended)
 }
 
 // One event line, its byte 10 included, on the running frame: 8 for a frame below 16 numbers, presets below 128 bytes or a table below 512 cells, 2 for a head that no
-// text yields, 11, then the causes of the line, of its clock or of its call. `number` is the new clock or how many cells were evicted, and 0 with a refusal, which changes
-// nothing else.
+// text yields, 11, then the causes of the line, of its clock or of its call. `number` is the new clock, how many cells were evicted, or of a tie 1 for hold and 0
+// for place; 0 with a refusal, which changes nothing else.
 #[no_mangle]
 pub extern "C" fn planner_event(
     frame: &mut [u64],
@@ -99,16 +109,17 @@ pub extern "C" fn planner_event(
     }
     let head = head_of(frame);
     let copied = load_presets(presets);
-    let outcome = event_by_value(head, copied, table, clock_of(frame), line);
+    let outcome = event_by_value(head, copied, table, clock_of(frame), hold_of(frame), line);
     let answer = outcome.answer;
     save_clock(frame, outcome.clock);
+    save_tie(frame, outcome.hold);
     *number = answer_count(answer);
     answer_number(answer)
 }
 
 // Plans a fresh frame: 8 for a frame below 16 numbers, presets below 128 bytes, grants below 32 bytes or a table below 512 cells, 2 for a head that no text yields, 5
 // where the mandatory slots do not fit. The grants of the presets stand at the start of `grants` in file order, with 0 past the last preset up to 32; bytes past
-// those stay. The clock of the frame is not looked at. A refusal changes nothing.
+// those stay. The clock and the order of ties in force are not looked at. A refusal changes nothing.
 #[no_mangle]
 pub extern "C" fn planner_plan(
     frame: &[u64],

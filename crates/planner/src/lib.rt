@@ -4,6 +4,6 @@ pub mod exports; // exports.rt: the exported functions
 // Parts, private to the library:
 mod sizes; // sizes.rt: how long what is lent has to be
 mod answers; // answers.rt: the numbers of an answer
-mod numbers; // numbers.rt: a head and a clock out of a frame's numbers, and back
+mod numbers; // numbers.rt: a head, a clock and an order of ties out of a frame's numbers, and back
 mod presets; // presets.rt: the preset records out of bytes, and back
 mod grants; // grants.rt: the grants of a plan into bytes

@@ -1,13 +1,16 @@
-// The frame that a caller lends as sixteen numbers: its head and its clock out of them by value, and back. The last four are reserved: they are not read, and 0 is all
+// The frame that a caller lends as sixteen numbers: its head, its clock and its order of ties out of them by value, and back. Two are reserved: they are not read, and 0 is all
 // that is written there. Past the end of the numbers zeros are read and nothing is written, so that each function takes every slice.
 use frame::text::Ended;
 use station::limits::MOST_BRIDGES;
 use station::types::Head;
 use station::types::NO_HEAD;
 ghost use mathlib.Core.Path.{_≡_};
+ghost use mathlib.Core.List.{[], _∷_};
 ghost use lib.ListN.{getD, set};
+ghost use lib.Seq.{sets};
+ghost use Rattle.laws.specs.Sums.{bit};
 ghost use Rattle.frame.specs.TextDone.{endIn};
-ghost use Rattle.planner.specs.Layout.{headOfNumbers, clockOfNumbers, headOver, reservedCleared, clockOver, masksOver};
+ghost use Rattle.planner.specs.Layout.{tieInForce, saysHold, headOfNumbers, clockOfNumbers, holdOfNumbers, headOver, tieOver, clockOver, masksOver};
 ghost use Rattle.planner.specs.Exports.{frameLeft};
 
 // The number at a place; 0 past the end.
@@ -29,6 +32,28 @@ fn set_number(numbers: &mut [u64], i: usize, given: u64)
     }
 }
 
+// The places of the head's order of ties and of the one in force.
+const HEAD_TIE: usize = 13;
+
+const TIE_IN_FORCE: usize = 14;
+
+// What a number says of the order of ties: 0 is place, any other number hold.
+fn says_hold(number: u64) -> bool
+    ensures { λ r. ⌜ r ≡ saysHold number ⌝ }
+{
+    0 < number
+}
+
+// An order of ties as a number.
+pub(crate) fn tie_number(hold: bool) -> u64
+    ensures { λ r. ⌜ r ≡ bit hold ⌝ }
+{
+    if hold {
+        return 1;
+    }
+    0
+}
+
 // The head of a frame.
 pub(crate) fn head_of(frame: &[u64]) -> Head
     ensures { λ r. ⌜ r ≡ headOfNumbers (now (frame .entry)) ⌝ }
@@ -46,6 +71,7 @@ pub(crate) fn head_of(frame: &[u64]) -> Head
     let mut head = NO_HEAD;
     head.slots = number_at(frame, 0) as usize;
     head.bridges = number_at(frame, 1) as usize;
+    head.hold = says_hold(number_at(frame, HEAD_TIE));
     head.busy = busy;
     head.count = number_at(frame, 2) as usize;
     head
@@ -56,6 +82,30 @@ pub(crate) fn clock_of(frame: &[u64]) -> usize
     ensures { λ r. ⌜ r ≡ clockOfNumbers (now (frame .entry)) ⌝ }
 {
     number_at(frame, 3) as usize
+}
+
+// The order of ties in force of a frame.
+pub(crate) fn hold_of(frame: &[u64]) -> bool
+    ensures { λ r. ⌜ r ≡ holdOfNumbers (now (frame .entry)) ⌝ }
+{
+    says_hold(number_at(frame, TIE_IN_FORCE))
+}
+
+// Writes an order of ties to a place; a number that says it already stays, so that what changes nothing writes nothing.
+fn set_tie(frame: &mut [u64], place: usize, hold: bool)
+    ensures { λ _. ⌜ now (frame .exit) ≡ tieOver place hold (now (frame .entry)) ⌝ }
+{
+    if says_hold(number_at(frame, place)) == hold {
+        return;
+    }
+    set_number(frame, place, tie_number(hold));
+}
+
+// Writes the order of ties in force of a frame, and nothing else.
+pub(crate) fn save_tie(frame: &mut [u64], hold: bool)
+    ensures { λ _. ⌜ now (frame .exit) ≡ tieOver tieInForce hold (now (frame .entry)) ⌝ }
+{
+    set_tie(frame, TIE_IN_FORCE, hold);
 }
 
 // Writes the clock of a frame, and nothing else.
@@ -76,7 +126,7 @@ pub(crate) fn save_masks(frame: &mut [u64], busy: [u64; MOST_BRIDGES])
     }
 }
 
-// Writes a head and a clock over the first twelve numbers.
+// Writes a head but for its order of ties and a clock over the first twelve numbers.
 fn save_head(frame: &mut [u64], head: Head, clock: usize)
     ensures { λ _. ⌜ now (frame .exit) ≡ headOver head clock (now (frame .entry)) ⌝ }
 {
@@ -88,23 +138,24 @@ fn save_head(frame: &mut [u64], head: Head, clock: usize)
     save_masks(frame, busy);
 }
 
-// Writes 0 to the four reserved places.
-fn clear_reserved(frame: &mut [u64])
-    ensures { λ _. ⌜ now (frame .exit) ≡ reservedCleared (now (frame .entry)) ⌝ }
+// Writes the two orders of ties, and 0 to the two reserved places beside them.
+fn save_orders(frame: &mut [u64], kept: bool, hold: bool)
+    ensures { λ _. ⌜ now (frame .exit) ≡ sets (now (frame .entry)) 12 (0 ∷ bit kept ∷ bit hold ∷ 0 ∷ []) ⌝ }
 {
     set_number(frame, 12, 0);
-    set_number(frame, 13, 0);
-    set_number(frame, 14, 0);
+    set_number(frame, HEAD_TIE, tie_number(kept));
+    set_number(frame, TIE_IN_FORCE, tie_number(hold));
     set_number(frame, 15, 0);
 }
 
-// Writes the head and the clock that a text leaves, and 0 to the reserved places where it ran. A refusal leaves those as they are, so that one which leaves the head
-// and the clock too changes nothing.
-pub(crate) fn save_run(frame: &mut [u64], ended: Ended, head: Head, clock: usize)
-    ensures { λ _. ⌜ now (frame .exit) ≡ frameLeft (endIn ended) head clock (now (frame .entry)) ⌝ }
+// Writes the head and the clock that a text leaves, and where it ran the order of ties in force and 0 to the reserved places. A refusal leaves those as they are, so that one which
+// leaves the head and the clock too changes nothing.
+pub(crate) fn save_run(frame: &mut [u64], ended: Ended, head: Head, clock: usize, hold: bool)
+    ensures { λ _. ⌜ now (frame .exit) ≡ frameLeft (endIn ended) head clock hold (now (frame .entry)) ⌝ }
 {
     save_head(frame, head, clock);
-    if let Ended::Ran(_) = ended {
-        clear_reserved(frame);
+    match ended {
+        Ended::Ran(_) => save_orders(frame, head.hold, hold),
+        Ended::Refused(_, _) => set_tie(frame, HEAD_TIE, head.hold),
     }
 }

@@ -34,6 +34,10 @@ inputs =
     ∷ prints-as "(frame 4 2)\n(preset 1 0 2 1)\n" ""
     -- rows in place of the head's busy lines: any sequence, overlap, quotes
     ∷ prints-as "(frame 4 2)\n(busy 1 (4 4))\n(preset 1 0 2 1)\n\n2,3,4\r\n1,1,1\r\n\"2\",\"1\",2\r\n" "(frame 4 2)\n(busy 1 (1 1))\n(busy 2 (1 4))\n(preset 1 0 2 1)\n"
+    -- the head's tie line stays where it is; a tie line after the busy lines is an event, and is not looked at
+    ∷ prints-as "(frame 4 2)\n(tie hold)\n(busy 1 (4 4))\n\n1,1,2\r\n" "(frame 4 2)\n(tie hold)\n(busy 1 (1 2))\n"
+    ∷ prints-as "(frame 4 2)\n(busy 1 (4 4))\n(tie hold)\n\n1,1,2\r\n" "(frame 4 2)\n(busy 1 (1 2))\n"
+    ∷ prints-as "(frame 4 2)\n(tie place)\n\n1,1,2\r\n" "(refused 2 3)\n"
     -- no rows after the empty line: no busy line is left
     ∷ prints-as "(frame 4 2)\n(busy 1 (4 4))\n\n" "(frame 4 2)\n"
     -- the first row at fault, counted from the empty line: no row, outside the frame

@@ -92,9 +92,9 @@ fn evicted_set(sets: usize, presets: usize, table: usize, call: usize) -> usize 
     best
 }
 
-// How a call ends on a well-formed table: cause 4 or 7 and the table as it was, or the table and the number of evicted cells. No evicted cell is left to be made empty:
-// without it the call would fit too.
-pub fn call(sets: usize, presets: usize, table: usize, call: usize) -> usize {
+// How a call ends on a well-formed table under an order of ties: cause 4 or 7 and the table as it was, or the table and the number of evicted cells. No evicted cell is left
+// to be made empty: without it the call would fit too.
+pub fn call(sets: usize, presets: usize, table: usize, hold: bool, call: usize) -> usize {
     if is_used(presets, table, call) {
         return table | 4 << 48;
     }
@@ -103,7 +103,7 @@ pub fn call(sets: usize, presets: usize, table: usize, call: usize) -> usize {
         return table | 7 << 48;
     }
     let free = free_with(sets, table, call, evicted);
-    place(table, free, 0, call & 0xffffff, call >> 24 | 0x808080) | size(evicted) << 56
+    place(table, free, hold, 0, call & 0xffffff, call >> 24 | 0x808080) | size(evicted) << 56
 }
 
 // Whether a set has fewer of the optional cells of presets with priority p or better than another.

@@ -1,5 +1,5 @@
-// A second planner for small frames, written from document 01: it uses nothing of the first, and tries every placement and every evicted set. Nothing is promised of it
-// but that it is safe and ends; crates/trials compares the two.
+// A second planner for small frames, written from documents 01 and 02: it uses nothing of the first, and tries every placement and every evicted set. Nothing is promised
+// of it but that it is safe and ends; crates/trials compares the two.
 //
 // An answer is one number: the table after it, in field 6 the cause, 0 for none, and in field 7 what is reported: of a plan the grants, two bits for each line; of a call
 // the number of evicted cells. Call 0 asks for a plan.
@@ -19,12 +19,12 @@ use calling::is_least;
 use planning::is_best;
 use planning::plan;
 
-// The answer to a call on a table, or the plan.
-pub fn answer(sets: usize, presets: usize, table: usize, wanted: usize) -> usize {
+// The answer to a call on a table, or the plan, under an order of ties: `(tie hold)` where `hold` is true, else `(tie place)`.
+pub fn answer(sets: usize, presets: usize, table: usize, hold: bool, wanted: usize) -> usize {
     if wanted == 0 {
-        return plan(sets, presets);
+        return plan(sets, presets, hold);
     }
-    call(sets, presets, table, wanted)
+    call(sets, presets, table, hold, wanted)
 }
 
 // Whether no other valid placement is better than an answer's, as document 01 says in "What demand 3 speaks of". An answer that refuses has none.

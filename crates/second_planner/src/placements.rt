@@ -8,6 +8,7 @@ use crate::packed::size;
 use crate::packed::with_field;
 use crate::packed::without_first;
 use std::num::wrapping_add_usize;
+use std::num::wrapping_sub_usize;
 ghost use Prim.Native.Nat.{_<_};
 
 // Document 01: "the meaning of fits is that a valid placement exists". Every one is tried, with no formula: in each slot each of the three gets a free cell or none.
@@ -51,13 +52,23 @@ pub fn order(values: usize, i: usize) -> usize
     one_if(key(values, 0) < own) + one_if(key(values, 1) < own) + one_if(key(values, 2) < own)
 }
 
-// Whether a slot of n free bridges serves one of the three: it has slots left to get, and fewer than n come before it, those with more left and, of equal ones, the
-// earlier. (All ones less what is left, so that the most comes first.)
-fn is_served(left: usize, n: usize, who: usize) -> bool {
+// Document 02, 2026-02: "`(tie hold)` changes the order of equal remaining times: those with a cell in the slot just before come first, then file or call order". A field for
+// each of the three, 1 for those: what they had left to get before that slot's choice is more by one than what they have left after it. Under `(tie place)` all are 0.
+fn held_of(hold: bool, before: usize, left: usize) -> usize {
+    if hold {
+        wrapping_sub_usize(before, left)
+    } else {
+        0
+    }
+}
+
+// Whether a slot of n free bridges serves one of the three: it has slots left to get, and fewer than n come before it, those with more left, of equal ones those that are
+// held, and of these the earlier. (Twice what is left and one more for the held, and all ones less that, so that the most comes first.)
+fn is_served(left: usize, held: usize, n: usize, who: usize) -> bool {
     if field(left, who) == 0 {
         return false;
     }
-    order(left ^ 0xffffff, who) < n
+    order((left << 1 | held) ^ 0xffffff, who) < n
 }
 
 // The cell of an owner with a mark: as the mark says, or while more than the optional slots are left to get, mandatory.
@@ -69,20 +80,30 @@ fn cell_for(mark: usize, left: usize, optional: usize) -> usize {
     }
 }
 
-// Document 01, "Placing, slot by slot from the first": the table with the three in free cells, each cell with its owner's mark.
-pub fn place(table: usize, sets: usize, mandatory: usize, optional: usize, marks: usize) -> usize {
+// Document 01, "Placing, slot by slot from the first": the table with the three in free cells, each cell with its owner's mark. `hold` is whether `(tie hold)` is in force: it
+// changes who is served, and not the bridges, which go in file or call order as ever. Before the first slot nobody has a cell.
+pub fn place(
+    table: usize,
+    sets: usize,
+    hold: bool,
+    mandatory: usize,
+    optional: usize,
+    marks: usize,
+) -> usize {
     let mut after = table;
     let mut free = sets;
     let mut left = wrapping_add_usize(mandatory, optional);
     let mut before = left;
+    let mut held = 0;
     let mut pair = 0;
     while pair < 18 {
         let slot = pair / 3;
         let who = pair % 3;
         if who == 0 {
+            held = held_of(hold, before, left);
             before = left;
         }
-        if is_served(before, size(field(sets, slot)), who) {
+        if is_served(before, held, size(field(sets, slot)), who) {
             let cell = cell_for(field(marks, who), field(left, who), field(optional, who));
             after = with_field(after, first_of(field(free, slot)), cell);
             free = without_first(free, slot);

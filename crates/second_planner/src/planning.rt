@@ -52,13 +52,13 @@ fn widened(byte: usize) -> usize {
     byte & 3 | byte << 6 & 0x0300 | byte << 12 & 0x030000
 }
 
-// The plan of a head: cause 5, or the table and the grants.
-pub fn plan(sets: usize, presets: usize) -> usize {
+// The plan of a head under an order of ties: cause 5, or the table and the grants.
+pub fn plan(sets: usize, presets: usize, hold: bool) -> usize {
     if !is_feasible(sets, presets, 0) {
         return 5 << 48;
     }
     let grants = grants_of(sets, presets);
-    place(0, sets, mandatory(presets), grants, 0x626160) | narrowed(grants) << 56
+    place(0, sets, hold, mandatory(presets), grants, 0x626160) | narrowed(grants) << 56
 }
 
 // A line's grant in the field of its rank.

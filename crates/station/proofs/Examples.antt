@@ -4,7 +4,7 @@
 -- (`cases-read`); the head of the listing, written (`listing-written`) and tested (`listing-valid`); the 33rd preset (`presets-32`,
 -- `presets-33`); a number above 2 ^ 64 (`long-number`); the longest text (`too-long`, `longest`). Then what holds the definitions to document 01 from two
 -- sides, each a list of cases and one fact: the causes' numbers (`cause-numbers`); the limits of a head's lines at both edges, and the causes of a line two at
--- a time in the listed order (`edges-read`, `used-before-33`, `outside-before-33`); head records at the edges (`edges-valid`, `record-32`, `record-33`); what
+-- a time in the listed order (`edges-read`, `used-before-33`, `outside-before-33`), with the tie line among them (`ties-read`, `ties-written`); head records at the edges (`edges-valid`, `record-32`, `record-33`); what
 -- the entries over a list of records try (`entries-read`, `entries-written`).
 -- Assumes nothing.
 use Prim.Native.Nat.{ℕ, zero, suc}
@@ -14,13 +14,13 @@ use mathlib.Core.Bool.{Bool, true, false}
 use mathlib.Core.Option.{Option}
 use mathlib.Core.List.{List, [], _∷_, _++_, map}
 use lib.ListN.{replicate}
-use Rattle.station.specs.Head.{Head, Preset, presetOf, bareHead, withBusy, withPresets, valid, hasNumber, allInLimits, allDistinct, masksIn}
+use Rattle.station.specs.Head.{Head, Preset, presetOf, bareHead, withTie, withBusy, withPresets, valid, hasNumber, allInLimits, allDistinct, masksIn}
 use Rattle.station.specs.Refusal.{numberOf, firstOf, noForm, outOfLimits, outOfPlace, numberUsed, mandatoryNotFeasible, clockBack}
 use Rattle.station.specs.Refusal.{callNotFeasible, tooShort, tooMany, textTooLong, notWellFormed, noRow}
 use Rattle.station.specs.Text.{bytes, lines}
 use Rattle.station.specs.Decimal.{digits, digitsIn, digitCount, plain, valueFrom}
 use Rattle.station.specs.Form.{Form, form, print, brackets, starts, word, number, bracketsIn, readBrackets, frameIn, busyIn, presetIn, clockIn}
-use Rattle.station.specs.Form.{jobListIn, readJobs, callIn}
+use Rattle.station.specs.Form.{jobListIn, readJobs, callIn, tieIn}
 use Rattle.station.specs.Writing.{maskOf, ordered, stretches, busyLines, formsOf, textOf}
 use Rattle.station.specs.Reading.{Reading, accepted, refused, headOf, readFrom, tried}
 use Rattle.station.specs.declared.types.Preset as record-of-preset
@@ -33,7 +33,7 @@ use Rattle.station.specs.Entries.{entryReading, entryAnswer}
 -- ---- what computes: `unfolding reads` opens all that reading a text needs, and so the others
 
 unfoldable pub recognises : List ℕ → Option Form
-unfolding bytes plain digitCount valueFrom starts word number bracketsIn readBrackets jobListIn readJobs frameIn busyIn presetIn clockIn callIn form
+unfolding bytes plain digitCount valueFrom starts word number bracketsIn readBrackets jobListIn readJobs frameIn busyIn presetIn clockIn callIn tieIn form
 recognises l = form l
 
 unfoldable pub reads : List ℕ → Reading
@@ -172,10 +172,10 @@ cause-numbers = (refl, refl)
 
 -- so many slots and bridges, nothing busy, no presets; 4 slots and 2 bridges, some slots of bridge 1 busy
 abbrev bare : ℕ → ℕ → Head
-bare s b = record { slots = s; bridges = b; busy = replicate 8 0; presets = [] }
+bare s b = record { slots = s; bridges = b; hold = false; busy = replicate 8 0; presets = [] }
 
 abbrev busyOn : ℕ → ℕ → Head
-busyOn m n = record { slots = 4; bridges = 2; busy = m ∷ n ∷ replicate 6 0; presets = [] }
+busyOn m n = record { slots = 4; bridges = 2; hold = false; busy = m ∷ n ∷ replicate 6 0; presets = [] }
 
 abbrev edges : List Case
 edges =
@@ -219,6 +219,56 @@ pub edges-read : map (λ c. headOf (bytes (c .text))) edges ≡ map (λ c. c .sa
 unfolding reads
 edges-read = refl
 
+-- ---- the tie line: directly after the frame line one of the head, anywhere else an event's form, on line 1 out of its place
+
+-- one slot and one bridge with `(tie hold)`; the same head with its one cell busy
+abbrev holding : Head
+holding = withTie (bareHead 1 1) true
+
+abbrev taken : Head → Head
+taken h = withBusy h (1 ∷ replicate 7 0)
+
+abbrev ties : List Case
+ties =
+    -- directly after the frame line: hold is the head's, place out of its place
+    says "(frame 1 1)\n(tie hold)\n" (accepted holding 2)
+    ∷ says "(frame 1 1)\n(tie place)\n" (refused 2 outOfPlace)
+    -- after the head's tie line, a busy line or a preset line it ends the head
+    ∷ says "(frame 1 1)\n(tie hold)\n(tie hold)\n" (accepted holding 2)
+    ∷ says "(frame 1 1)\n(tie hold)\n(tie place)\n" (accepted holding 2)
+    ∷ says "(frame 1 1)\n(busy 1 (1 1))\n(tie hold)\n" (accepted (taken (small [])) 2)
+    ∷ says "(frame 1 1)\n(busy 1 (1 1))\n(tie place)\n" (accepted (taken (small [])) 2)
+    ∷ says "(frame 1 1)\n(preset 1 0 0 0)\n(tie place)\n(preset 2 0 0 0)\n" (accepted (small (presetOf 1 0 0 0 ∷ [])) 2)
+    -- after an event no line is the head's
+    ∷ says "(frame 1 1)\n(clock 1)\n(tie hold)\n" (accepted (small []) 1)
+    -- line 1
+    ∷ says "(tie hold)\n" (refused 1 outOfPlace)
+    ∷ says "(tie place)\n" (refused 1 outOfPlace)
+    -- lines of the head after its tie line: a bridge below 1 is outside its limits there too, and the first bridge is in its place
+    ∷ says "(frame 1 1)\n(tie hold)\n(busy 0 (1 1))\n" (refused 3 outOfLimits)
+    ∷ says "(frame 1 1)\n(tie hold)\n(busy 1 (1 1))\n" (accepted (taken holding) 3)
+    ∷ says "(frame 1 1)\n(tie hold)\n(preset 1 0 0 0)\n" (accepted (withPresets holding (presetOf 1 0 0 0 ∷ [])) 3)
+    ∷ says "(frame 1 1)\n(tie hold)\n(frame 1 1)\n" (refused 3 outOfPlace)
+    -- one text only
+    ∷ says "(frame 1 1)\n(tie Hold)\n" (refused 2 noForm)
+    ∷ says "(frame 1 1)\n(tie hold) \n" (refused 2 noForm)
+    ∷ says "(frame 1 1)\n(tie  hold)\n" (refused 2 noForm)
+    ∷ says "(frame 1 1)\n(tie holds)\n" (refused 2 noForm)
+    ∷ says "(frame 1 1)\n(tie)\n" (refused 2 noForm)
+    ∷ says "(frame 1 1)\n(tie hold)" (refused 2 noForm)
+    ∷ says "(frame 1 1)\n(tie place)" (refused 2 noForm)
+    ∷ []
+
+pub ties-read : map (λ c. headOf (bytes (c .text))) ties ≡ map (λ c. c .said) ties
+unfolding reads
+ties-read = refl
+
+-- the head's tie line is written where there is one, directly after the frame line
+pub ties-written : map textOf (holding ∷ small [] ∷ taken holding ∷ [])
+    ≡ map bytes ("(frame 1 1)\n(tie hold)\n" ∷ "(frame 1 1)\n" ∷ "(frame 1 1)\n(tie hold)\n(busy 1 (1 1))\n" ∷ [])
+unfolding writes
+ties-written = refl
+
 -- 4 and 2 before 9: the 33rd preset has a number already used, or a value outside its limits
 pub used-before-33 : headOf (textOf (presetsTo 32 []) ++ bytes "(preset 32 0 0 0)\n") ≡ refused 34 numberUsed
 unfolding presetsTo writes reads
@@ -236,7 +286,7 @@ records =
     -- a busy cell past the last slot, and one past the last bridge
     ∷ (busyOn 15 15, true)
     ∷ (busyOn 16 0, false)
-    ∷ (record { slots = 4; bridges = 2; busy = 0 ∷ 0 ∷ 1 ∷ replicate 5 0; presets = [] }, false)
+    ∷ (record { slots = 4; bridges = 2; hold = false; busy = 0 ∷ 0 ∷ 1 ∷ replicate 5 0; presets = [] }, false)
     -- a preset's values, and a number twice
     ∷ (small (presetOf 1 0 0 0 ∷ presetOf 255 9 64 64 ∷ []), true)
     ∷ (small (presetOf 0 0 0 0 ∷ []), false)
@@ -248,6 +298,9 @@ records =
     -- 32 presets, and 33
     ∷ (presetsTo 32 [], true)
     ∷ (presetsTo 33 [], false)
+    -- either order of ties will do, and mends nothing
+    ∷ (withTie (bare 64 8) true, true)
+    ∷ (withTie (bare 65 8) true, false)
     ∷ []
 
 pub edges-valid : map (λ p. valid (p .0)) records ≡ map (λ p. p .1) records
@@ -256,7 +309,7 @@ edges-valid = refl
 
 -- a head record of one slot and one bridge that counts so many presets; n preset records, numbered n down to 1
 abbrev counting : ℕ → record-of-head.Head
-counting n = record { slots = 1; bridges = 1; busy = replicate 8 0; count = n }
+counting n = record { slots = 1; bridges = 1; hold = false; busy = replicate 8 0; count = n }
 
 unfoldable pub recordsTo : ℕ → List record-of-preset.Preset
 recordsTo zero = []

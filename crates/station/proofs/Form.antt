@@ -18,8 +18,8 @@ use Rattle.laws.proofs.Comparisons.{eq-of, eqb-no}
 use Rattle.station.specs.Head.{presetOf, jobOf}
 use Rattle.station.specs.Text.{bytes, _then_, isLine, isRest, join, lines, Lines, no-lines, line-then}
 use Rattle.station.specs.Decimal.{digits, digitCount, isDigit, plain, value}
-use Rattle.station.specs.Form.{Pairs, last, next, Form, frameLine, busyLine, presetLine, clockLine, callLine, brackets, print, starts, word}
-use Rattle.station.specs.Form.{number, whole, _orElse_, also, made, bracketsIn, readBrackets, frameIn, busyIn, presetIn, clockIn, callIn, form}
+use Rattle.station.specs.Form.{Pairs, last, next, Form, frameLine, busyLine, presetLine, clockLine, callLine, tieLine, brackets, print, starts, word}
+use Rattle.station.specs.Form.{number, whole, _orElse_, also, made, bracketsIn, readBrackets, frameIn, busyIn, presetIn, clockIn, callIn, tieIn, form}
 use Rattle.station.specs.Form.{CallJobs, lastJob, nextJob, jobBrackets, alsoJob, jobListIn, readJobs}
 use Rattle.station.proofs.Decimal.{digit-low, all-digits, digits-count, number-digits, number-had}
 use Rattle.station.proofs.Text.{isLine-cons, rest-line, lines-of-join}
@@ -220,7 +220,7 @@ jobs-had l js e =
 
 -- a form printed is recognised
 pub form-self : (f : Form) → form (print f) ≡ some f
-unfolding form print frameIn busyIn presetIn clockIn callIn bytes word starts digitCount
+unfolding form print frameIn busyIn presetIn clockIn callIn tieIn bytes word starts digitCount
 form-self (frameLine s b) =
     or-first _ _ (number-digits s (bytes " " then digits b then bytes ")\n") _ refl ∙ number-digits b (bytes ")\n") _ refl)
 form-self (busyLine b p) =
@@ -232,7 +232,9 @@ form-self (presetLine p) =
     ∙ number-digits (p .mandatory) (bytes " " then digits (p .optional) then bytes ")\n") _ refl
     ∙ number-digits (p .optional) (bytes ")\n") _ refl)
 form-self (clockLine t) = or-first _ _ (number-digits t (bytes ")\n") _ refl)
-form-self (callLine js) = ap (made callLine) (jobs-self js)
+form-self (callLine js) = or-first _ _ (ap (made callLine) (jobs-self js))
+form-self (tieLine true) = refl
+form-self (tieLine false) = refl
 
 frame-had : (l : List ℕ) (f : Form) → frameIn l ≡ some f → l ≡ print f
 unfolding frameIn print bytes
@@ -266,12 +268,19 @@ unfolding callIn print
 call-had l f e =
     word-had (bytes "(call ") l _ f e (λ l₁ e₁ q₁. made-had callLine (readJobs l₁) f q₁ (λ js e₂ e₃. rw (e₁, jobs-had l₁ js e₂, ← e₃) refl))
 
+tie-had : (l : List ℕ) (f : Form) → tieIn l ≡ some f → l ≡ print f
+unfolding tieIn print bytes
+tie-had l f e =
+    or-had (word (bytes "(tie hold)\n") l (whole (tieLine true))) _ f e
+    (λ q. word-had (bytes "(tie hold)\n") l _ f q (λ l₁ e₁ q₁. whole-had (tieLine true) l₁ f q₁ (λ e₂ e₃. rw (e₁, e₂, ← e₃) refl)))
+    (λ q. word-had (bytes "(tie place)\n") l _ f q (λ l₁ e₁ q₁. whole-had (tieLine false) l₁ f q₁ (λ e₂ e₃. rw (e₁, e₂, ← e₃) refl)))
+
 -- a line that has a form is that form printed
 pub form-had : (l : List ℕ) (f : Form) → form l ≡ some f → l ≡ print f
 unfolding form
 form-had l f e =
     or-had (frameIn l) _ f e (frame-had l f) (λ e₁. or-had (busyIn l) _ f e₁ (busy-had l f) (λ e₂. or-had (presetIn l) _ f e₂ (preset-had l f)
-    (λ e₃. or-had (clockIn l) (callIn l) f e₃ (clock-had l f) (call-had l f))))
+    (λ e₃. or-had (clockIn l) _ f e₃ (clock-had l f) (λ e₄. or-had (callIn l) (tieIn l) f e₄ (call-had l f) (tie-had l f)))))
 
 -- one text for one form
 pub print-injective : (f g : Form) → print f ≡ print g → f ≡ g
@@ -319,6 +328,8 @@ print-line (presetLine p) =
     (digits-line (p .mandatory) _ (rest-line (bytes " ") _ refl (digits-line (p .optional) _ line-end)))))))
 print-line (clockLine t) = rest-line (bytes "(clock ") _ refl (digits-line t _ line-end)
 print-line (callLine js) = rest-line (bytes "(call ") _ refl (rw (jobs-text js) (brackets-line (asPairs js)))
+print-line (tieLine true) = rest-line (bytes "(tie hold") _ refl line-end
+print-line (tieLine false) = rest-line (bytes "(tie place") _ refl line-end
 
 prints-shape : (fs : List Form) → Lines (map print fs)
 prints-shape [] = no-lines

@@ -6,7 +6,7 @@ use Prim.Native.Nat.{ℕ, suc, _+_, _*_, _^_, _≤_, _<_}
 use native.Mathlib.Nat.{le-refl}
 use native.Mathlib.Omega.{arith}
 use mathlib.Core.Path.{_≡_, refl}
-use mathlib.Core.Bool.{true}
+use mathlib.Core.Bool.{Bool, true, false}
 use mathlib.Core.Option.{Option, none, some}
 use mathlib.Core.List.{List, [], _∷_, _++_, map}
 use lib.ListN.{length, getD, length-append}
@@ -16,7 +16,7 @@ use Rattle.station.specs.Head.{Preset, Head, InLimits, Valid, presetInLi
 use Rattle.station.specs.Text.{bytes, _then_, join}
 use Rattle.station.specs.Decimal.{digits}
 use Rattle.station.specs.Form.{Pairs, last, next, Form, frameLine, busyLine, brackets, presetLine, print}
-use Rattle.station.specs.Writing.{ordered, stretches, busyLineOf, busyLines, formsOf, textOf}
+use Rattle.station.specs.Writing.{ordered, stretches, busyLineOf, busyLines, tieLines, formsOf, textOf}
 use Rattle.station.proofs.Decimal.{digits-length}
 use Rattle.station.proofs.Stretches.{first-stretch, rest-ordered, last-stretch, stretches-ordered}
 use Rattle.station.proofs.ValidHead.{limits-of, parts-valid}
@@ -93,6 +93,11 @@ size-append : (a b : List Form) → size (a ++ b) ≡ size a + size b
 size-append [] b = omega arith
 size-append (f ∷ a) b = omega (arith, size-cons f (a ++ b), size-cons f a, size-append a b)
 
+tieLines-size : (hold : Bool) → size (tieLines hold) ≤ 11
+unfolding print bytes
+tieLines-size true = omega arith
+tieLines-size false = omega arith
+
 busyLines-size : (c : ℕ) (ms : List ℕ) → c + length ms ≤ 10 → ((b : ℕ) → getD ms b 0 < 2 ^ 64) → size (busyLines c ms) ≤ 269 * length ms
 unfolding busyLines
 busyLines-size c [] h f = omega arith
@@ -125,9 +130,11 @@ text-fits h v =
     let below : (b : ℕ) → getD (h .busy) b 0 < 2 ^ 64 = λ b. omega (arith, v .in-frame b) in
     omega (
       arith,
-      size-cons (frameLine (h .slots) (h .bridges)) (busyLines 1 (h .busy) ++ map presetLine (h .presets)),
+      size-cons (frameLine (h .slots) (h .bridges)) (tieLines (h .hold) ++ (busyLines 1 (h .busy) ++ map presetLine (h .presets))),
+      size-append (tieLines (h .hold)) (busyLines 1 (h .busy) ++ map presetLine (h .presets)),
       size-append (busyLines 1 (h .busy)) (map presetLine (h .presets)),
       frame-size (h .slots) (h .bridges) (omega arith) (omega arith),
+      tieLines-size (h .hold),
       busyLines-size 1 (h .busy) (omega arith) below,
       presets-size (h .presets) (parts-valid h v .limits),
     )

@@ -7,7 +7,7 @@ use Prim.Native.Nat.{ℕ, zero, suc, _+_, _-_, _^_, _≤_, _<_}
 use native.Mathlib.Nat.{add-zero}
 use native.Mathlib.Omega.{arith}
 use mathlib.Core.Path.{_≡_, refl, sym, _∙_, ap, subst}
-use mathlib.Core.Bool.{true, false, not, _&&_}
+use mathlib.Core.Bool.{Bool, true, false, not, _&&_}
 use mathlib.Core.Option.{none, some}
 use mathlib.Core.List.{List, [], _∷_, _++_, map, append-assoc, append-nil}
 use lib.ListN.{length, take, getD, set, replicate, length-append, length-set, length-map}
@@ -15,13 +15,13 @@ use lib.Seq.{getD-set-other, take-at}
 use lib.Dec.{eqb, ltb}
 use lib.Pow.{pow-pos}
 use Rattle.laws.proofs.Tests.{clash, both, left-of, right-of, false-of-not, true-of-not, neither-left, neither-right}
-use Rattle.laws.proofs.Comparisons.{ge-of, gt-of, ne-of, ltb-yes, eqb-no}
-use Rattle.station.specs.Head.{Preset, Head, bareHead, withBusy, withPresets, Valid, within, presetInLimits, hasNumber, allInLimits, allDistinct, masksIn}
+use Rattle.laws.proofs.Comparisons.{ge-of, gt-of, ne-of, ltb-yes, ltb-no, eqb-no}
+use Rattle.station.specs.Head.{Preset, Head, bareHead, withTie, withBusy, withPresets, Valid, within, presetInLimits, hasNumber, allInLimits, allDistinct, masksIn}
 use Rattle.station.specs.Refusal.{firstOf}
 use Rattle.station.specs.Text.{lines, join}
-use Rattle.station.specs.Form.{Pairs, Form, frameLine, busyLine, presetLine, clockLine, callLine, isEvent, print}
-use Rattle.station.specs.Writing.{maskOf, ordered, stretches, busyLineOf, busyLines, formsOf, textOf}
-use Rattle.station.specs.Reading.{Reading, accepted, refused, headOf, atBusy, atPresets, begun, SoFar, begin, ends, more, tried}
+use Rattle.station.specs.Form.{Pairs, Form, frameLine, busyLine, presetLine, clockLine, callLine, tieLine, isEvent, isTie, print}
+use Rattle.station.specs.Writing.{maskOf, ordered, stretches, busyLineOf, busyLines, tieLines, formsOf, textOf}
+use Rattle.station.specs.Reading.{Reading, accepted, refused, headOf, atTie, atBusy, atPresets, begun, directly, SoFar, begin, ends, more, tried}
 use Rattle.station.specs.Reading.{causes, Passes, no-more, one-more, Stops, at-end, at-event, at-no-form, at-fault, Means, too-long, no-text}
 use Rattle.station.specs.Reading.{by-lines}
 use Rattle.station.proofs.Stretches.{stretches-zero, stretches-mask, mask-lt}
@@ -93,6 +93,8 @@ busyLines-set c (x ∷ ms) (suc i) m p h z e =
 
 data Good : SoFar → List Form → Type 0 where
   at-start : Good begin []
+  -- nothing but the frame, with a tie line or without one
+  after-frame : {s b : ℕ} → ((hold : Bool) → Parts (withTie (bareHead s b) hold)) → Good (record { stage = atTie; head = bareHead s b }) (frameLine s b ∷ [])
   -- no preset yet, and no mask from the next bridge on
   before-presets : {least : ℕ} {h : Head} {fs : List Form} → Parts h → h .presets ≡ [] → ((b : ℕ) → least ≤ suc b → getD (h .busy) b 0 ≡ 0)
       → formsOf h ≡ fs → Good (record { stage = atBusy least; head = h }) fs
@@ -104,11 +106,11 @@ no-mask (suc n) zero = refl
 no-mask (suc n) (suc b) = no-mask n b
 
 good-frame : (s b : ℕ) → NoCause begin (frameLine s b) → Good (more begin (frameLine s b)) (frameLine s b ∷ [])
-unfolding tried formsOf allInLimits allDistinct masksIn
+unfolding tried allInLimits allDistinct masksIn
 good-frame s b c =
     let ok : (within 1 64 s && within 1 8 b) ≡ true = true-of-not (within 1 64 s && within 1 8 b) (c .in-limits) in
-    before-presets {least = 0} {h = bareHead s b}
-    (record {
+    after-frame {s = s} {b = b}
+    (λ hold. record {
       slots = left-of (within 1 64 s) (within 1 8 b) ok;
       bridges = right-of (within 1 64 s) (within 1 8 b) ok;
       masks = refl;
@@ -117,9 +119,13 @@ good-frame s b c =
       limits = refl;
       distinct = refl;
     })
-    refl
-    (λ i l. no-mask 8 i)
-    (ap (λ (k : List Form). frameLine s b ∷ (k ++ [])) (busyLines-none 1 (replicate 8 0) (no-mask 8)))
+
+-- the lines of a frame with nothing busy and no presets
+bare-forms : (s b : ℕ) (hold : Bool) → formsOf (withTie (bareHead s b) hold) ≡ frameLine s b ∷ tieLines hold
+unfolding formsOf
+bare-forms s b hold =
+    ap (λ (k : List Form). frameLine s b ∷ (tieLines hold ++ (k ++ []))) (busyLines-none 1 (replicate 8 0) (no-mask 8))
+    ∙ ap (λ (k : List Form). frameLine s b ∷ k) (append-nil (tieLines hold))
 
 forms-busy : (h : Head) (b : ℕ) (p : Pairs) → 1 ≤ b → b - 1 < length (h .busy) → h .presets ≡ []
     → ((j : ℕ) → b - 1 ≤ j → getD (h .busy) j 0 ≡ 0) → stretches 64 1 (maskOf p) ≡ some p
@@ -131,10 +137,12 @@ forms-busy h b p low inside-busy bare z e =
     let lines : busyLines 1 (set (h .busy) (b - 1) (maskOf p)) ≡ busyLines 1 (h .busy) ++ (busyLine b p ∷ []) =
     busyLines-set 1 (h .busy) (b - 1) (maskOf p) p inside-busy z e ∙ ap (λ (k : ℕ). busyLines 1 (h .busy) ++ (busyLine k p ∷ [])) at in
     ap (λ (k : List Form). frameLine (h .slots) (h .bridges) ∷ k)
+    (ap (λ (k : List Form). tieLines (h .hold) ++ k)
     (ap (λ (k : List Preset). busyLines 1 (set (h .busy) (b - 1) (maskOf p)) ++ map presetLine k) bare
     ∙ append-nil (busyLines 1 (set (h .busy) (b - 1) (maskOf p))) ∙ lines
     ∙ ap (λ (k : List Form). k ++ (busyLine b p ∷ [])) (sym (append-nil (busyLines 1 (h .busy)))
     ∙ ap (λ (k : List Preset). busyLines 1 (h .busy) ++ map presetLine k) (sym bare)))
+    ∙ sym (append-assoc (tieLines (h .hold)) (busyLines 1 (h .busy) ++ map presetLine (h .presets)) (busyLine b p ∷ [])))
 
 -- the facts of a busy line that passes
 good-busy : (least : ℕ) (h : Head) (fs : List Form) (b : ℕ) (p : Pairs) → Parts h → h .presets ≡ []
@@ -167,6 +175,14 @@ good-busy least h fs b p a bare z w c =
     (forms-busy h b p b-low inside-busy bare (λ j l. z j (omega arith)) (stretches-mask (h .slots) p all stretch)
     ∙ ap (λ (k : List Form). k ++ (busyLine b p ∷ [])) w)
 
+-- the same where the busy line stands directly after the frame line: any bridge will do there
+good-first : (s k b : ℕ) (p : Pairs) → Parts (bareHead s k) → NoCause (record { stage = atTie; head = bareHead s k }) (busyLine b p)
+    → Good (more (record { stage = atTie; head = bareHead s k }) (busyLine b p)) (frameLine s k ∷ busyLine b p ∷ [])
+unfolding tried
+good-first s k b p a c =
+    good-busy 0 (bareHead s k) (frameLine s k ∷ []) b p a refl (λ i l. no-mask 8 i) (bare-forms s k false)
+    (record { in-place = ltb-no b 0 (omega arith); in-limits = c .in-limits; unused = refl; fits = refl })
+
 -- the facts of a preset line that passes
 good-preset : (r : SoFar) (fs : List Form) (x : Preset) → Parts (r .head) → formsOf (r .head) ≡ fs → NoCause r (presetLine x)
     → Good (more r (presetLine x)) (fs ++ (presetLine x ∷ []))
@@ -185,8 +201,10 @@ good-preset r fs x a w c =
       distinct = distinct-append (h .presets) x (a .distinct) (c .unused);
     })
     (ap (λ (k : List Form). frameLine (h .slots) (h .bridges) ∷ k)
+    (ap (λ (k : List Form). tieLines (h .hold) ++ k)
     (ap (λ (k : List Form). busyLines 1 (h .busy) ++ k) (map-append presetLine (h .presets) (x ∷ []))
     ∙ sym (append-assoc (busyLines 1 (h .busy)) (map presetLine (h .presets)) (presetLine x ∷ [])))
+    ∙ sym (append-assoc (tieLines (h .hold)) (busyLines 1 (h .busy) ++ map presetLine (h .presets)) (presetLine x ∷ [])))
     ∙ ap (λ (k : List Form). k ++ (presetLine x ∷ [])) w)
 
 good-more : {r : SoFar} {fs : List Form} (f : Form) → ends r f ≡ false → firstOf (causes r f) ≡ none → Good r fs → Good (more r f) (fs ++ (f ∷ []))
@@ -196,16 +214,26 @@ good-more (busyLine b p) e c at-start = absurd (clash (no-cause begin (busyLine 
 good-more (presetLine p) e c at-start = absurd (clash (no-cause begin (presetLine p) c .in-place))
 good-more (clockLine t) e c at-start = absurd (clash (no-cause begin (clockLine t) c .in-place))
 good-more (callLine p) e c at-start = absurd (clash (no-cause begin (callLine p) c .in-place))
+good-more (tieLine hold) e c at-start = absurd (clash (no-cause begin (tieLine hold) c .in-place))
+good-more {r} (frameLine s b) e c (after-frame a) = absurd (clash (no-cause r (frameLine s b) c .in-place))
+good-more {r} (busyLine b p) e c (after-frame {s} {b = k} a) = good-first s k b p (a false) (no-cause r (busyLine b p) c)
+good-more {r} {fs} (presetLine p) e c (after-frame {s} {b} a) = good-preset r fs p (a false) (bare-forms s b false) (no-cause r (presetLine p) c)
+good-more (clockLine t) e c (after-frame a) = absurd (clash e)
+good-more (callLine p) e c (after-frame a) = absurd (clash e)
+good-more (tieLine true) e c (after-frame {s} {b} a) = before-presets {least = 0} (a true) refl (λ i l. no-mask 8 i) (bare-forms s b true)
+good-more {r} (tieLine false) e c (after-frame a) = absurd (clash (no-cause r (tieLine false) c .in-place))
 good-more {r} (frameLine s b) e c (before-presets a bare z w) = absurd (clash (no-cause r (frameLine s b) c .in-place))
 good-more {r} {fs} (busyLine b p) e c (before-presets {least} {h} a bare z w) = good-busy least h fs b p a bare z w (no-cause r (busyLine b p) c)
 good-more {r} {fs} (presetLine p) e c (before-presets a bare z w) = good-preset r fs p a w (no-cause r (presetLine p) c)
 good-more (clockLine t) e c (before-presets a bare z w) = absurd (clash e)
 good-more (callLine p) e c (before-presets a bare z w) = absurd (clash e)
+good-more (tieLine hold) e c (before-presets a bare z w) = absurd (clash e)
 good-more {r} (frameLine s b) e c (in-presets a w) = absurd (clash (no-cause r (frameLine s b) c .in-place))
 good-more {r} (busyLine b p) e c (in-presets a w) = absurd (clash (no-cause r (busyLine b p) c .in-place))
 good-more {r} {fs} (presetLine p) e c (in-presets a w) = good-preset r fs p a w (no-cause r (presetLine p) c)
 good-more (clockLine t) e c (in-presets a w) = absurd (clash e)
 good-more (callLine p) e c (in-presets a w) = absurd (clash e)
+good-more (tieLine hold) e c (in-presets a w) = absurd (clash e)
 
 good-passes : {r q : SoFar} {fs : List Form} (done : List Form) → Passes r fs q → Good r done → Good q (done ++ fs)
 good-passes done no-more g = rw append-nil g
@@ -232,6 +260,7 @@ written t fs h ls e a w = (
 ended : (t : List ℕ) (fs : List Form) (q : SoFar) (ls : List (List ℕ)) → lines t ≡ map print fs ++ ls → begun (q .stage) ≡ true → Good q fs
     → Facts t (accepted (q .head) (length fs))
 ended t fs q ls e b at-start = absurd (clash (sym b))
+ended t fs q ls e b (after-frame {s} {b = k} a) = written t fs (q .head) ls e (a false) (bare-forms s k false)
 ended t fs q ls e b (before-presets a bare z w) = written t fs (q .head) ls e a w
 ended t fs q ls e b (in-presets a w) = written t fs (q .head) ls e a w
 
@@ -239,7 +268,8 @@ facts-stops : (t : List ℕ) {fs : List Form} {q : SoFar} {ls : List (List ℕ)}
     → lines t ≡ map print fs ++ ls → Good q fs → Stops (length fs) q ls x → Facts t x
 unfolding Facts
 facts-stops t {fs} {q} {ls} e g (at-end b) = ended t fs q [] e b g
-facts-stops t {fs} {q} {ls} e g (at-event {l} {ls = ms} {f} d a) = ended t fs q (l ∷ ms) e (right-of (isEvent f) (begun (q .stage)) a) g
+facts-stops t {fs} {q} {ls} e g (at-event {l} {ls = ms} {f} d a) =
+    ended t fs q (l ∷ ms) e (right-of (isEvent f && not (isTie f && directly (q .stage))) (begun (q .stage)) a) g
 facts-stops t e g (at-no-form d) = tt
 facts-stops t e g (at-fault d a c) = tt
 

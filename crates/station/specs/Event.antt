@@ -7,7 +7,7 @@ use lib.ListN.{length}
 use lib.Dec.{leb}
 use Rattle.station.specs.Limits.{mostJobs}
 use Rattle.station.specs.Head as meant
-use Rattle.station.specs.Form.{Form, frameLine, busyLine, presetLine, clockLine, callLine, jobsOf}
+use Rattle.station.specs.Form.{Form, frameLine, busyLine, presetLine, clockLine, callLine, tieLine, jobsOf}
 use Rattle.station.specs.Jobs.{padded, noJobs, seen}
 pub use Rattle.station.specs.Jobs.{jobInLimits}
 unfoldable pub use Rattle.station.specs.Jobs.{jobsInLimits}
@@ -15,8 +15,8 @@ use Rattle.station.specs.declared.brackets.Jobs.{Jobs}
 use Rattle.station.specs.declared.types.Refusal.{Refusal}
 use Rattle.station.specs.declared.types.Refusal.the-variants as refusal
 use Rattle.station.specs.declared.forms.Line.{Line}
-use Rattle.station.specs.declared.forms.Line.the-variants.{NoForm, Frame, Busy, Preset, Clock, Call}
-use Rattle.station.specs.declared.events.Event.the-variants.{SetClock, PlaceJobs, Fault}
+use Rattle.station.specs.declared.forms.Line.the-variants.{NoForm, Frame, Busy, Preset, Clock, Call, Tie}
+use Rattle.station.specs.declared.events.Event.the-variants.{SetClock, PlaceJobs, SetTie, Fault}
 use Rattle.station.specs.declared.events.EventRead.{EventRead}
 
 -- a refusal has no jobs
@@ -35,7 +35,7 @@ callInLimits l = leb (length l) mostJobs && jobsInLimits l
 abbrev pub callRead : List meant.Job → EventRead
 callRead l = pickEvent (callInLimits l) (record { event = PlaceJobs (length l); jobs = padded mostJobs l }) (fault refusal.OutOfLimits)
 
--- The event of a line: "a line that is not one of the five forms" is refused; "A head line after an event is out of place"; a clock; a call.
+-- The event of a line: "a line that is not one of the five forms" is refused, which are six by now; "A head line after an event is out of place"; a clock; a call; a tie.
 abbrev pub eventIn : Option Form → EventRead
 eventIn none = fault refusal.NoForm
 eventIn (some (frameLine s b)) = fault refusal.OutOfPlace
@@ -43,6 +43,7 @@ eventIn (some (busyLine b p)) = fault refusal.OutOfPlace
 eventIn (some (presetLine p)) = fault refusal.OutOfPlace
 eventIn (some (clockLine t)) = record { event = SetClock (seen t); jobs = noJobs }
 eventIn (some (callLine p)) = callRead (jobsOf p)
+eventIn (some (tieLine hold)) = record { event = SetTie hold; jobs = noJobs }
 
 -- ---- the same by what was read of the line
 
@@ -58,3 +59,4 @@ lineEvent (Busy b m o) = fault refusal.OutOfPlace
 lineEvent (Preset n p m o) = fault refusal.OutOfPlace
 lineEvent (Clock t) = record { event = SetClock t; jobs = noJobs }
 lineEvent (Call n) = fault refusal.NoForm
+lineEvent (Tie hold) = record { event = SetTie hold; jobs = noJobs }

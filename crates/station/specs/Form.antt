@@ -1,4 +1,4 @@
--- The five forms of a line: what each says, the one text that it has, and the recogniser. Document 01, "The station text".
+-- The six forms of a line: what each says, the one text that it has, and the recogniser. Document 01, "The station text"; document 02, 2026-02.
 -- Assumes nothing.
 use Prim.Native.Nat.{ℕ, zero, suc}
 use mathlib.Core.Bool.{Bool, true, false, cond, _&&_}
@@ -20,21 +20,32 @@ pub data CallJobs : Type 0 where
   lastJob : Job → CallJobs
   nextJob : Job → CallJobs → CallJobs
 
--- The five forms, with their numbers as they stand: whether a value is within its limits is not the form's matter.
+-- The six forms, with their numbers as they stand: whether a value is within its limits is not the form's matter.
 pub data Form : Type 0 where
   frameLine : ℕ → ℕ → Form  -- `(frame S B)`
   busyLine : ℕ → Pairs → Form  -- `(busy b (f t) (f t))`
   presetLine : Preset → Form  -- `(preset n p m o)`
   clockLine : ℕ → Form  -- `(clock t)`
   callLine : CallJobs → Form  -- `(call (n c) (n c))`
+  tieLine : Bool → Form  -- `(tie hold)` where true, `(tie place)` where false
 
--- "Events follow: `(clock t)` and `(call (n c) (n c))`."
+-- "Events follow: `(clock t)` and `(call (n c) (n c))`"; a tie line has "an event's form" too, where it does not stand directly after the frame line
 abbrev pub isEvent : Form → Bool
 isEvent (frameLine s b) = false
 isEvent (busyLine b p) = false
 isEvent (presetLine p) = false
 isEvent (clockLine t) = true
 isEvent (callLine js) = true
+isEvent (tieLine hold) = true
+
+-- a tie line
+abbrev pub isTie : Form → Bool
+isTie (frameLine s b) = false
+isTie (busyLine b p) = false
+isTie (presetLine p) = false
+isTie (clockLine t) = false
+isTie (callLine js) = false
+isTie (tieLine hold) = true
 
 -- "A call is a list of jobs, each with a number and a length c."
 unfoldable pub jobsOf : CallJobs → List Job
@@ -62,6 +73,8 @@ print (presetLine p) =
     then digits (p .optional) then bytes ")\n"
 print (clockLine t) = bytes "(clock " then digits t then bytes ")\n"
 print (callLine js) = bytes "(call " then jobBrackets js
+print (tieLine true) = bytes "(tie hold)\n"
+print (tieLine false) = bytes "(tie place)\n"
 
 -- ---- the recogniser: each reader hands on what is left
 
@@ -155,6 +168,10 @@ clockIn l = word (bytes "(clock ") l (λ l₁. number l₁ (λ t l₂. word (byt
 unfoldable pub callIn : List ℕ → Option Form
 callIn l = word (bytes "(call ") l (λ l₁. made callLine (readJobs l₁))
 
--- The form of a line, byte 10 included; none is "a line that is not one of the five forms, or lacks its end".
+-- `(tie hold)`, `(tie place)`
+unfoldable pub tieIn : List ℕ → Option Form
+tieIn l = word (bytes "(tie hold)\n") l (whole (tieLine true)) orElse word (bytes "(tie place)\n") l (whole (tieLine false))
+
+-- The form of a line, byte 10 included; none is "a line that is not one of the five forms, or lacks its end", which are six since 2026-02.
 unfoldable pub form : List ℕ → Option Form
-form l = frameIn l orElse busyIn l orElse presetIn l orElse clockIn l orElse callIn l
+form l = frameIn l orElse busyIn l orElse presetIn l orElse clockIn l orElse callIn l orElse tieIn l

@@ -16,11 +16,12 @@ pub record Preset : Type 0 where
   pub mandatory : ℕ
   pub optional : ℕ
 
--- "A frame has S slots .. and B bridges"; the busy cells, one mask of 64 bits for each of eight bridges, slot s being the bit of worth 2 ^ s;
+-- "A frame has S slots .. and B bridges"; whether `(tie hold)` stands directly after the frame line; the busy cells, one mask of 64 bits for each of eight bridges, slot s being the bit of worth 2 ^ s;
 -- the presets in file order.
 pub record Head : Type 0 where
   pub slots : ℕ
   pub bridges : ℕ
+  pub hold : Bool
   pub busy : List ℕ
   pub presets : List Preset
 
@@ -55,17 +56,21 @@ presetAt h i = getD (h .presets) i noPreset
 
 -- ---- heads made from heads
 
--- a frame with nothing busy and no presets
+-- a frame without a tie line, with nothing busy and no presets
 abbrev pub bareHead : ℕ → ℕ → Head
-bareHead slots bridges = record { slots = slots; bridges = bridges; busy = replicate mostBridges 0; presets = [] }
+bareHead slots bridges = record { slots = slots; bridges = bridges; hold = false; busy = replicate mostBridges 0; presets = [] }
+
+-- the head with a tie line of its own or without one
+abbrev pub withTie : Head → Bool → Head
+withTie h hold = record { slots = h .slots; bridges = h .bridges; hold = hold; busy = h .busy; presets = h .presets }
 
 -- the head with other masks
 abbrev pub withBusy : Head → List ℕ → Head
-withBusy h busy = record { slots = h .slots; bridges = h .bridges; busy = busy; presets = h .presets }
+withBusy h busy = record { slots = h .slots; bridges = h .bridges; hold = h .hold; busy = busy; presets = h .presets }
 
 -- the head with other presets
 abbrev pub withPresets : Head → List Preset → Head
-withPresets h ps = record { slots = h .slots; bridges = h .bridges; busy = h .busy; presets = ps }
+withPresets h ps = record { slots = h .slots; bridges = h .bridges; hold = h .hold; busy = h .busy; presets = ps }
 
 -- ---- limits
 
@@ -77,7 +82,7 @@ pub record InLimits (p : Preset) : Type 0 where
   pub mandatory : p .mandatory ≤ mostMandatory
   pub optional : p .optional ≤ mostOptional
 
--- A head record that some text yields: within the limits, busy cells inside the frame only, no preset's number twice.
+-- A head record that some text yields: within the limits, busy cells inside the frame only, no preset's number twice. Either order of ties will do.
 pub record Valid (h : Head) : Type 0 where
   pub slots-low : 1 ≤ h .slots
   pub slots-high : h .slots ≤ mostSlots

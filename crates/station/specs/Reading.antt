@@ -1,4 +1,4 @@
--- Reading a head: line by line, and the cause for which a line is refused. Document 01, "The station text" and "Causes".
+-- Reading a head: line by line, and the cause for which a line is refused. Document 01, "The station text" and "Causes"; document 02, 2026-02.
 -- Assumes nothing.
 use Prim.Native.Nat.{ℕ, suc, _-_, _≤_, _<_}
 use mathlib.Core.Path.{_≡_}
@@ -8,10 +8,10 @@ use mathlib.Core.List.{List, [], _∷_, _++_, map}
 use lib.ListN.{length, set}
 use lib.Dec.{ltb, leb}
 use Rattle.station.specs.Limits.{mostPresets, mostBytes}
-use Rattle.station.specs.Head.{Head, bareHead, withBusy, withPresets, within, frameInLimits, presetInLimits, hasNumber}
+use Rattle.station.specs.Head.{Head, bareHead, withTie, withBusy, withPresets, within, frameInLimits, presetInLimits, hasNumber}
 use Rattle.station.specs.Refusal.{Refusal, noForm, outOfLimits, outOfPlace, numberUsed, tooMany, textTooLong, try, firstOf}
 use Rattle.station.specs.Text.{lines}
-use Rattle.station.specs.Form.{Form, frameLine, busyLine, presetLine, clockLine, callLine, isEvent, print, form}
+use Rattle.station.specs.Form.{Form, frameLine, busyLine, presetLine, clockLine, callLine, tieLine, isEvent, isTie, print, form}
 use Rattle.station.specs.Writing.{maskOf, ordered}
 
 -- a head and the number of its lines, or of the rows that were put into it; or the line or row, counted from 1, and what it is refused for
@@ -19,17 +19,26 @@ pub data Reading : Type 0 where
   accepted : Head → ℕ → Reading
   refused : ℕ → Refusal → Reading
 
--- How far a head was read, "in this order": at the frame line; at the busy lines, the next with this bridge at the least; at the presets.
+-- How far a head was read, "in this order": at the frame line; directly after it, where its tie line stands; at the busy lines, the next with this bridge at the least; at the presets.
 pub data Stage : Type 0 where
   atFrame : Stage
+  atTie : Stage
   atBusy : ℕ → Stage
   atPresets : Stage
 
 -- the frame line was read
 abbrev pub begun : Stage → Bool
 begun atFrame = false
+begun atTie = true
 begun (atBusy b) = true
 begun atPresets = true
+
+-- the frame line was the last one read
+abbrev pub directly : Stage → Bool
+directly atFrame = false
+directly atTie = true
+directly (atBusy b) = false
+directly atPresets = false
 
 -- What the lines read so far make: the stage, and the head.
 pub record SoFar : Type 0 where
@@ -45,8 +54,16 @@ begin = record { stage = atFrame; head = bareHead 0 0 }
 -- a busy line of bridge b: before the presets, and "Bridges ascend from line to line; one that does not is out of its place"
 abbrev pub busyMisplaced : Stage → ℕ → Bool
 busyMisplaced atFrame b = true
+busyMisplaced atTie b = false
 busyMisplaced (atBusy least) b = ltb b least
 busyMisplaced atPresets b = true
+
+-- a tie line: directly after the frame line "`(tie place)` there is a head line and meets 3"; it is tried there and on line 1 only
+abbrev pub tieMisplaced : Stage → Bool → Bool
+tieMisplaced atFrame hold = true
+tieMisplaced atTie hold = not hold
+tieMisplaced (atBusy least) hold = true
+tieMisplaced atPresets hold = true
 
 -- What is tried of a line with a form after what was read so far, each from its row of the table, and what the lines make with it where no cause holds.
 pub record Tried : Type 0 where
@@ -57,14 +74,14 @@ pub record Tried : Type 0 where
   pub next : SoFar
 
 -- One clause for each form: the frame "once, on line 1"; a busy line is its bridge's mask; a preset comes last in file order; an event after the frame line
--- ends the head, so that of the causes it can meet only the first.
+-- ends the head, so that of the causes it can meet only the first; a tie line that does not end it is the head's.
 unfoldable pub tried : SoFar → Form → Tried
 tried r (frameLine s b) = record {
   misplaced = begun (r .stage);
   outside = not (frameInLimits s b);
   used = false;
   full = false;
-  next = record { stage = atBusy 0; head = bareHead s b };
+  next = record { stage = atTie; head = bareHead s b };
 }
 tried r (busyLine b p) = record {
   misplaced = busyMisplaced (r .stage) b;
@@ -82,6 +99,13 @@ tried r (presetLine p) = record {
 }
 tried r (clockLine t) = record { misplaced = not (begun (r .stage)); outside = false; used = false; full = false; next = r }
 tried r (callLine p) = record { misplaced = not (begun (r .stage)); outside = false; used = false; full = false; next = r }
+tried r (tieLine hold) = record {
+  misplaced = tieMisplaced (r .stage) hold;
+  outside = false;
+  used = false;
+  full = false;
+  next = record { stage = atBusy 0; head = withTie (r .head) hold };
+}
 
 -- ---- "Tried in the order 10, 8, 11, 1, 3, 2, 4, 9": the order within a line that has a form, once
 
@@ -92,9 +116,10 @@ causes r f =
 
 -- ---- line by line
 
--- "The head ends before the first line that has an event's form"; on line 1 such a line is out of its place
+-- "The head ends before the first line that has an event's form"; on line 1 such a line is out of its place. A tie line directly after the frame line is one of the head: "Directly after the
+-- frame line `(tie hold)` holds for the plan and the calls, and `(tie place)` there is a head line".
 abbrev pub ends : SoFar → Form → Bool
-ends r f = isEvent f && begun (r .stage)
+ends r f = isEvent f && not (isTie f && directly (r .stage)) && begun (r .stage)
 
 -- what the lines make with one more, for which no cause holds
 abbrev pub more : SoFar → Form → SoFar

@@ -1,7 +1,7 @@
 -- What the records and answers of src/types.rt stand for.
 -- Assumes nothing.
 use Prim.Native.Nat.{ℕ}
-use mathlib.Core.Bool.{Bool, _&&_}
+use mathlib.Core.Bool.{Bool, false, _&&_}
 use mathlib.Core.List.{List, map}
 use lib.ListN.{take, replicate}
 use lib.Dec.{leb}
@@ -62,21 +62,25 @@ jobIn j = record { number = j .number; slots = j .slots }
 
 -- ---- head records
 
--- the record of a frame with nothing busy and no presets
+-- the record of a frame without a tie line, with nothing busy and no presets
 abbrev pub bareRecord : ℕ → ℕ → Head
-bareRecord slots bridges = record { slots = slots; bridges = bridges; busy = replicate mostBridges 0; count = 0 }
+bareRecord slots bridges = record { slots = slots; bridges = bridges; hold = false; busy = replicate mostBridges 0; count = 0 }
+
+-- the record with a tie line of its own or without one
+abbrev pub withHold : Head → Bool → Head
+withHold h hold = record { slots = h .slots; bridges = h .bridges; hold = hold; busy = h .busy; count = h .count }
 
 -- the record with other masks
 abbrev pub withMasks : Head → List ℕ → Head
-withMasks h busy = record { slots = h .slots; bridges = h .bridges; busy = busy; count = h .count }
+withMasks h busy = record { slots = h .slots; bridges = h .bridges; hold = h .hold; busy = busy; count = h .count }
 
 -- the record with another number of presets
 abbrev pub withCount : Head → ℕ → Head
-withCount h count = record { slots = h .slots; bridges = h .bridges; busy = h .busy; count = count }
+withCount h count = record { slots = h .slots; bridges = h .bridges; hold = h .hold; busy = h .busy; count = count }
 
 -- the head of a record and its list of preset records
 abbrev pub headIn : Head → List Preset → head.Head
-headIn h ps = record { slots = h .slots; bridges = h .bridges; busy = h .busy; presets = presetsIn (h .count) ps }
+headIn h ps = record { slots = h .slots; bridges = h .bridges; hold = h .hold; busy = h .busy; presets = presetsIn (h .count) ps }
 
 -- "a head record that no text yields" is one for which this is false
 abbrev pub validRecord : Head → List Preset → Bool

@@ -2,14 +2,14 @@
 -- The busy cells of a bridge are a mask; its stretches are the runs of ones, slot 1 being the lowest bit.
 -- Assumes nothing.
 use Prim.Native.Nat.{ℕ, zero, suc, _+_, _-_, _/_, _%_, _^_}
-use mathlib.Core.Bool.{Bool, false, cond, _&&_, _||_}
+use mathlib.Core.Bool.{Bool, true, false, cond, _&&_, _||_}
 use mathlib.Core.Option.{Option, none, some}
 use mathlib.Core.List.{List, [], _∷_, _++_, map}
 use lib.Dec.{eqb, leb}
 use Rattle.station.specs.Limits.{mostSlots}
 use Rattle.station.specs.Head.{Head, within}
 use Rattle.station.specs.Text.{join}
-use Rattle.station.specs.Form.{Pairs, last, next, Form, frameLine, busyLine, presetLine, clockLine, callLine, print}
+use Rattle.station.specs.Form.{Pairs, last, next, Form, frameLine, busyLine, presetLine, clockLine, callLine, tieLine, print}
 
 -- the mask of the slots from f to t, both included
 abbrev pub maskTo : ℕ → ℕ → ℕ
@@ -57,9 +57,14 @@ unfoldable pub busyLines : ℕ → List ℕ → List Form
 busyLines b [] = []
 busyLines b (m ∷ ms) = busyLineOf b (stretches mostSlots 1 m) ++ busyLines (suc b) ms
 
--- the lines of a head, "in this order": the frame, the busy lines, the presets
+-- the tie line of a head: "Directly after the frame line `(tie hold)`", and without it there is none, "so that a head keeps one text"
+abbrev pub tieLines : Bool → List Form
+tieLines true = tieLine true ∷ []
+tieLines false = []
+
+-- the lines of a head, "in this order": the frame, its tie line, the busy lines, the presets
 unfoldable pub formsOf : Head → List Form
-formsOf h = frameLine (h .slots) (h .bridges) ∷ (busyLines 1 (h .busy) ++ map presetLine (h .presets))
+formsOf h = frameLine (h .slots) (h .bridges) ∷ (tieLines (h .hold) ++ (busyLines 1 (h .busy) ++ map presetLine (h .presets)))
 
 -- the text of a head
 unfoldable pub textOf : Head → List ℕ
@@ -79,6 +84,7 @@ lineTakes (busyLine c p) b x = eqb c b && covers p x
 lineTakes (presetLine p) b x = false
 lineTakes (clockLine t) b x = false
 lineTakes (callLine p) b x = false
+lineTakes (tieLine hold) b x = false
 
 -- one of the lines says so
 unfoldable pub linesTake : List Form → ℕ → ℕ → Bool

@@ -1,4 +1,4 @@
-// Event lines: a clock, a call, or what is wrong with the line itself.
+// Event lines: a clock, a call, a tie, or what is wrong with the line itself.
 use crate::brackets::Jobs;
 use crate::brackets::jobs_at;
 use crate::forms::Line;
@@ -13,11 +13,12 @@ ghost use mathlib.Core.Path.{_≡_};
 ghost use Rattle.station.specs.Form.{form};
 ghost use Rattle.station.specs.Event.{fault, callEvent, lineEvent, eventIn};
 
-// What an event line asks: to set the clock, or to place the first jobs of the array, so many of them; or the refusal that it meets by itself,
+// What an event line asks: to set the clock, to place the first jobs of the array, so many of them, or to change the order of ties; or the refusal that it meets by itself,
 // whatever the table and the clock are.
 pub enum Event {
     SetClock(u32),
     PlaceJobs(usize),
+    SetTie(bool),
     Fault(Refusal),
 }
 
@@ -69,10 +70,14 @@ fn line_event(said: Line) -> EventRead
             jobs: [NO_JOB; MOST_JOBS],
         },
         Line::Call(_) => refused(Refusal::NoForm),
+        Line::Tie(hold) => EventRead {
+            event: Event::SetTie(hold),
+            jobs: [NO_JOB; MOST_JOBS],
+        },
     }
 }
 
-// The event of a line, byte 10 included: a clock with its slot as it is read, a call with its jobs, or `Fault`. No form is `NoForm`, a head's
+// The event of a line, byte 10 included: a clock with its slot as it is read, a call with its jobs, a tie with its order, or `Fault`. No form is `NoForm`, a head's
 // line `OutOfPlace`, a call with a ninth job or with a number or length outside its limits `OutOfLimits`. Most events are calls: they are
 // told by their first word, which no other form has.
 pub fn read_event(line: &[u8]) -> EventRead

@@ -1,7 +1,8 @@
-// The five forms of a line.
+// The six forms of a line.
 use crate::brackets::jobs_at;
 use crate::brackets::stretches_at;
 use crate::limits::MOST_JOBS;
+use crate::numbers::closes_at;
 use crate::numbers::number_last;
 use crate::numbers::number_then;
 use crate::numbers::starts_at;
@@ -10,7 +11,7 @@ use crate::types::NO_JOB;
 ghost use mathlib.Core.Path.{_≡_};
 ghost use Prim.Native.Nat.{ℕ, min};
 ghost use Rattle.station.specs.Limits.{mostSlots};
-ghost use Rattle.station.specs.Form.{frameIn, busyIn, presetIn, clockIn, callIn, form};
+ghost use Rattle.station.specs.Form.{frameIn, busyIn, presetIn, clockIn, callIn, tieIn, form};
 ghost use Rattle.station.specs.Jobs.{noJobs};
 ghost use Rattle.station.specs.method.ReadLine.{readIn, hasForm, headForm, eventForm};
 
@@ -23,6 +24,7 @@ pub enum Line {
     Preset(u32, u32, u32, u32),
     Clock(u32),
     Call(u32),
+    Tie(bool),
 }
 
 // A line, and the first eight jobs where it is a call.
@@ -145,6 +147,19 @@ fn call_line(line: &[u8]) -> Read
     }
 }
 
+// `(tie hold)` or `(tie place)`
+fn tie_line(line: &[u8]) -> Read
+    ensures { λ r. ⌜ ((hi : ℕ) → r ≡ readIn hi (tieIn (now (line .entry)))) ⌝ }
+{
+    if closes_at(line, 0, b"(tie hold)\n") {
+        return without_jobs(Line::Tie(true));
+    }
+    if closes_at(line, 0, b"(tie place)\n") {
+        return without_jobs(Line::Tie(false));
+    }
+    without_jobs(Line::NoForm)
+}
+
 // Whether a line has a form.
 fn has_form(line: Line) -> bool
     ensures { λ r. ⌜ r ≡ hasForm line ⌝ }
@@ -156,6 +171,7 @@ fn has_form(line: Line) -> bool
         Line::Preset(_, _, _, _) => true,
         Line::Clock(_) => true,
         Line::Call(_) => true,
+        Line::Tie(_) => true,
     }
 }
 
@@ -176,7 +192,7 @@ fn head_line(line: &[u8], slots: usize) -> Read
     preset_line(line)
 }
 
-// An event's line; `NoForm` where it is none.
+// A line with an event's form; `NoForm` where it is none.
 fn event_line(line: &[u8]) -> Read
     ensures { λ r. ⌜ ((hi : ℕ) → r ≡ readIn hi (eventForm (now (line .entry)))) ⌝ }
 {
@@ -185,10 +201,15 @@ fn event_line(line: &[u8]) -> Read
     if has_form(t) {
         return clock;
     }
-    call_line(line)
+    let call = call_line(line);
+    let c = call.line;
+    if has_form(c) {
+        return call;
+    }
+    tie_line(line)
 }
 
-// What a line says, byte 10 included, in a frame of `slots` slots, 64 at most; `NoForm` where it is none of the five forms or lacks its end.
+// What a line says, byte 10 included, in a frame of `slots` slots, 64 at most; `NoForm` where it is none of the six forms or lacks its end.
 pub(crate) fn read_line(line: &[u8], slots: usize) -> Read
     ensures { λ r. ⌜ r ≡ readIn (min slots mostSlots) (form (now (line .entry))) ⌝ }
 {

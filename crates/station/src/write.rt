@@ -20,7 +20,7 @@ ghost use mathlib.Core.List.{map};
 ghost use Rattle.station.specs.Limits.{mostSlots, mostPresets};
 ghost use Rattle.station.specs.Text.{bytes, join};
 ghost use Rattle.station.specs.Form.{frameLine, presetLine, print};
-ghost use Rattle.station.specs.Writing.{stretches, busyLineOf, busyLines, textOf};
+ghost use Rattle.station.specs.Writing.{stretches, tieLines, busyLineOf, busyLines, textOf};
 ghost use Rattle.station.specs.method.Runs.{busyFrom, freeFrom, bracketsOf, bracketText};
 ghost use Rattle.station.specs.Types.{presetIn, presetsIn, headIn, validRecord};
 ghost use Rattle.station.specs.WriteHead.{WroteHead};
@@ -39,6 +39,16 @@ fn frame_line(out: &mut [u8], at: usize, slots: u8, bridges: u8) -> usize
     let first = word(out, at, b"(frame ");
     let end = two_numbers(out, first, slots as usize, bridges as usize);
     word(out, end, b")\n")
+}
+
+// Writes the tie line of a head that has one, `(tie hold)`; else nothing. Answers the next place.
+fn tie_line(out: &mut [u8], at: usize, hold: bool) -> usize
+    ensures { λ r. ⌜ Wrote (now (out .entry)) at (join (map print (tieLines hold))) (now (out .exit)) r ⌝ }
+{
+    if hold {
+        return word(out, at, b"(tie hold)\n");
+    }
+    at
 }
 
 // The first busy slot of a mask from slot `from` on, counted from 0; 64 where there is none, `from` where it is past 64.
@@ -169,7 +179,8 @@ fn head_text(head: Head, presets: [Preset; MOST_PRESETS], out: &mut [u8]) -> usi
     let bridges = head.bridges as u8;
     let busy = head.busy;
     let count = head.count;
-    let first_busy = frame_line(out, 0, slots, bridges);
+    let tie = frame_line(out, 0, slots, bridges);
+    let first_busy = tie_line(out, tie, head.hold);
     let first_preset = busy_lines(out, first_busy, busy);
     preset_lines(out, first_preset, presets, count)
 }

@@ -1,5 +1,6 @@
 // Both planners on one plan or call; what differs is written.
 use crate::library::library_answer;
+use crate::texts::write_order;
 use second_planner::answer;
 use second_planner::frames::sets_of;
 use second_planner::is_optimal;
@@ -11,10 +12,11 @@ fn write_packed(n: usize) {
     io::print_hex(1, n as u64, 1);
 }
 
-// Writes a line for what differs. A case is told by its frame, with the busy cells, and its presets, by the table before, and by the call, 0 for a plan; last stands what
-// the second planner answers. crates/second_planner/src says what the fields of each are.
-fn report(frame: usize, presets: usize, table: usize, call: usize, right: usize) {
-    io::write_all(1, b"(differs");
+// Writes a line for what differs. A case is told by the order of ties, by its frame, with the busy cells, and its presets, by the table before, and by the call, 0 for a plan;
+// last stands what the second planner answers. crates/second_planner/src says what the fields of each are.
+fn report(frame: usize, presets: usize, table: usize, hold: bool, call: usize, right: usize) {
+    io::write_all(1, b"(differs ");
+    write_order(hold);
     write_packed(frame);
     write_packed(presets);
     write_packed(table);
@@ -24,19 +26,26 @@ fn report(frame: usize, presets: usize, table: usize, call: usize, right: usize)
 }
 
 // Whether the library answers the same, and no valid placement is better.
-fn is_right(frame: usize, presets: usize, table: usize, call: usize, right: usize) -> bool {
-    if library_answer(frame, presets, table, call, right) != right {
+fn is_right(
+    frame: usize,
+    presets: usize,
+    table: usize,
+    hold: bool,
+    call: usize,
+    right: usize,
+) -> bool {
+    if library_answer(frame, presets, table, hold, call, right) != right {
         return false;
     }
     is_optimal(sets_of(frame), presets, table, call, right)
 }
 
-// A call, or the plan, by both planners. Answers what the second one does, with cause 1 where they differ.
-pub fn compare(frame: usize, presets: usize, table: usize, call: usize) -> usize {
-    let right = answer(sets_of(frame), presets, table, call);
-    if is_right(frame, presets, table, call, right) {
+// A call, or the plan, by both planners under an order of ties. Answers what the second one does, with cause 1 where they differ.
+pub fn compare(frame: usize, presets: usize, table: usize, hold: bool, call: usize) -> usize {
+    let right = answer(sets_of(frame), presets, table, hold, call);
+    if is_right(frame, presets, table, hold, call, right) {
         return right;
     }
-    report(frame, presets, table, call, right);
+    report(frame, presets, table, hold, call, right);
     with_field(right, 6, 1)
 }

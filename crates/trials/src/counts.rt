@@ -12,11 +12,11 @@ fn add(counts: &mut [u64; 8], tally: usize) {
     }
 }
 
-// Tries all, and counts.
+// Tries all, each code under `(tie place)` and then under `(tie hold)`, and counts.
 fn try_all(counts: &mut [u64; 8]) {
     let mut code = 0;
-    while code < 133056 {
-        add(counts, try_code(code));
+    while code < 266112 {
+        add(counts, try_code(code / 2, code % 2 == 1));
         code += 1;
     }
 }
@@ -47,7 +47,7 @@ pub fn compare_all() {
     let mut counts = [0u64; 8];
     try_all(&mut counts);
     write_counts(
-        b"lists of calls  cells evicted   calls refused 4 plans refused 5 plans granted   calls refused 7 calls taken     differences     ",
+        b"changed by hold cells evicted   calls refused 4 plans refused 5 plans granted   calls refused 7 calls taken     differences     ",
         counts,
     );
 }

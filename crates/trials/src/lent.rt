@@ -63,10 +63,11 @@ pub fn lent_call(
     presets: [Preset; 32],
     table: &mut [Cell],
     clock: usize,
+    hold: bool,
     jobs: [Job; 8],
     n: usize,
 ) -> CallAnswer {
-    call(head, &presets, table, clock, jobs, n)
+    call(head, &presets, table, clock, hold, jobs, n)
 }
 
 // A clock.
@@ -75,9 +76,10 @@ pub fn lent_set_clock(
     presets: [Preset; 32],
     table: &[Cell],
     clock: usize,
+    hold: bool,
     t: usize,
 ) -> Outcome {
-    set_clock(head, &presets, table, clock, t)
+    set_clock(head, &presets, table, clock, hold, t)
 }
 
 // An event line.
@@ -86,9 +88,10 @@ pub fn lent_event(
     presets: [Preset; 32],
     table: &mut [Cell],
     clock: usize,
+    hold: bool,
     line: &[u8],
 ) -> Outcome {
-    event(head, &presets, table, clock, line)
+    event(head, &presets, table, clock, hold, line)
 }
 
 // A whole text.
@@ -98,10 +101,11 @@ pub fn lent_run_text(
     presets: [Preset; 32],
     table: &mut [Cell],
     clock: usize,
+    hold: bool,
     out: &mut [u8],
 ) -> TextAnswer {
     let mut list = presets;
-    run_text(text, head, &mut list, table, clock, out)
+    run_text(text, head, &mut list, table, clock, hold, out)
 }
 
 // A text of events.
@@ -110,10 +114,11 @@ pub fn lent_run_events(
     presets: [Preset; 32],
     table: &mut [Cell],
     clock: usize,
+    hold: bool,
     text: &[u8],
     out: &mut [u8],
 ) -> EventsAnswer {
-    run_events(head, &presets, table, clock, text, out)
+    run_events(head, &presets, table, clock, hold, text, out)
 }
 
 // The line of a slot.

@@ -51,10 +51,14 @@ fn written(frame: usize, plan: usize) -> usize {
     if field(plan, 6) != 0 { 0 } else { frame }
 }
 
-// The library's plan. All cells are marks before, and stay so where the plan is refused.
-fn plan_answer(frame: usize, presets: usize, expected: usize) -> usize {
+// The library's plan under an order of ties. All cells are marks before, and stay so where the plan is refused.
+fn plan_answer(frame: usize, presets: usize, hold: bool, expected: usize) -> usize {
     let mut table = [MARK; 512];
-    let planned = plan_by_value(head_of(frame, presets), presets_of(presets), &mut table);
+    let planned = plan_by_value(
+        head_of(frame, presets, hold),
+        presets_of(presets),
+        &mut table,
+    );
     answer_with(
         written(frame, expected),
         table,
@@ -63,30 +67,39 @@ fn plan_answer(frame: usize, presets: usize, expected: usize) -> usize {
     )
 }
 
-// What the library makes of a call on a table.
-fn call_answer(frame: usize, presets: usize, table: usize, call: usize, expected: usize) -> usize {
+// What the library makes of a call on a table under an order of ties. The head's order is the other one: a call goes by the order in force.
+fn call_answer(
+    frame: usize,
+    presets: usize,
+    table: usize,
+    hold: bool,
+    call: usize,
+    expected: usize,
+) -> usize {
     let mut cells = table_of(frame, table);
     let answer = call_by_value(
-        head_of(frame, presets),
+        head_of(frame, presets, !hold),
         presets_of(presets),
         &mut cells,
         field(call, 6),
+        hold,
         jobs_of(call),
         field(call, 7),
     );
     answer_with(frame, cells, expected, call_report(answer))
 }
 
-// The library's answer to a call on a table, or its plan for call 0.
+// The library's answer to a call on a table, or its plan for call 0, under an order of ties.
 pub fn library_answer(
     frame: usize,
     presets: usize,
     table: usize,
+    hold: bool,
     call: usize,
     expected: usize,
 ) -> usize {
     if call == 0 {
-        return plan_answer(frame, presets, expected);
+        return plan_answer(frame, presets, hold, expected);
     }
-    call_answer(frame, presets, table, call, expected)
+    call_answer(frame, presets, table, hold, call, expected)
 }

@@ -1,5 +1,6 @@
 // The listing of document 01, its head read into a lent list of preset records and written from it, planned, and its events handed over one by one, then as a text: each entry over a lent
-// list once. Then the whole text. What each answers is written, and the first eight cells of the table, which are the frame's, after each that changes it.
+// list once. Then the whole text. What each answers is written, and the first eight cells of the table, which are the frame's, after each that changes it. The order of ties is
+// everywhere the earlier line's; ties.rt has the other.
 use crate::lent::lent_call;
 use crate::lent::lent_event;
 use crate::lent::lent_plan;
@@ -11,6 +12,7 @@ use crate::lent::lent_set_clock;
 use crate::lent::lent_write_head;
 use crate::lent::lent_write_slot;
 use crate::texts::line;
+use crate::texts::order_line;
 use crate::texts::write_first;
 use frame::text::Ended;
 use frame::types::Answer;
@@ -46,8 +48,8 @@ fn wide(cell: Cell) -> u64 {
     cell as u64
 }
 
-// Writes the cells of four slots of two bridges.
-fn show_cells(table: &[Cell; 512]) {
+// Writes the first eight cells.
+pub fn show_cells(table: &[Cell; 512]) {
     line(b"cells", wide(table[0]), wide(table[1]));
     line(b"cells", wide(table[2]), wide(table[3]));
     line(b"cells", wide(table[4]), wide(table[5]));
@@ -71,7 +73,7 @@ pub fn show_written(written: Writing, out: &[u8]) {
 }
 
 // Writes the grants of the two presets.
-fn show_planned(planned: Planned) {
+pub fn show_planned(planned: Planned) {
     let answer = planned.answer;
     let grants = planned.grants;
     match answer {
@@ -80,26 +82,27 @@ fn show_planned(planned: Planned) {
     }
 }
 
-fn show_called(answer: CallAnswer) {
+pub fn show_called(answer: CallAnswer) {
     match answer {
         CallAnswer::Taken(n) => line(b"taken", n as u64, 0),
         CallAnswer::Refused(n, cause) => line(b"refused", n as u64, cause_number(cause) as u64),
     }
 }
 
-// Writes what an event comes to, and the clock where it is accepted.
-fn show_outcome(outcome: Outcome) {
+// Writes what an event comes to, and where a clock or a call is accepted the clock.
+pub fn show_outcome(outcome: Outcome) {
     let answer = outcome.answer;
     let clock = outcome.clock;
     match answer {
         Answer::Now(t) => line(b"now", t as u64, clock as u64),
+        Answer::Tie(hold) => order_line(b"tie", hold),
         Answer::Taken(n) => line(b"taken", n as u64, clock as u64),
         Answer::Refused(n, cause) => line(b"refused", n as u64, cause_number(cause) as u64),
     }
 }
 
 // Writes the listing of a text that ran, or its answers.
-fn show_run(ended: Ended, out: &[u8]) {
+pub fn show_run(ended: Ended, out: &[u8]) {
     match ended {
         Ended::Ran(n) => write_first(out, n),
         Ended::Refused(n, cause) => line(b"refused", n as u64, cause_number(cause) as u64),
@@ -107,7 +110,7 @@ fn show_run(ended: Ended, out: &[u8]) {
 }
 
 // The head of a text read into the list and written from it.
-fn try_head(text: &[u8]) {
+pub fn try_head(text: &[u8]) {
     let mut out = [0u8; 8192];
     let read = lent_read_head(text, NO_HEAD, NO_PRESETS);
     show_read(read);
@@ -122,12 +125,12 @@ fn try_events(head: Head, records: [Preset; 32]) {
     let mut table = [0u16; 512];
     show_planned(lent_plan(head, records, &mut table));
     show_cells(&table);
-    show_outcome(lent_set_clock(head, records, &table, 1, 2));
-    show_called(lent_call(head, records, &mut table, 2, jobs(), 1));
+    show_outcome(lent_set_clock(head, records, &table, 1, false, 2));
+    show_called(lent_call(head, records, &mut table, 2, false, jobs(), 1));
     show_cells(&table);
-    show_outcome(lent_event(head, records, &mut table, 2, b"(call (10 1))\n"));
+    show_outcome(lent_event(head, records, &mut table, 2, false, b"(call (10 1))\n"));
     show_cells(&table);
-    show_outcome(lent_event(head, records, &mut table, 2, b"(call (11 1))\n"));
+    show_outcome(lent_event(head, records, &mut table, 2, false, b"(call (11 1))\n"));
 }
 
 // Its plan again, then its events as a text without a head, and the line of its third slot.
@@ -136,7 +139,7 @@ fn try_lines(head: Head, records: [Preset; 32]) {
     let mut out = [0u8; 8192];
     show_planned(lent_plan(head, records, &mut table));
     let lines = b"(clock 2)\n(call (9 2))\n(call (10 1))\n(call (11 1))\n";
-    let run = lent_run_events(head, records, &mut table, 1, lines, &mut out);
+    let run = lent_run_events(head, records, &mut table, 1, false, lines, &mut out);
     let ended = run.ended;
     show_run(ended, &out);
     show_cells(&table);
@@ -148,7 +151,7 @@ fn try_lines(head: Head, records: [Preset; 32]) {
 fn try_text(text: &[u8]) {
     let mut table = [0u16; 512];
     let mut out = [0u8; 8192];
-    let run = lent_run_text(text, NO_HEAD, NO_PRESETS, &mut table, 1, &mut out);
+    let run = lent_run_text(text, NO_HEAD, NO_PRESETS, &mut table, 1, false, &mut out);
     let ended = run.ended;
     show_run(ended, &out);
 }

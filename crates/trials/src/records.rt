@@ -35,8 +35,8 @@ fn busy_on(frame: usize, bridge: usize) -> u64 {
     mask_of(frame >> 56 + bridge % 4, bridges)
 }
 
-// The head's record.
-pub fn head_of(frame: usize, presets: usize) -> Head {
+// The head's record, with its order of ties.
+pub fn head_of(frame: usize, presets: usize, hold: bool) -> Head {
     let busy = [
         busy_on(frame, 0),
         busy_on(frame, 1),
@@ -50,6 +50,7 @@ pub fn head_of(frame: usize, presets: usize) -> Head {
     let mut head = NO_HEAD;
     head.slots = field(frame, 6) % 16;
     head.bridges = field(frame, 6) / 16;
+    head.hold = hold;
     head.busy = busy;
     head.count = presets >> 24;
     head

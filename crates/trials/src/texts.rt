@@ -29,6 +29,24 @@ pub fn line(word: &[u8], a: u64, b: u64) {
     io::write_all(1, b")\n");
 }
 
+// Writes the name of an order of ties.
+pub fn write_order(hold: bool) {
+    if hold {
+        io::write_all(1, b"hold");
+    } else {
+        io::write_all(1, b"place");
+    }
+}
+
+// Writes `(word hold)` or `(word place)` and the end of the line.
+pub fn order_line(word: &[u8], hold: bool) {
+    io::write_all(1, b"(");
+    io::write_all(1, word);
+    io::write_all(1, b" ");
+    write_order(hold);
+    io::write_all(1, b")\n");
+}
+
 // Writes the first n bytes of a text to standard output.
 pub fn write_first(text: &[u8], n: usize) {
     if n <= text.len() {

@@ -41,6 +41,7 @@ fn main() {
     event(&mut frame, "(clock 2)");
     event(&mut frame, "(call (9 2))");
     event(&mut frame, "(call (9 1))");
+    event(&mut frame, "(tie hold)");
     print(&frame);
 
     let bytes = frame.stored();
@@ -49,6 +50,7 @@ fn main() {
     other[0] += 1;
     println!("restored from another version: {}", Frame::restored(&other).is_some());
     let mut frame = Frame::restored(&bytes).expect("this version");
+    println!("restored, its order of ties: {}", if frame.holds() { "hold" } else { "place" });
 
     event(&mut frame, "(call (10 1))");
     event(&mut frame, "(call (11 1))");

@@ -1,7 +1,7 @@
 //! The planner over slices: include/planner.h in Rust. Everything unsafe is here.
 
 /// The version of the layout: stored beside a frame, so that no frame of another one is restored.
-pub const VERSION: u8 = 2;
+pub const VERSION: u8 = 3;
 
 const FRAME_NUMBERS: usize = 16;
 const PRESETS_BYTES: usize = 128;
@@ -17,6 +17,7 @@ mod place {
     pub const SLOTS: usize = 0;
     pub const BRIDGES: usize = 1;
     pub const PRESETS: usize = 2;
+    pub const TIE_NOW: usize = 14;
 }
 
 /// Bytes of a preset record; its number is the first.
@@ -93,7 +94,7 @@ pub struct Refusal {
     pub cause: u32,
 }
 
-/// A running frame: the head with the clock, the presets, the table.
+/// A running frame: the head with the clock and the order of ties in force, the presets, the table.
 #[derive(Clone, Debug, PartialEq, Eq)]
 pub struct Frame {
     numbers: [u64; FRAME_NUMBERS],
@@ -150,7 +151,8 @@ impl Frame {
         Ok(numbers.zip(grants).take(self.numbers[place::PRESETS] as usize).collect())
     }
 
-    /// One event line, its end included: the new clock, or how many refinement cells were lost. A refusal changes nothing.
+    /// One event line, its end included: the new clock, how many refinement cells were lost, or of a tie 1 for hold and 0 for place.
+    /// A refusal changes nothing.
     pub fn event(&mut self, line: &str) -> Result<u64, Refusal> {
         let mut number = 0;
         let cause = unsafe {
@@ -171,6 +173,11 @@ impl Frame {
         } else {
             Err(Refusal { line: 0, cause })
         }
+    }
+
+    /// Whether the order of ties in force is hold.
+    pub fn holds(&self) -> bool {
+        self.numbers[place::TIE_NOW] != 0
     }
 
     /// The cells of each slot, bridge by bridge.

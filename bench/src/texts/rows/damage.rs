@@ -4,7 +4,7 @@
 use crate::texts::limits::any_station;
 use crate::texts::rng::Rng;
 use crate::texts::station::SMALL;
-use crate::texts::{damage, drawn, limits, numbers, places, KINDS};
+use crate::texts::{damage, drawn, limits, numbers, places, ties, KINDS};
 
 use super::{with_rows, Sheet};
 
@@ -173,6 +173,9 @@ pub fn head_at_fault(rng: &mut Rng) -> Vec<u8> {
         numbers::huge_number,
         numbers::bad_number,
         damage::lacking_form,
+        ties::in_its_place,
+        ties::anywhere,
+        ties::damaged,
     ];
     let text = rng.pick(MAKERS)(rng);
     before_rows(rng, text)
@@ -191,7 +194,8 @@ fn before_rows(rng: &mut Rng, text: Vec<u8>) -> Vec<u8> {
 /// After the head an event, and lines that nobody looks at; with rows or without an empty line.
 pub fn events_damaged(rng: &mut Rng) -> Vec<u8> {
     let mut sheet = Sheet::any(rng);
-    sheet.station.events.insert(0, (*rng.pick(&["(clock 1)", "(call (9 1))", "(clock 0)", "(call (0 99))"])).into());
+    const EVENTS: &[&str] = &["(clock 1)", "(call (9 1))", "(clock 0)", "(call (0 99))", "(tie hold)", "(tie place)"];
+    sheet.station.events.insert(0, (*rng.pick(EVENTS)).into());
     for _ in 0..rng.within(1..=4) {
         let line =
             *rng.pick(&["(busy 1 (1 1))", "(frame 4 2)", "1,1,1\r", "\r", " ", "x", "(clock 1", "(preset 0 0 0 0)"]);
@@ -243,6 +247,12 @@ pub fn next_to_nothing(rng: &mut Rng) -> Vec<u8> {
         "(clock 1)\n\n1,1,1\r\n",
         "(frame 1 1)\n(clock 1)\n\n1,1,1\r\n",
         "(frame 1 1)\n(clock 1)",
+        "(frame 1 1)\n(tie hold)\n",
+        "(frame 1 1)\n(tie hold)\n\n1,1,1\r\n",
+        "(frame 1 1)\n(tie hold)\n(tie place)\n\n1,1,1\r\n",
+        "(frame 1 1)\n(tie place)\n\n1,1,1\r\n",
+        "(frame 1 1)\n(busy 1 (1 1))\n(tie hold)\n\n",
+        "(tie hold)\n\n1,1,1\r\n",
     ];
     rng.pick(INPUTS).as_bytes().to_vec()
 }

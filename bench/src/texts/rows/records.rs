@@ -7,7 +7,7 @@ use crate::texts::rng::Rng;
 /// The records of a head: three in four as they should be, the others too short or such that no text yields them.
 pub fn lent(rng: &mut Rng, head: &Head) -> Lent {
     let mut lent = Lent::new(head);
-    // The clock, the reserved numbers and the records past the last preset.
+    // The clock, both orders of ties, the reserved numbers and the records past the last preset.
     [3, 12, 13, 14, 15].into_iter().for_each(|place| lent.frame[place] = number(rng));
     lent.presets[4 * head.presets.len()..].fill_with(|| rng.word() as u8);
     if rng.chance(20) {

@@ -1,14 +1,14 @@
 -- The entries on the running frame, law by law.
 --
 -- In order: what is asked for on a frame that meets no cause (`asked-stopped`, `asked-carried`); a clock, a law for each answer, and the counts that it leaves (`clock-counts`); an event line as it was read,
--- a law for what each asks (`line-clock`, `line-place`, `line-fault`), and that it is what the line asks for (`asked-read`); the causes of the frame
+-- a law for what each asks (`line-clock`, `line-place`, `line-tie`, `line-fault`), and that it is what the line asks for (`asked-read`); the causes of the frame
 -- (`frame-passes`); where none is met, a line and a clock come to what the event does (`line-event`, `line-done`, `clock-done`); a law for
 -- each answer of an entry; the frame afterwards (`done-running`).
 -- Assumes nothing.
 use Prim.Native.Nat.{ℕ, zero, suc, _+_, _≤_, _<_}
 use native.Mathlib.Omega.{arith}
 use mathlib.Core.Path.{_≡_, refl, sym, _∙_, ap}
-use mathlib.Core.Bool.{true, false, not}
+use mathlib.Core.Bool.{Bool, true, false, not}
 use mathlib.Core.Option.{Option, none, some}
 use mathlib.Core.List.{List, [], _∷_, _++_}
 use lib.ListN.{length}
@@ -17,7 +17,7 @@ use Rattle.laws.proofs.Tests.{Is, is, is-true, is-false, clash, both, left-of, 
 use Rattle.laws.proofs.Comparisons.{gt-of, le-of, ge-of, ltb-yes, ltb-no}
 use Rattle.station.specs.Head.{Head, Job, within}
 use Rattle.station.specs.Refusal.{Refusal, outOfLimits, clockBack, firstOf}
-use Rattle.station.specs.Form.{Form, frameLine, busyLine, presetLine, clockLine, callLine, jobsOf, form}
+use Rattle.station.specs.Form.{Form, frameLine, busyLine, presetLine, clockLine, callLine, tieLine, jobsOf, form}
 use Rattle.station.specs.Jobs.{padded, seen}
 use Rattle.station.specs.Event.{jobInLimits, jobsInLimits, callInLimits, eventIn}
 use Rattle.station.specs.Types.{headIn, validRecord, refusalIn}
@@ -26,7 +26,7 @@ use Rattle.station.specs.declared.types.Head as record-of-head
 use Rattle.station.specs.declared.types.Refusal as refusal
 use Rattle.station.specs.declared.types.Refusal.the-variants.{OutOfLimits, ClockBack}
 use Rattle.station.specs.declared.events.Event as read
-use Rattle.station.specs.declared.events.Event.the-variants.{SetClock, PlaceJobs, Fault}
+use Rattle.station.specs.declared.events.Event.the-variants.{SetClock, PlaceJobs, SetTie, Fault}
 use Rattle.station.specs.declared.events.EventRead.{EventRead}
 use Rattle.station.proofs.Theorems.{passed, first-of-none, first-none, append-none, append-some, append-left-none}
 use Rattle.station.proofs.Theorems.{within-high, of-within}
@@ -34,7 +34,7 @@ use Rattle.placing.specs.declared.check.Cause as cause
 use Rattle.placing.specs.declared.check.Cause.the-variants.{Met, Passed}
 use Rattle.placing.specs.declared.call.CallAnswer as reply
 use Rattle.placing.specs.Table.{cell}
-use Rattle.placing.specs.State.{State, stateOf}
+use Rattle.placing.specs.State.{State, stateOf, withTable}
 use Rattle.placing.specs.Valid.{clockIn, jobAt}
 use Rattle.placing.specs.method.Limits.{sizesInLimits}
 use Rattle.placing.specs.Types.{jobsIn}
@@ -46,15 +46,15 @@ use Rattle.placing.specs.Claims.{Running}
 use Rattle.placing.proofs.Theorems.{met, jobs-inside, record-valid, eleven, frame-known, same-frame, in-limits}
 use Rattle.placing.specs.method.Counts.{CountsOf, CapacitiesAt}
 use Rattle.placing.proofs.Theorems.{clock-late, call-jobs, counts-passed}
-use Rattle.frame.specs.declared.types.Answer.the-variants.{Now, Refused}
+use Rattle.frame.specs.declared.types.Answer.the-variants.{Now, Tie, Refused}
 use Rattle.frame.specs.declared.types.Outcome as result
-use Rattle.frame.specs.Event.{Event, line, clock, call, Asked, setClock, placeJobs, fault, askedByForm, asked, clockNow, refused, Outcome}
+use Rattle.frame.specs.Event.{Event, line, clock, call, Asked, setClock, setTie, placeJobs, fault, askedByForm, asked, clockNow, refused, Outcome}
 use Rattle.frame.specs.Event.{ownCauses, carriedOut, comesTo, eventOf}
 use Rattle.frame.specs.Types.{answerIn}
 use Rattle.frame.specs.Event.{answerOf}
 use Rattle.frame.specs.EventDone.{eventMeant, Yields, EventDone}
 use Rattle.frame.specs.method.EventParts.{clockCauses, clockAnswer, clockAfter, ClockDone, askedIn, lineOutcome, lineMeant}
-use Rattle.frame.proofs.OneEvent.{outcomeOf, event-call, call-clock, event-running}
+use Rattle.frame.proofs.OneEvent.{outcomeOf, event-call, call-leaves, event-running}
 
 -- ---- what is asked for on a frame that meets no cause
 
@@ -73,14 +73,15 @@ module _ (h : Head) (st : State) (a : Asked) (free : firstOf (frameCauses h st) 
   unfolding comesTo
   asked-carried e = let n = own ∙ e in rw (n, comesTo) refl
 
--- a refusal leaves the table and the clock
+-- a refusal leaves the table, the clock and the order of ties
 refused-yields : {o : Outcome} (st : State) (q : refusal.Refusal) → o ≡ stoppedBy (refusalIn q) st
-    → Yields o (st .table) (record { answer = Refused 0 q; clock = st .clock })
+    → Yields o (st .table) (record { answer = Refused 0 q; clock = st .clock; hold = st .hold })
 refused-yields st q e =
     record {
       answer = sym (ap (λ (o : Outcome). o .answer) e);
       table = sym (ap (λ (o : Outcome). o .after .table) e);
       clock = sym (ap (λ (o : Outcome). o .after .clock) e);
+      hold = sym (ap (λ (o : Outcome). o .after .hold) e);
     }
 
 -- what one outcome yields, an equal one does
@@ -90,6 +91,7 @@ yields-same e y =
       answer = y .answer ∙ sym (ap (λ (o : Outcome). o .answer) e);
       table = y .table ∙ sym (ap (λ (o : Outcome). o .after .table) e);
       clock = y .clock ∙ sym (ap (λ (o : Outcome). o .after .clock) e);
+      hold = y .hold ∙ sym (ap (λ (o : Outcome). o .after .hold) e);
     }
 
 -- ---- a clock
@@ -125,18 +127,18 @@ module _ (slots c t : ℕ) where
   unfolding clockAnswer clockAfter
   clock-moved e = (rw (e, clockAnswer) refl, rw (e, clockAfter) refl)
 
-  clock-refused : (q : refusal.Refusal) → firstOf (clockCauses slots c t) ≡ some (refusalIn q) → ClockDone slots c t (record { answer = Refused 0 q; clock = c })
-  clock-refused q e = let z = clock-stopped (refusalIn q) e in record { answer = sym (z .0); clock = sym (z .1) }
+  clock-refused : (hold : Bool) (q : refusal.Refusal) → firstOf (clockCauses slots c t) ≡ some (refusalIn q) → ClockDone slots c hold t (record { answer = Refused 0 q; clock = c; hold = hold })
+  clock-refused hold q e = let z = clock-stopped (refusalIn q) e in record { answer = sym (z .0); clock = sym (z .1); hold = refl }
 
-  pub clock-out : clockIn slots t ≡ false → ClockDone slots c t (record { answer = Refused 0 OutOfLimits; clock = c })
-  clock-out e = clock-refused OutOfLimits (clock-outside e)
+  pub clock-out : (hold : Bool) → clockIn slots t ≡ false → ClockDone slots c hold t (record { answer = Refused 0 OutOfLimits; clock = c; hold = hold })
+  clock-out hold e = clock-refused hold OutOfLimits (clock-outside e)
 
-  module _ (inside : clockIn slots t ≡ true) where
-    pub clock-below : t < c → ClockDone slots c t (record { answer = Refused 0 ClockBack; clock = c })
-    clock-below l = clock-refused ClockBack (clock-before inside l)
+  module _ (hold : Bool) (inside : clockIn slots t ≡ true) where
+    pub clock-below : t < c → ClockDone slots c hold t (record { answer = Refused 0 ClockBack; clock = c; hold = hold })
+    clock-below l = clock-refused hold ClockBack (clock-before inside l)
 
-    pub clock-set : c ≤ t → ClockDone slots c t (record { answer = Now t; clock = t })
-    clock-set l = let z = clock-moved (clock-after inside l) in record { answer = sym (z .0); clock = sym (z .1) }
+    pub clock-set : c ≤ t → ClockDone slots c hold t (record { answer = Now t; clock = t; hold = hold })
+    clock-set l = let z = clock-moved (clock-after inside l) in record { answer = sym (z .0); clock = sym (z .1); hold = refl }
 
 -- the clock that is left is one of the frame's, as the present one is, and not below it
 clock-within : (slots c t : ℕ) → clockIn slots c ≡ true → (clockIn slots (clockAfter slots c t) ≡ true) × (c ≤ clockAfter slots c t)
@@ -152,7 +154,7 @@ clock-within slots c t was = go (firstOf (clockCauses slots c t)) refl
 
 -- so the counts are those of the clock that is left, where its slots are taken off the capacities
 pub clock-counts : (head : record-of-head.Head) (ps : List record-of-preset.Preset) (n : ℕ) (st : State) {r : result.Outcome} {marks xs ys : List ℕ} {admitted : ℕ}
-    → ClockDone (head .slots) (st .clock) n r → validRecord head ps ≡ true → Running (headIn head ps) st → CountsOf (headIn head ps) (st .clock) (cell (headIn head ps) (st .table)) marks admitted xs
+    → ClockDone (head .slots) (st .clock) (st .hold) n r → validRecord head ps ≡ true → Running (headIn head ps) st → CountsOf (headIn head ps) (st .clock) (cell (headIn head ps) (st .table)) marks admitted xs
     → (sizesInLimits (head .slots) (head .bridges) 0 (length (st .table)) ≡ true → clockIn (head .slots) (st .clock) ≡ true → clockIn (head .slots) (r .clock) ≡ true → st .clock ≤ r .clock
     → CapacitiesAt (st .table) (head .slots) (head .bridges) (st .clock) xs → CapacitiesAt (st .table) (head .slots) (head .bridges) (r .clock) ys)
     → CountsOf (headIn head ps) (r .clock) (cell (headIn head ps) (st .table)) marks admitted ys
@@ -175,41 +177,48 @@ module _ (head : record-of-head.Head) (ps : List record-of-preset.Preset) (st : 
       ∙ ap (λ (w : read.Event). lineOutcome head ps st (askedIn w (x .jobs))) m)
       y
 
-  clock-yields : {n : ℕ} {r : result.Outcome} → ClockDone (head .slots) (st .clock) n r → Yields (lineOutcome head ps st (setClock n)) (st .table) r
+  clock-yields : {n : ℕ} {r : result.Outcome} → ClockDone (head .slots) (st .clock) (st .hold) n r → Yields (lineOutcome head ps st (setClock n)) (st .table) r
   unfolding lineOutcome
   clock-yields {n} {r} d = go (firstOf (clockCauses (head .slots) (st .clock) n)) refl
     where
       go : (o : Option Refusal) → firstOf (clockCauses (head .slots) (st .clock) n) ≡ o → Yields (lineOutcome head ps st (setClock n)) (st .table) r
       go none e =
           let z = clock-moved (head .slots) (st .clock) n e in
-          rw (e, lineOutcome) (record { answer = d .answer ∙ z .0; table = refl; clock = d .clock ∙ z .1 })
+          rw (e, lineOutcome) (record { answer = d .answer ∙ z .0; table = refl; clock = d .clock ∙ z .1; hold = d .hold })
       go (some q) e =
           let z = clock-stopped (head .slots) (st .clock) n q e in
-          rw (e, lineOutcome) (record { answer = d .answer ∙ z .0; table = refl; clock = d .clock ∙ z .1 })
+          rw (e, lineOutcome) (record { answer = d .answer ∙ z .0; table = refl; clock = d .clock ∙ z .1; hold = d .hold })
 
   pub line-clock : (l : List ℕ) {x : EventRead} {n : ℕ} {r : result.Outcome} → x ≡ eventIn (form l) → x .event ≡ SetClock n
-      → ClockDone (head .slots) (st .clock) n r → Yields (lineMeant head ps st l) (st .table) r
+      → ClockDone (head .slots) (st .clock) (st .hold) n r → Yields (lineMeant head ps st l) (st .table) r
   line-clock l e m d = line-yields l e m (clock-yields d)
 
-  -- a call leaves the clock
-  meant-clock : (jobs : List Job) → callMeant head ps jobs st .after .clock ≡ st .clock
+  -- a call leaves all but the table
+  meant-leaves : (jobs : List Job) → callMeant head ps jobs st .after ≡ withTable (callMeant head ps jobs st .after .table) st
   unfolding callMeant
-  meant-clock jobs = go (firstOf (causesOf head ps (st .table))) refl
+  meant-leaves jobs = go (firstOf (causesOf head ps (st .table))) refl
     where
-      go : (o : Option Refusal) → firstOf (causesOf head ps (st .table)) ≡ o → callMeant head ps jobs st .after .clock ≡ st .clock
-      go none q = rw (q, callMeant) (call-clock (headIn head ps) jobs st)
+      go : (o : Option Refusal) → firstOf (causesOf head ps (st .table)) ≡ o → callMeant head ps jobs st .after ≡ withTable (callMeant head ps jobs st .after .table) st
+      go none q = rw (q, callMeant) (call-leaves (headIn head ps) jobs st)
       go (some p) q = rw (q, callMeant) refl
 
   -- a call of the layer below, as an event
   pub line-place : (l : List ℕ) {x : EventRead} {n : ℕ} {u : List ℕ} {a : reply.CallAnswer} {r : result.Outcome} → x ≡ eventIn (form l) → x .event ≡ PlaceJobs n
-      → CallDone head ps (callJobs n (x .jobs)) st u a → answerIn (r .answer) ≡ answerOf (callAnswerIn a) → r .clock ≡ st .clock
+      → CallDone head ps (callJobs n (x .jobs)) st u a → answerIn (r .answer) ≡ answerOf (callAnswerIn a) → r .clock ≡ st .clock → r .hold ≡ st .hold
       → Yields (lineMeant head ps st l) u r
   unfolding lineOutcome
-  line-place l {x} {n} e m d s k =
-      line-yields l e m (record { answer = s ∙ ap answerOf (d .answer); table = d .table; clock = k ∙ sym (meant-clock (callJobs n (x .jobs))) })
+  line-place l {x} {n} e m d s k o =
+      let left = sym (meant-leaves (callJobs n (x .jobs))) in
+      line-yields l e m
+      (record { answer = s ∙ ap answerOf (d .answer); table = d .table; clock = k ∙ ap (λ (z : State). z .clock) left; hold = o ∙ ap (λ (z : State). z .hold) left })
+
+  pub line-tie : (l : List ℕ) {x : EventRead} {hold : Bool} → x ≡ eventIn (form l) → x .event ≡ SetTie hold
+      → Yields (lineMeant head ps st l) (st .table) (record { answer = Tie hold; clock = st .clock; hold = hold })
+  unfolding lineOutcome
+  line-tie l e m = line-yields l e m (record { answer = refl; table = refl; clock = refl; hold = refl })
 
   pub line-fault : (l : List ℕ) {x : EventRead} {q : refusal.Refusal} → x ≡ eventIn (form l) → x .event ≡ Fault q
-      → Yields (lineMeant head ps st l) (st .table) (record { answer = Refused 0 q; clock = st .clock })
+      → Yields (lineMeant head ps st l) (st .table) (record { answer = Refused 0 q; clock = st .clock; hold = st .hold })
   unfolding lineOutcome
   line-fault l {x} {q} e m = line-yields l e m (refused-yields st q refl)
 
@@ -291,6 +300,7 @@ module _ (h : Head) (st : State) (free : firstOf (frameCauses h st) ≡ none) wh
   asked-read (some (busyLine b p)) small = refl
   asked-read (some (presetLine p)) small = refl
   asked-read (some (clockLine t)) small = clock-seen t small
+  asked-read (some (tieLine hold)) small = refl
   asked-read (some (callLine p)) small = go (is (callInLimits (jobsOf p)))
     where
       go : Is (callInLimits (jobsOf p)) → comesTo h st (placeJobs (jobsOf p)) ≡ comesTo h st (askedIn (eventIn (some (callLine p)) .event) (eventIn (some (callLine p)) .jobs))
@@ -324,6 +334,11 @@ module _ (head : record-of-head.Head) (ps : List record-of-preset.Preset) (st : 
   slots-small : h .slots ≤ 64
   slots-small = record-valid head ps (frame-known head ps st none-met .1) .slots-high
 
+  -- a tie meets no cause of its own
+  tie-own : (hold : Bool) → firstOf (ownCauses h st (setTie hold)) ≡ none
+  unfolding ownCauses
+  tie-own hold = first-of-none
+
   -- what is asked for comes to the same where the causes of the frame are tried before it
   outcome-asked : (a : Asked) → lineOutcome head ps st a ≡ comesTo h st a
   unfolding lineOutcome carriedOut callMeant
@@ -335,6 +350,7 @@ module _ (head : record-of-head.Head) (ps : List record-of-preset.Preset) (st : 
           rw (e, lineOutcome) (sym (asked-carried h st (setClock n) free (ap firstOf (own-clock h st n) ∙ e)))
       go (some r) e =
           rw (e, lineOutcome) (sym (asked-stopped h st (setClock n) free r (ap firstOf (own-clock h st n) ∙ e)))
+  outcome-asked (setTie hold) = sym (asked-carried h st (setTie hold) free (tie-own hold))
   outcome-asked (placeJobs jobs) =
       let same : callMeant head ps jobs st ≡ callOf h jobs st =
       (let z = record-passes head ps st none-met in rw (z, callMeant) refl) in
@@ -350,7 +366,7 @@ module _ (head : record-of-head.Head) (ps : List record-of-preset.Preset) (st : 
   line-done l y = yields-same (sym (line-event l)) y
 
   -- and so does a clock that is handed over
-  pub clock-done : (n : ℕ) {r : result.Outcome} → ClockDone (head .slots) (st .clock) n r → Yields (eventOf h st (clock n)) (st .table) r
+  pub clock-done : (n : ℕ) {r : result.Outcome} → ClockDone (head .slots) (st .clock) (st .hold) n r → Yields (eventOf h st (clock n)) (st .table) r
   clock-done n d = yields-same (sym (outcome-asked (setClock n))) (clock-yields head ps st d)
 
 -- ---- a law for each answer of an entry
@@ -381,7 +397,7 @@ module _ (head : record-of-head.Head) (ps : List record-of-preset.Preset) (st : 
           meant-stopped r (q ∙ w)
 
   pub frame-refused : {w : cause.Cause} (q : refusal.Refusal) → causeIn w ≡ firstOf (frameCausesOf head ps st) → w ≡ Met q
-      → EventDone head ps st e (st .table) (record { answer = Refused 0 q; clock = st .clock })
+      → EventDone head ps st e (st .table) (record { answer = Refused 0 q; clock = st .clock; hold = st .hold })
   frame-refused q f m = refused-yields st q (frame-stops (refusalIn q) (sym f ∙ ap causeIn m))
 
   -- none is
@@ -392,13 +408,13 @@ module _ (head : record-of-head.Head) (ps : List record-of-preset.Preset) (st : 
   -- ---- the frame afterwards
 
   yields-running : {o : Outcome} {u : List ℕ} {r : result.Outcome} → Yields o u r → Running (headIn head ps) (o .after)
-      → Running (headIn head ps) (stateOf u (r .clock))
-  yields-running y run = rw (y .table, y .clock) run
+      → Running (headIn head ps) (stateOf u (r .clock) (r .hold))
+  yields-running y run = rw (y .table, y .clock, y .hold) run
 
   -- "any sound table and clock that 11 lets pass" is one afterwards
-  pub done-running : {u : List ℕ} {r : result.Outcome} → EventDone head ps st e u r → Running (headIn head ps) st → Running (headIn head ps) (stateOf u (r .clock))
+  pub done-running : {u : List ℕ} {r : result.Outcome} → EventDone head ps st e u r → Running (headIn head ps) st → Running (headIn head ps) (stateOf u (r .clock) (r .hold))
   done-running {u} {r} y run = go (firstOf (causesOf head ps (st .table))) refl
     where
-      go : (o : Option Refusal) → firstOf (causesOf head ps (st .table)) ≡ o → Running (headIn head ps) (stateOf u (r .clock))
+      go : (o : Option Refusal) → firstOf (causesOf head ps (st .table)) ≡ o → Running (headIn head ps) (stateOf u (r .clock) (r .hold))
       go none q = yields-running (yields-same (sym (meant-event q)) y) (event-running (headIn head ps) st e run)
       go (some p) q = yields-running (yields-same (sym (meant-stopped p q)) y) run

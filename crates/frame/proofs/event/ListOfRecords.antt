@@ -43,10 +43,10 @@ module _ (n : ℕ) (head : record-of-head.Head) (ps : List record-of-preset.Pres
   listed-enough l = rw (ltb-no n 32 l, eventOnSlice) refl
 
 module _ (n : ℕ) (head : record-of-head.Head) (ps : List record-of-preset.Preset) (st : State) (e : Event) where
-  pub event-few : n < 32 → EventOnSlice n head ps st e (st .table) (record { answer = Refused 0 TooShort; clock = st .clock })
+  pub event-few : n < 32 → EventOnSlice n head ps st e (st .table) (record { answer = Refused 0 TooShort; clock = st .clock; hold = st .hold })
   event-few l =
-      subst (λ (o : Outcome). Yields o (st .table) (record { answer = Refused 0 TooShort; clock = st .clock })) (sym (listed-few n head ps st e l))
-      (record { answer = refl; table = refl; clock = refl })
+      subst (λ (o : Outcome). Yields o (st .table) (record { answer = Refused 0 TooShort; clock = st .clock; hold = st .hold })) (sym (listed-few n head ps st e l))
+      (record { answer = refl; table = refl; clock = refl; hold = refl })
 
   pub event-enough : {u : List ℕ} {r : result.Outcome} → 32 ≤ n → EventDone head ps st e u r → EventOnSlice n head ps st e u r
   event-enough {u} {r} l d = subst (λ (o : Outcome). Yields o u r) (sym (listed-enough n head ps st e l)) d
@@ -102,14 +102,14 @@ module _ (head : record-of-head.Head) (ps : List record-of-preset.Preset) (st : 
     event-list d = subst (λ (o : Outcome). Yields o u r) listed-list d
 
     -- a frame that 11 lets pass is one afterwards
-    event-running : EventOnSlice (length ps) head ps st e u r → Running (headIn head ps) st → Running (headIn head ps) (stateOf u (r .clock))
+    event-running : EventOnSlice (length ps) head ps st e u r → Running (headIn head ps) st → Running (headIn head ps) (stateOf u (r .clock) (r .hold))
     event-running d run = go (is (ltb (length ps) 32))
       where
-        go : Is (ltb (length ps) 32) → Running (headIn head ps) (stateOf u (r .clock))
+        go : Is (ltb (length ps) 32) → Running (headIn head ps) (stateOf u (r .clock) (r .hold))
         go (is-true l) =
             let y : Yields (record { answer = refused 0 tooShort; after = st }) u r =
             subst (λ (o : Outcome). Yields o u r) (listed-few (length ps) head ps st e (lt-of (length ps) 32 l)) d in
-            rw (y .clock, y .table) run
+            rw (y .clock, y .table, y .hold) run
         go (is-false l) =
             done-running head ps st e (subst (λ (o : Outcome). Yields o u r) (listed-enough (length ps) head ps st e (ge-of (length ps) 32 l)) d) run
 

@@ -3,7 +3,7 @@
 -- In order: a refusal, a law for each cause (`events-long`, `events-few`, `events-short`, `events-stopped`), and no cause: what the loop over the lines starts from (`events-start`) and
 -- leaves (`events-ran`); the frame afterwards and the claim (`events-claim`); a list of 32 records or more (`events-enough`), and the first 32 by value are those of the list (`events-entry`).
 -- Assumes nothing.
-use Prim.Native.Nat.{ℕ, suc, _≤_, _<_}
+use Prim.Native.Nat.{ℕ, _≤_, _<_}
 use native.Mathlib.Omega.{arith}
 use mathlib.Core.Path.{_≡_, refl, sym, _∙_, ap, subst}
 use mathlib.Core.Bool.{Bool, true, false, not, _&&_}
@@ -15,7 +15,6 @@ use Rattle.laws.proofs.Comparisons.{le-of, ge-of, ltb-yes, ltb-no}
 use Rattle.station.specs.Head.{Head, valid}
 use Rattle.station.specs.Refusal.{Refusal, outOfLimits, tooShort, notWellFormed, textTooLong, try, firstOf}
 use Rattle.station.specs.Types.{headIn, refusalIn}
-use Rattle.station.specs.Wrote.{Wrote}
 use Rattle.station.specs.Records.{loaded}
 use Rattle.station.specs.declared.types.Preset as record-of-preset
 use Rattle.station.specs.declared.types.Head as record-of-head
@@ -31,9 +30,9 @@ use Rattle.placing.proofs.Theorems.{met, frame-running}
 use Rattle.frame.specs.declared.events.EventsAnswer as result
 use Rattle.frame.specs.declared.text.Ended.the-variants as ends
 use Rattle.frame.specs.declared.text.lines.Lines as lines-result
-use Rattle.frame.specs.Event.{Run, runOf}
-use Rattle.frame.specs.Demands.{stateAt, eventAt, answerAt, EventIs}
-use Rattle.frame.specs.TextDone.{End, listed, refusedAt}
+use Rattle.frame.specs.Event.{runOf}
+use Rattle.frame.specs.Demands.{stateAt, eventAt, EventIs}
+use Rattle.frame.specs.TextDone.{listed, refusedAt}
 use Rattle.frame.specs.EventsDone.{allEvents, eventsCauses, EventsOutcome, answersWritten, eventsMeant, EventsLeft, EventsClaim, EventsEntry}
 use Rattle.frame.specs.method.EventsParts.{refusedEvents}
 use Rattle.frame.specs.method.TextLines.{LinesStart, RanLines}
@@ -62,34 +61,34 @@ module _ (n : ℕ) (head : record-of-head.Head) (ps : List record-of-preset.Pres
 
   -- ---- a law for each cause
 
-  refused-left : (c : cause.Refusal) {r : result.EventsAnswer} → firstOf (eventsCauses n head ps st text out) ≡ some (refusalIn c) → r ≡ refusedEvents c (st .clock)
+  refused-left : (c : cause.Refusal) {r : result.EventsAnswer} → firstOf (eventsCauses n head ps st text out) ≡ some (refusalIn c) → r ≡ refusedEvents c (st .clock) (st .hold)
       → EventsLeft (eventsMeant n head ps st text out) (st .table) out r
   refused-left c {r} e a =
       subst (λ (o : EventsOutcome). EventsLeft o (st .table) out r) (sym (meant-stopped (refusalIn c) e))
-      (rw a (record { ended = refl; table = refl; clock = refl; output = refl }))
+      (rw a (record { ended = refl; table = refl; clock = refl; hold = refl; output = refl }))
 
-  pub events-long : {r : result.EventsAnswer} → 32768 < length text → r ≡ refusedEvents TextTooLong (st .clock) → EventsLeft (eventsMeant n head ps st text out) (st .table) out r
+  pub events-long : {r : result.EventsAnswer} → 32768 < length text → r ≡ refusedEvents TextTooLong (st .clock) (st .hold) → EventsLeft (eventsMeant n head ps st text out) (st .table) out r
   events-long l = refused-left TextTooLong (met textTooLong (ltb 32768 (length text)) _ (ltb-yes 32768 (length text) l))
 
   module _ (short : length text ≤ 32768) where
     after-ten : firstOf (eventsCauses n head ps st text out) ≡ firstOf (try tooShort (ltb n 32) ∷ try tooShort (ltb (length out) 8192) ∷ frameCausesOf head ps st)
     after-ten = passed textTooLong (ltb 32768 (length text)) _ (ltb-no 32768 (length text) short)
 
-    pub events-few : {r : result.EventsAnswer} → n < 32 → r ≡ refusedEvents TooShort (st .clock) → EventsLeft (eventsMeant n head ps st text out) (st .table) out r
+    pub events-few : {r : result.EventsAnswer} → n < 32 → r ≡ refusedEvents TooShort (st .clock) (st .hold) → EventsLeft (eventsMeant n head ps st text out) (st .table) out r
     events-few l = refused-left TooShort (after-ten ∙ met tooShort (ltb n 32) _ (ltb-yes n 32 l))
 
     module _ (long : 32 ≤ n) where
       after-list : firstOf (eventsCauses n head ps st text out) ≡ firstOf (try tooShort (ltb (length out) 8192) ∷ frameCausesOf head ps st)
       after-list = after-ten ∙ passed tooShort (ltb n 32) _ (ltb-no n 32 long)
 
-      pub events-short : {r : result.EventsAnswer} → length out < 8192 → r ≡ refusedEvents TooShort (st .clock) → EventsLeft (eventsMeant n head ps st text out) (st .table) out r
+      pub events-short : {r : result.EventsAnswer} → length out < 8192 → r ≡ refusedEvents TooShort (st .clock) (st .hold) → EventsLeft (eventsMeant n head ps st text out) (st .table) out r
       events-short l = refused-left TooShort (after-list ∙ met tooShort (ltb (length out) 8192) _ (ltb-yes (length out) 8192 l))
 
       module _ (room : 8192 ≤ length out) where
         after-output : firstOf (eventsCauses n head ps st text out) ≡ firstOf (frameCausesOf head ps st)
         after-output = after-list ∙ passed tooShort (ltb (length out) 8192) _ (ltb-no (length out) 8192 room)
 
-        pub events-stopped : {w : tried.Cause} (c : cause.Refusal) {r : result.EventsAnswer} → causeIn w ≡ firstOf (frameCausesOf head ps st) → w ≡ Met c → r ≡ refusedEvents c (st .clock)
+        pub events-stopped : {w : tried.Cause} (c : cause.Refusal) {r : result.EventsAnswer} → causeIn w ≡ firstOf (frameCausesOf head ps st) → w ≡ Met c → r ≡ refusedEvents c (st .clock) (st .hold)
             → EventsLeft (eventsMeant n head ps st text out) (st .table) out r
         events-stopped c e m = refused-left c (after-output ∙ sym e ∙ ap causeIn m)
 
@@ -99,10 +98,10 @@ module _ (n : ℕ) (head : record-of-head.Head) (ps : List record-of-preset.Pres
         -- ---- no cause
 
         pub events-ran : {w : tried.Cause} {t₁ out₁ : List ℕ} {x : lines-result.Lines} → causeIn w ≡ firstOf (frameCausesOf head ps st) → w ≡ Passed
-            → RanLines h text 0 0 st out 0 t₁ out₁ x → EventsLeft (eventsMeant n head ps st text out) t₁ out₁ (record { ended = ends.Ran (x .position); clock = x .clock })
+            → RanLines h text 0 0 st out 0 t₁ out₁ x → EventsLeft (eventsMeant n head ps st text out) t₁ out₁ (record { ended = ends.Ran (x .position); clock = x .clock; hold = x .hold })
         events-ran {t₁ = t₁} {out₁ = out₁} {x = x} e m y =
-            subst (λ (o : EventsOutcome). EventsLeft o t₁ out₁ (record { ended = ends.Ran (x .position); clock = x .clock })) (sym (runs (sym e ∙ ap causeIn m)))
-            (record { ended = ap listed (y .output .position); table = y .table; clock = y .clock; output = y .output .output })
+            subst (λ (o : EventsOutcome). EventsLeft o t₁ out₁ (record { ended = ends.Ran (x .position); clock = x .clock; hold = x .hold })) (sym (runs (sym e ∙ ap causeIn m)))
+            (record { ended = ap listed (y .output .position); table = y .table; clock = y .clock; hold = y .hold; output = y .output .output })
 
     pub events-start : {w : tried.Cause} → causeIn w ≡ firstOf (frameCausesOf head ps st) → w ≡ Passed → LinesStart head ps text 0 0 st
     events-start e m =
@@ -112,15 +111,17 @@ module _ (n : ℕ) (head : record-of-head.Head) (ps : List record-of-preset.Pres
   -- ---- the claim
 
   module _ {t₁ out₁ : List ℕ} {r : result.EventsAnswer} (d : EventsLeft (eventsMeant n head ps st text out) t₁ out₁ r) where
-    left-running : Running h st → Running h (stateOf t₁ (r .clock))
+    left-running : Running h st → Running h (stateOf t₁ (r .clock) (r .hold))
     left-running run = go (firstOf (eventsCauses n head ps st text out)) refl
       where
-        by-outcome : (o : EventsOutcome) → eventsMeant n head ps st text out ≡ o → Running h (o .after) → Running h (stateOf t₁ (r .clock))
+        by-outcome : (o : EventsOutcome) → eventsMeant n head ps st text out ≡ o → Running h (o .after) → Running h (stateOf t₁ (r .clock) (r .hold))
         by-outcome o e after =
-            subst (λ (t : List ℕ). Running h (stateOf t (r .clock))) (sym (d .table ∙ ap (λ (x : EventsOutcome). x .after .table) e))
-            (subst (λ (c : ℕ). Running h (stateOf (o .after .table) c)) (sym (d .clock ∙ ap (λ (x : EventsOutcome). x .after .clock) e)) after)
+            let table = d .table ∙ ap (λ (x : EventsOutcome). x .after .table) e in
+            let clock = d .clock ∙ ap (λ (x : EventsOutcome). x .after .clock) e in
+            let hold = d .hold ∙ ap (λ (x : EventsOutcome). x .after .hold) e in
+            rw (table, clock, hold) after
 
-        go : (x : Option Refusal) → firstOf (eventsCauses n head ps st text out) ≡ x → Running h (stateOf t₁ (r .clock))
+        go : (x : Option Refusal) → firstOf (eventsCauses n head ps st text out) ≡ x → Running h (stateOf t₁ (r .clock) (r .hold))
         go none e = by-outcome (answersWritten (runOf h st (allEvents text)) out) (meant-ran e) (demand-3 h st (allEvents text) run .running)
         go (some c) e = by-outcome (stoppedBy c st out) (meant-stopped c e) run
 

@@ -27,9 +27,9 @@ use Rattle.placing.specs.Outcomes.{Cost, PlanAnswer, planOf}
 use Rattle.placing.specs.State.{State}
 use Rattle.placing.specs.Claims.{Running}
 use Rattle.placing.proofs.Theorems.{clock-to, plan-claim}
-use Rattle.frame.specs.Event.{Event, Answer, clockNow, taken, refused, Outcome, eventOf, runOf}
+use Rattle.frame.specs.Event.{Event, Answer, clockNow, tieNow, taken, refused, Outcome, eventOf, runOf}
 use Rattle.frame.specs.Text.{Whole, notRead, notPlanned, ran, startOf, eventsOf, wholeOf}
-use Rattle.frame.specs.Demands.{Ends, EventIs, stopped, clockSet, placed, totalTaken}
+use Rattle.frame.specs.Demands.{Ends, EventIs, stopped, clockSet, tieSet, placed, totalTaken}
 use Rattle.frame.specs.Demands.{too-short, head-refused, is-not-planned, is-planned}
 use Rattle.frame.specs.Listing.{refusedLine, grantedLine, answerLine, cellText, cellTexts, slotLine, slotLines, grantedLines, answerLines, listingOf}
 use Rattle.frame.proofs.OneEvent.{event-is, event-running}
@@ -52,6 +52,11 @@ refused-size n r l =
 now-size : (n t : ℕ) → t < 100 → length (answerLine n (clockNow t)) ≤ 19
 unfolding answerLine bytes
 now-size n t l = omega (arith, length-append (digits t) (bytes ")\n"), digits-length 2 t (omega arith) l)
+
+tie-size : (n : ℕ) (hold : Bool) → length (answerLine n (tieNow hold)) ≤ 19
+unfolding answerLine print bytes
+tie-size n true = omega arith
+tie-size n false = omega arith
 
 taken-size : (n : ℕ) (c : Cost) → c .count < 1000 → length (answerLine n (taken c)) ≤ 19
 unfolding answerLine bytes
@@ -138,6 +143,7 @@ now-small h st e run t q = go (eventOf h st e) (event-is h st e) q (event-runnin
     go : (o : Outcome) → EventIs h st e o → o .answer ≡ clockNow t → Running h (o .after) → t < 100
     go _ (stopped r f) p w = absurd (let z : _≡_ {A = ℕ} 0 1 = cc in omega arith)
     go _ (clockSet c asks f) p w = let same : c ≡ t = cc in omega (arith, clock-to (h .slots) c (w .wellFormed .clock), w .valid .slots-high)
+    go _ (tieSet hold asks f) p w = absurd (let z : _≡_ {A = ℕ} 0 1 = cc in omega arith)
     go _ (placed jobs asks f) p w = absurd (let z : _≡_ {A = ℕ} 0 1 = cc in omega arith)
 
 one-size : (h : Head) (st : State) (e : Event) (n : ℕ) (rest : List Answer) → Running h st → n < 100000
@@ -145,6 +151,7 @@ one-size : (h : Head) (st : State) (e : Event) (n : ℕ) (rest : List Answer) �
     → (length (answerLine n a) ≤ 19) × (totalTaken rest < 1000)
 unfolding totalTaken
 one-size h st e n rest run l (clockNow t) q m = (now-size n t (now-small h st e run t q), m)
+one-size h st e n rest run l (tieNow hold) q m = (tie-size n hold, m)
 one-size h st e n rest run l (taken c) q m = (taken-size n c (omega arith), omega arith)
 one-size h st e n rest run l (refused k r) q m = (stopped-size n k r l, m)
 
@@ -213,10 +220,10 @@ accepted-short _ (by-lines short e s y) h n q = short
 
 -- of a text that ran
 ran-size : (text t : List ℕ) (h : Head) (n : ℕ) (g : List ℕ) → Means text (Reading.accepted h n) → planOf h t .answer ≡ PlanAnswer.granted g
-    → length (listingOf (ran h n g (runOf h (startOf (planOf h t .table)) (eventsOf text n)))) ≤ 655360
+    → length (listingOf (ran h n g (runOf h (startOf h (planOf h t .table)) (eventsOf text n)))) ≤ 655360
 unfolding listingOf
 ran-size text t h n g m a =
-    let st = startOf (planOf h t .table) in
+    let st = startOf h (planOf h t .table) in
     let es = eventsOf text n in
     let run = planned-running h t g a in
     let v = run .valid in

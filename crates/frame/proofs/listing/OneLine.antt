@@ -20,6 +20,7 @@ use Rattle.laws.proofs.Comparisons.{le-of, ge-of, ltb-yes, ltb-no, leb-yes, leb
 use Rattle.station.specs.Head.{Head, within, valid}
 use Rattle.station.specs.Refusal.{Refusal, outOfLimits, tooShort, notWellFormed, numberOf, try, firstOf}
 use Rattle.station.specs.Text.{bytes}
+use Rattle.station.specs.Form.{print}
 use Rattle.station.specs.Decimal.{digits}
 use Rattle.station.specs.Types.{refusalIn, headIn}
 use Rattle.station.specs.Wrote.{Wrote}
@@ -37,11 +38,11 @@ use Rattle.placing.specs.State.{wellFormedFrame}
 use Rattle.placing.specs.Causes.{frameCausesOf}
 use Rattle.placing.proofs.Theorems.{frame-known, met, record-valid}
 use Rattle.frame.specs.declared.types.Answer as reply
-use Rattle.frame.specs.declared.types.Answer.the-variants.{Now, Taken, Refused}
+use Rattle.frame.specs.declared.types.Answer.the-variants.{Now, Tie, Taken, Refused}
 use Rattle.frame.specs.Types.{answerIn}
 use Rattle.frame.proofs.types.Answer.{the-type}
 use Rattle.frame.proofs.types.Answer.Laws.{the-laws}
-use Rattle.frame.specs.Event.{Answer, clockNow, taken, refused}
+use Rattle.frame.specs.Event.{Answer, clockNow, tieNow, taken, refused}
 use Rattle.frame.specs.Text.{startOf}
 use Rattle.frame.specs.Listing.{refusedLine, grantedLine, answerLine, cellText, cellTexts, slotLine}
 use Rattle.frame.specs.WroteLine.{WriteOutcome, lineWritten, outputShort, slotCauses, slotWritten, WroteLine}
@@ -58,12 +59,14 @@ digits-few n h = digits-length 20 n (omega arith) (omega arith)
 -- the number in an answer is one of the code's
 abbrev pub Small : Answer → Type 0
 Small (clockNow t) = t < 2 ^ 64
+Small (tieNow hold) = Unit {0}
 Small (taken c) = c .count < 2 ^ 64
 Small (refused _ r) = Unit {0}
 
 -- the numbers in an answer of the code fit their type
 pub small-answer : (a : reply.Answer) (vs : List Val) → Is (row the-type) a vs → Small (answerIn a)
 small-answer (Now t) vs p = owed the-type the-laws (Now t) vs p .0 .1
+small-answer (Tie hold) vs p = tt
 small-answer (Taken n) vs p = owed the-type the-laws (Taken n) vs p .0 .1
 small-answer (Refused _ r) vs p = tt
 
@@ -73,8 +76,10 @@ refused-fits n r h =
     simp length-append (omega (arith, digits-few n h, digits-few (numberOf r) (omega (arith, number-small r))))
 
 pub answer-fits : (n : ℕ) (a : Answer) → n < 2 ^ 64 → Small a → length (answerLine n a) ≤ 8192
-unfolding answerLine bytes
+unfolding answerLine print bytes
 answer-fits n (clockNow t) h s = simp length-append (omega (arith, digits-few t s))
+answer-fits n (tieNow true) h s = omega arith
+answer-fits n (tieNow false) h s = omega arith
 answer-fits n (taken c) h s = simp length-append (omega (arith, digits-few (c .count) s))
 answer-fits n (refused _ r) h s = refused-fits n r h
 
@@ -140,18 +145,18 @@ module _ (n : ℕ) (head : record-of-head.Head) (ps : List record-of-preset.Pres
   abbrev slotOutside : Bool
   slotOutside = not (within 1 (head .slots) s)
 
-  refused-with : (r : cause.Refusal) → firstOf (frameCausesOf head ps (startOf t) ++ (try outOfLimits slotOutside ∷ [])) ≡ some (refusalIn r)
+  refused-with : (r : cause.Refusal) → firstOf (frameCausesOf head ps (startOf h t) ++ (try outOfLimits slotOutside ∷ [])) ≡ some (refusalIn r)
       → WroteLine (slotWritten n head ps t s out) (writing.Refused 0 r) out
   refused-with r e =
       line-refused (slotCauses n head ps t s out) (slotLine h t (s - 1)) out r (passed tooShort (ltb (length out) 8192) _ (ltb-no (length out) 8192 long) ∙ passed tooShort (ltb n 32) _ (ltb-no n 32 enough) ∙ e)
 
   -- a cause of the table or of the head record
-  pub slot-stopped : (r : cause.Refusal) → some (refusalIn r) ≡ firstOf (frameCausesOf head ps (startOf t)) → WroteLine (slotWritten n head ps t s out) (writing.Refused 0 r) out
-  slot-stopped r e = refused-with r (append-some (frameCausesOf head ps (startOf t)) _ (refusalIn r) (sym e))
+  pub slot-stopped : (r : cause.Refusal) → some (refusalIn r) ≡ firstOf (frameCausesOf head ps (startOf h t)) → WroteLine (slotWritten n head ps t s out) (writing.Refused 0 r) out
+  slot-stopped r e = refused-with r (append-some (frameCausesOf head ps (startOf h t)) _ (refusalIn r) (sym e))
 
-  module _ (free : none ≡ firstOf (frameCausesOf head ps (startOf t))) where
+  module _ (free : none ≡ firstOf (frameCausesOf head ps (startOf h t))) where
     outside : slotOutside ≡ true → WroteLine (slotWritten n head ps t s out) (writing.Refused 0 OutOfLimits) out
-    outside e = refused-with OutOfLimits (append-none (frameCausesOf head ps (startOf t)) _ (sym free) ∙ met outOfLimits slotOutside [] e)
+    outside e = refused-with OutOfLimits (append-none (frameCausesOf head ps (startOf h t)) _ (sym free) ∙ met outOfLimits slotOutside [] e)
 
     -- no slot has the number
     pub slot-low : s < 1 → WroteLine (slotWritten n head ps t s out) (writing.Refused 0 OutOfLimits) out
@@ -164,12 +169,12 @@ module _ (n : ℕ) (head : record-of-head.Head) (ps : List record-of-preset.Pres
     pub slot-written : {after : List ℕ} {end : ℕ} → 1 ≤ s → s ≤ head .slots → Wrote out 0 (lineOfSlot (head .bridges) t (s - 1)) after end
         → WroteLine (slotWritten n head ps t s out) (writing.Written end) after
     slot-written m l w =
-        let v = record-valid head ps (frame-known head ps (startOf t) (sym free) .1) in
+        let v = record-valid head ps (frame-known head ps (startOf h t) (sym free) .1) in
         let low : s - 1 < 64 = omega (arith, v .slots-high) in
         line-written (slotCauses n head ps t s out) (slotLine h t (s - 1)) out
         (passed tooShort (ltb (length out) 8192) _ (ltb-no (length out) 8192 long)
         ∙ passed tooShort (ltb n 32) _ (ltb-no n 32 enough)
-        ∙ append-none (frameCausesOf head ps (startOf t)) _ (sym free)
+        ∙ append-none (frameCausesOf head ps (startOf h t)) _ (sym free)
         ∙ passed outOfLimits slotOutside [] (rw (leb-yes 1 s m, leb-yes s (head .slots) l) refl)
         ∙ first-of-none)
         (slot-fits h t (s - 1) low (v .bridges-high)) long (rw (slot-line-head h t (s - 1) low (v .bridges-high)) at w)
@@ -181,7 +186,7 @@ module _ (slots : ℕ) (t : List ℕ) (s : ℕ) (out : List ℕ) where
   abbrev written-by : Bool → Bool → Bool → Bool → Head → WriteOutcome
   written-by few short room cells h =
       lineWritten
-      (try tooShort room ∷ try tooShort short ∷ try tooShort cells ∷ try outOfLimits (not (few && valid h)) ∷ try notWellFormed (not (wellFormedFrame h (startOf t))) ∷ try outOfLimits (not (within 1 slots s)) ∷ [])
+      (try tooShort room ∷ try tooShort short ∷ try tooShort cells ∷ try outOfLimits (not (few && valid h)) ∷ try notWellFormed (not (wellFormedFrame h (startOf h t))) ∷ try outOfLimits (not (within 1 slots s)) ∷ [])
       (slotLine h t (s - 1)) out
 
   same-line : (few short room cells : Bool) (h k : Head) → (short ≡ false → few ≡ true → h ≡ k) → written-by few short room cells h ≡ written-by few short room cells k

@@ -6,6 +6,7 @@
 use Prim.Native.Nat.{ℕ, _≤_, _<_}
 use native.Mathlib.Omega.{arith}
 use mathlib.Core.Path.{_≡_, refl, sym, _∙_, ap, subst}
+use mathlib.Core.Bool.{Bool}
 use mathlib.Core.Option.{Option, none, some}
 use mathlib.Core.List.{List}
 use lib.ListN.{length}
@@ -33,8 +34,8 @@ use Rattle.frame.proofs.listing.ListingSize.{listing-fits}
 
 -- ---- the listing written
 
-module _ {head : record-of-head.Head} {ps : List record-of-preset.Preset} {t : List ℕ} {clock : ℕ} {out t₁ out₁ : List ℕ} {r : result.TextRun} where
-  pub lists-ran : (w : Whole) {m : ℕ} → Leaves w head ps t clock out t₁ out₁ r → r .ended ≡ ends.Ran m
+module _ {head : record-of-head.Head} {ps : List record-of-preset.Preset} {t : List ℕ} {clock : ℕ} {hold : Bool} {out t₁ out₁ : List ℕ} {r : result.TextRun} where
+  pub lists-ran : (w : Whole) {m : ℕ} → Leaves w head ps t clock hold out t₁ out₁ r → r .ended ≡ ends.Ran m
       → (t₁ ≡ tableAfter w t) × Wrote out 0 (listingOf w) out₁ m
   unfolding endOf outputAfter
   lists-ran (notRead n c) {m} x e = absurd (let q = x .ended in let z : _≡_ {A = ℕ} 0 1 = cc (ap endIn e) in omega arith)
@@ -44,7 +45,7 @@ module _ {head : record-of-head.Head} {ps : List record-of-preset.Preset} {t : L
       (x .table, record { output = x .output; position = cc })
 
   -- the one line of a refusal
-  pub lists-refused : (w : Whole) {n : ℕ} {c : cause.Refusal} {out₂ : List ℕ} {m : ℕ} → Leaves w head ps t clock out t₁ out₁ r → r .ended ≡ ends.Refused n c
+  pub lists-refused : (w : Whole) {n : ℕ} {c : cause.Refusal} {out₂ : List ℕ} {m : ℕ} → Leaves w head ps t clock hold out t₁ out₁ r → r .ended ≡ ends.Refused n c
       → Wrote out₁ 0 (refusedLine n (refusalIn c)) out₂ m → (t₁ ≡ tableAfter w t) × Wrote out 0 (listingOf w) out₂ m
   unfolding endOf outputAfter listingOf
   lists-refused (notRead k d) {n} {c} {out₂} {m} x e z =

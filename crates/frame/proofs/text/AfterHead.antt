@@ -6,6 +6,7 @@
 use Prim.Native.Nat.{ℕ, zero, suc, _+_, _≤_, _<_}
 use native.Mathlib.Omega.{arith}
 use mathlib.Core.Path.{_≡_, refl, sym, _∙_, ap}
+use mathlib.Core.Bool.{true, false}
 use mathlib.Core.List.{List, [], _∷_, map}
 use lib.ListN.{length, take, drop, length-append, take-append-drop}
 use lib.Seq.{drop-drop}
@@ -16,7 +17,7 @@ use Rattle.station.specs.Head.{Head, valid}
 use Rattle.station.specs.Refusal.{firstOf}
 use Rattle.station.specs.Text.{bytes, lines, join}
 use Rattle.station.specs.Line.{lineOf}
-use Rattle.station.specs.Form.{Form, frameLine, busyLine, presetLine, clockLine, callLine, print}
+use Rattle.station.specs.Form.{Form, frameLine, busyLine, presetLine, clockLine, callLine, tieLine, print}
 use Rattle.station.specs.Writing.{formsOf, textOf}
 use Rattle.station.specs.Reading.{Reading, Means, too-long, no-text, by-lines, headOf}
 use Rattle.station.specs.Types.{headIn}
@@ -70,6 +71,8 @@ form-bytes (busyLine b p) = omega arith
 form-bytes (presetLine p) = omega arith
 form-bytes (clockLine t) = omega arith
 form-bytes (callLine p) = omega arith
+form-bytes (tieLine true) = omega arith
+form-bytes (tieLine false) = omega arith
 
 pub forms-bytes : (fs : List Form) → length fs ≤ length (join (map print fs))
 forms-bytes [] = omega arith
@@ -99,7 +102,7 @@ module _ (text : List ℕ) (h : Head) (n : ℕ) (reads : headOf text ≡ Reading
 
   -- what the text comes to, where its head is planned
   pub whole-ran : (t g : List ℕ) → planOf h t .answer ≡ PlanAnswer.granted g
-      → wholeOf text t ≡ ran h n g (linesRun h text (length (textOf h)) (startOf (planOf h t .table)))
+      → wholeOf text t ≡ ran h n g (linesRun h text (length (textOf h)) (startOf h (planOf h t .table)))
   unfolding wholeOf firstOf wholeWithHead wholeWithPlan
   whole-ran t g q =
       let short = ltb-no 32768 (length text) read-short in
@@ -108,12 +111,12 @@ module _ (text : List ℕ) (h : Head) (n : ℕ) (reads : headOf text ≡ Reading
       begins
       ∙ ap (λ (x : Reading). wholeWithHead text x t) reads
       ∙ ap (λ (a : PlanAnswer). wholeWithPlan text h n a (planOf h t .table)) q
-      ∙ ap (λ (es : List Event). ran h n g (runOf h (startOf (planOf h t .table)) es)) events-after
+      ∙ ap (λ (es : List Event). ran h n g (runOf h (startOf h (planOf h t .table)) es)) events-after
 
 -- The loop starts from a head that was read, its n lines and its k bytes, and the table of its plan.
 pub lines-start : {text : List ℕ} {old : List record-of-preset.Preset} {r : HeadRead} {n k : ℕ} → ReadAccepted text old r n k
     → (t g : List ℕ) → planOf (headIn (r .head) (r .presets)) t .answer ≡ PlanAnswer.granted g
-    → LinesStart (r .head) (r .presets) text k n (startOf (planOf (headIn (r .head) (r .presets)) t .table))
+    → LinesStart (r .head) (r .presets) text k n (startOf (headIn (r .head) (r .presets)) (planOf (headIn (r .head) (r .presets)) t .table))
 lines-start {text} {old} {r} {n} {k} a t g q =
     let h = headIn (r .head) (r .presets) in
     let few = a .count in

@@ -6,6 +6,7 @@
 use Prim.Native.Nat.{ℕ, _≤_, _<_}
 use native.Mathlib.Omega.{arith}
 use mathlib.Core.Path.{_≡_, refl, sym, _∙_, ap, subst}
+use mathlib.Core.Bool.{Bool}
 use mathlib.Core.List.{List, map}
 use lib.ListN.{length, length-map}
 use lib.Dec.{ltb}
@@ -23,7 +24,7 @@ use Rattle.frame.specs.Text.{Whole, notRead, notPlanned, ran, wholeOf}
 use Rattle.frame.specs.Demands.{Ends, too-long, too-short, head-refused, is-not-planned, is-planned}
 use Rattle.frame.proofs.Demands.{demand-1}
 use Rattle.frame.specs.declared.text.TextRun as run
-use Rattle.frame.specs.TextDone.{wholeWithOutput, presetsAfter, Leaves, TextDone, TextClaim}
+use Rattle.frame.specs.TextDone.{wholeWithOutput, presetsAfter, Leaves, TextDone}
 use Rattle.frame.specs.method.TextParts.{refusedRun}
 use Rattle.frame.proofs.text.WholeText.{beside-long, beside-short, beside-whole, text-claim, leaves-refused}
 use Rattle.frame.specs.declared.text.TextAnswer as answer
@@ -55,16 +56,16 @@ module _ (n : ℕ) (text t out : List ℕ) where
   list-claim : SliceClaim n text t out
   list-claim = record { short-list = listed-few; other-list = listed-other; claim = text-claim text t out }
 
-  module _ (head : record-of-head.Head) (ps : List record-of-preset.Preset) (clock : ℕ) {r : run.TextRun} where
-    pub text-long : 32768 < length text → r ≡ refusedRun 0 TextTooLong head ps clock → TextOnSlice n text head ps t clock out t out r
-    text-long l e = leaves-refused head ps t clock out 0 TextTooLong (listed-long l) e
+  module _ (head : record-of-head.Head) (ps : List record-of-preset.Preset) (clock : ℕ) (hold : Bool) {r : run.TextRun} where
+    pub text-long : 32768 < length text → r ≡ refusedRun 0 TextTooLong head ps clock hold → TextOnSlice n text head ps t clock hold out t out r
+    text-long l e = leaves-refused head ps t clock hold out 0 TextTooLong (listed-long l) e
 
-    pub text-few : length text ≤ 32768 → n < 32 → r ≡ refusedRun 0 TooShort head ps clock → TextOnSlice n text head ps t clock out t out r
-    text-few l k e = leaves-refused head ps t clock out 0 TooShort (listed-few l k) e
+    pub text-few : length text ≤ 32768 → n < 32 → r ≡ refusedRun 0 TooShort head ps clock hold → TextOnSlice n text head ps t clock hold out t out r
+    text-few l k e = leaves-refused head ps t clock hold out 0 TooShort (listed-few l k) e
 
     module _ {t₁ out₁ : List ℕ} where
-      pub text-enough : 32 ≤ n → TextDone text head ps t clock out t₁ out₁ r → TextOnSlice n text head ps t clock out t₁ out₁ r
-      text-enough k d = subst (λ (w : Whole). Leaves w head ps t clock out t₁ out₁ r) (sym (listed-other k)) d
+      pub text-enough : 32 ≤ n → TextDone text head ps t clock hold out t₁ out₁ r → TextOnSlice n text head ps t clock hold out t₁ out₁ r
+      text-enough k d = subst (λ (w : Whole). Leaves w head ps t clock hold out t₁ out₁ r) (sym (listed-other k)) d
 
 -- ---- the records written back
 
@@ -109,10 +110,10 @@ module _ (ps : List record-of-preset.Preset) where
   left-list (ran h k g r) fits = over-list h fits
 
   -- what a text leaves of the first 32 records by value, written back, is what it leaves of the list
-  text-list : (text t out : List ℕ) (head : record-of-head.Head) (clock : ℕ) {t₁ out₁ : List ℕ} {zs : List record-of-preset.Preset} {r : run.TextRun}
-      → TextOnSlice (length ps) text head (loaded ps) t clock out t₁ out₁ r → zs ≡ saved ps (r .presets) 32
-      → TextOnSlice (length ps) text head ps t clock out t₁ out₁ (textLeft (answerOf r) zs)
-  text-list text t out head clock x e = record {
+  text-list : (text t out : List ℕ) (head : record-of-head.Head) (clock : ℕ) (hold : Bool) {t₁ out₁ : List ℕ} {zs : List record-of-preset.Preset} {r : run.TextRun}
+      → TextOnSlice (length ps) text head (loaded ps) t clock hold out t₁ out₁ r → zs ≡ saved ps (r .presets) 32
+      → TextOnSlice (length ps) text head ps t clock hold out t₁ out₁ (textLeft (answerOf r) zs)
+  text-list text t out head clock hold x e = record {
     ended = x .ended;
     head = x .head;
     presets =
@@ -121,12 +122,13 @@ module _ (ps : List record-of-preset.Preset) where
         ∙ left-list (wholeOnSlice (length ps) text t out) (listed-fits (length ps) text t out);
     table = x .table;
     clock = x .clock;
+    hold = x .hold;
     output = x .output;
   }
 
-  pub text-entry : (text t out : List ℕ) (head : record-of-head.Head) (clock : ℕ) {t₁ out₁ : List ℕ} {zs : List record-of-preset.Preset} {r : run.TextRun} {y : answer.TextAnswer}
-      → TextOnSlice (length ps) text head (loaded ps) t clock out t₁ out₁ r → zs ≡ saved ps (r .presets) 32 → y ≡ answerOf r → TextEntry text head ps t clock out zs t₁ out₁ y
-  text-entry text t out head clock {t₁} {out₁} {zs} {r} {y} x e a = record {
-    done = subst (λ (b : answer.TextAnswer). TextOnSlice (length ps) text head ps t clock out t₁ out₁ (textLeft b zs)) (sym a) (text-list text t out head clock x e);
+  pub text-entry : (text t out : List ℕ) (head : record-of-head.Head) (clock : ℕ) (hold : Bool) {t₁ out₁ : List ℕ} {zs : List record-of-preset.Preset} {r : run.TextRun} {y : answer.TextAnswer}
+      → TextOnSlice (length ps) text head (loaded ps) t clock hold out t₁ out₁ r → zs ≡ saved ps (r .presets) 32 → y ≡ answerOf r → TextEntry text head ps t clock hold out zs t₁ out₁ y
+  text-entry text t out head clock hold {t₁} {out₁} {zs} {r} {y} x e a = record {
+    done = subst (λ (b : answer.TextAnswer). TextOnSlice (length ps) text head ps t clock hold out t₁ out₁ (textLeft b zs)) (sym a) (text-list text t out head clock hold x e);
     claim = list-claim (length ps) text t out;
   }

@@ -4,7 +4,6 @@ use Prim.Native.Nat.{ℕ}
 use mathlib.Core.Path.{_≡_}
 use mathlib.Core.List.{List}
 use Rattle.station.specs.Wrote.{Wrote}
-use Rattle.station.specs.WriteHead.{written}
 use Rattle.frame.specs.Listing.{listingOf}
 use Rattle.frame.specs.TextDone.{wholeWithOutput, tableAfter}
 

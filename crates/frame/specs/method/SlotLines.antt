@@ -1,7 +1,7 @@
 -- The lines of slots as the code writes them: from the number of bridges and the table, whatever they are. Document 01, "One listing, whole".
 -- Assumes nothing.
 use Prim.Native.Nat.{ℕ}
-use mathlib.Core.Bool.{cond, _&&_}
+use mathlib.Core.Bool.{false, cond, _&&_}
 use mathlib.Core.List.{List, []}
 use lib.Dec.{eqb, ltb, leb}
 use Rattle.station.specs.Limits.{mostSlots, mostBridges}
@@ -10,7 +10,7 @@ use Rattle.frame.specs.Listing.{slotLine, slotLines}
 
 -- a head of which only the number of bridges counts, as it does in a slot's line
 abbrev pub ofBridges : ℕ → Head
-ofBridges n = record { slots = 0; bridges = n; busy = []; presets = [] }
+ofBridges n = record { slots = 0; bridges = n; hold = false; busy = []; presets = [] }
 
 -- "m, o or c for kinds 2, 3, 4"
 abbrev pub letterOf : ℕ → ℕ

@@ -19,7 +19,7 @@ use Rattle.frame.specs.declared.text.lines.Lines as result
 use Rattle.frame.specs.Event.{Event, line, Run, runOf}
 use Rattle.frame.specs.Listing.{answerLines}
 
--- What the lines start from: the head, the table and the clock make a running frame, the byte and the number of the lines before it are within the text, which
+-- What the lines start from: the head, the table, the clock and the order of ties make a running frame, the byte and the number of the lines before it are within the text, which
 -- is not too long.
 pub record LinesStart (head : record-of-head.Head) (ps : List record-of-preset.Preset) (text : List ℕ) (from first : ℕ) (st : State) : Type 0 where
   pub valid : validRecord head ps ≡ true
@@ -40,4 +40,5 @@ linesRun h text from st = runOf h st (eventsFrom text from)
 pub record RanLines (h : Head) (text : List ℕ) (from first : ℕ) (st : State) (l : List ℕ) (position : ℕ) (u l₁ : List ℕ) (r : result.Lines) : Type 0 where
   pub table : u ≡ linesRun h text from st .after .table
   pub clock : r .clock ≡ linesRun h text from st .after .clock
+  pub hold : r .hold ≡ linesRun h text from st .after .hold
   pub output : Wrote l position (answerLines first (linesRun h text from st .answers)) l₁ (r .position)

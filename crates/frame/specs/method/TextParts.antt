@@ -4,6 +4,7 @@
 -- Assumes nothing.
 use Prim.Native.Nat.{ℕ, _≤_}
 use mathlib.Core.Path.{_≡_}
+use mathlib.Core.Bool.{Bool}
 use mathlib.Core.List.{List}
 use lib.ListN.{length}
 use Rattle.station.specs.Limits.{leastCells}
@@ -19,9 +20,9 @@ use Rattle.frame.specs.declared.text.Ended as ended
 use Rattle.frame.specs.declared.text.Ended.the-variants.{Refused}
 use Rattle.frame.specs.declared.text.TextRun as result
 
--- a refusal: its line and cause, with the head, the presets and the clock that it leaves
-abbrev pub refusedRun : ℕ → cause.Refusal → record-of-head.Head → List record-of-preset.Preset → ℕ → result.TextRun
-refusedRun n c head ps clock = record { ended = Refused n c; head = head; presets = ps; clock = clock }
+-- a refusal: its line and cause, with the head, the presets, the clock and the order of ties that it leaves
+abbrev pub refusedRun : ℕ → cause.Refusal → record-of-head.Head → List record-of-preset.Preset → ℕ → Bool → result.TextRun
+refusedRun n c head ps clock hold = record { ended = Refused n c; head = head; presets = ps; clock = clock; hold = hold }
 
 -- What a head that was read hands to its plan and to the lines after it: the records stand for the text's head of n lines and k bytes, and the lent table is
 -- long enough.

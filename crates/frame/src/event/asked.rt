@@ -27,44 +27,49 @@ ghost use Rattle.frame.specs.EventDone.{Yields};
 ghost use Rattle.frame.specs.method.EventParts.{ClockDone, lineMeant};
 
 // A clock that is asked for on a frame of so many slots: 2 where it is outside 1 to S + 1, 6 where it is below the present one, else it is the new clock.
-pub(crate) fn asked_clock(slots: usize, clock: usize, to: usize) -> Outcome
-    ensures { λ r. ⌜ ClockDone slots clock to r ⌝ }
+pub(crate) fn asked_clock(slots: usize, clock: usize, hold: bool, to: usize) -> Outcome
+    ensures { λ r. ⌜ ClockDone slots clock hold to r ⌝ }
 {
     if !clock_in(slots, to) {
         return Outcome {
             answer: Answer::Refused(0, Refusal::OutOfLimits),
             clock,
+            hold,
         };
     }
     if to < clock {
         return Outcome {
             answer: Answer::Refused(0, Refusal::ClockBack),
             clock,
+            hold,
         };
     }
     Outcome {
         answer: Answer::Now(to),
         clock: to,
+        hold,
     }
 }
 
-// The outcome of a call: its answer, and the clock as it is.
-fn call_outcome(answer: CallAnswer, clock: usize) -> Outcome
-    ensures { λ r. ⌜ (answerIn (r .answer) ≡ answerOf (callAnswerIn answer)) × (r .clock ≡ clock) ⌝ }
+// The outcome of a call: its answer, and the clock and the order of ties as they are.
+fn call_outcome(answer: CallAnswer, clock: usize, hold: bool) -> Outcome
+    ensures { λ r. ⌜ (answerIn (r .answer) ≡ answerOf (callAnswerIn answer)) × (r .clock ≡ clock) × (r .hold ≡ hold) ⌝ }
 {
     match answer {
         CallAnswer::Taken(n) => Outcome {
             answer: Answer::Taken(n),
             clock,
+            hold,
         },
         CallAnswer::Refused(line, r) => Outcome {
             answer: Answer::Refused(line, r),
             clock,
+            hold,
         },
     }
 }
 
-// An event line on a running frame, by what it asks for alone: its clock is set, its call placed by the counts of the table and the clock, or its fault handed back. The
+// An event line on a running frame, by what it asks for alone: its clock or its order of ties is set, its call placed by the counts of the table and the clock, or its fault handed back. The
 // counts afterwards are those of what it leaves. It is a part of `event_by_value` and of the loop over a text's lines: they have tried the frame's own causes, and the loop
 // keeps the counts between events.
 pub(crate) fn event_by_counts(
@@ -72,14 +77,15 @@ pub(crate) fn event_by_counts(
     presets: [Preset; MOST_PRESETS],
     table: &mut [Cell],
     clock: usize,
+    hold: bool,
     used: &mut [u8; 256],
     admitted: &mut usize,
     capacities: &mut [usize; CAPACITY_COUNT],
     line: &[u8],
 ) -> Outcome
-    ensures { λ r. ⌜ (validRecord head presets ≡ true → Running (headIn head presets) (stateOf (now (table .entry)) clock)
+    ensures { λ r. ⌜ (validRecord head presets ≡ true → Running (headIn head presets) (stateOf (now (table .entry)) clock hold)
         → CountsOf (headIn head presets) clock (cell (headIn head presets) (now (table .entry))) (now (used .entry)) (now (admitted .entry)) (now (capacities .entry))
-        → Yields (lineMeant head presets (stateOf (now (table .entry)) clock) (now (line .entry))) (now (table .exit)) r
+        → Yields (lineMeant head presets (stateOf (now (table .entry)) clock hold) (now (line .entry))) (now (table .exit)) r
         × CountsOf (headIn head presets) (r .clock) (cell (headIn head presets) (now (table .exit))) (now (used .exit)) (now (admitted .exit)) (now (capacities .exit))) ⌝ }
 {
     let read = read_event(line);
@@ -87,7 +93,7 @@ pub(crate) fn event_by_counts(
     let jobs = read.jobs;
     match event {
         Event::SetClock(t) => {
-            let done = asked_clock(head.slots, clock, t as usize);
+            let done = asked_clock(head.slots, clock, hold, t as usize);
             pass_slots(
                 head.slots,
                 head.bridges,
@@ -104,17 +110,24 @@ pub(crate) fn event_by_counts(
                 presets,
                 table,
                 clock,
+                hold,
                 jobs,
                 n,
                 used,
                 admitted,
                 capacities,
             );
-            call_outcome(answer, clock)
+            call_outcome(answer, clock, hold)
         }
+        Event::SetTie(next) => Outcome {
+            answer: Answer::Tie(next),
+            clock,
+            hold: next,
+        },
         Event::Fault(cause) => Outcome {
             answer: Answer::Refused(0, cause),
             clock,
+            hold,
         },
     }
 }

@@ -20,17 +20,19 @@ pub(crate) fn clock_counted(
     copied: [Preset; MOST_PRESETS],
     table: &[Cell],
     clock: usize,
+    hold: bool,
     t: usize,
 ) -> Outcome
-    ensures { λ r. ⌜ EventOnSlice records head copied (stateOf (now (table .entry)) clock) (Event.clock t) (now (table .entry)) r ⌝ }
+    ensures { λ r. ⌜ EventOnSlice records head copied (stateOf (now (table .entry)) clock hold) (Event.clock t) (now (table .entry)) r ⌝ }
 {
     if records < LEAST_RECORDS {
         return Outcome {
             answer: Answer::Refused(0, Refusal::TooShort),
             clock,
+            hold,
         };
     }
-    set_clock_by_value(head, copied, table, clock, t)
+    set_clock_by_value(head, copied, table, clock, hold, t)
 }
 
 // One event line; refused with 8 for fewer than 32 records.
@@ -40,15 +42,17 @@ pub(crate) fn event_counted(
     copied: [Preset; MOST_PRESETS],
     table: &mut [Cell],
     clock: usize,
+    hold: bool,
     line: &[u8],
 ) -> Outcome
-    ensures { λ r. ⌜ EventOnSlice records head copied (stateOf (now (table .entry)) clock) (Event.line (now (line .entry))) (now (table .exit)) r ⌝ }
+    ensures { λ r. ⌜ EventOnSlice records head copied (stateOf (now (table .entry)) clock hold) (Event.line (now (line .entry))) (now (table .exit)) r ⌝ }
 {
     if records < LEAST_RECORDS {
         return Outcome {
             answer: Answer::Refused(0, Refusal::TooShort),
             clock,
+            hold,
         };
     }
-    event_by_value(head, copied, table, clock, line)
+    event_by_value(head, copied, table, clock, hold, line)
 }

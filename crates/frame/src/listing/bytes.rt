@@ -25,6 +25,7 @@ ghost use Rattle.station.specs.Limits.{mostSlots, mostBridges, mostPresets};
 ghost use Rattle.station.specs.Types.{refusalIn, presetsIn};
 ghost use Rattle.station.specs.Text.{bytes, _then_};
 ghost use Rattle.station.specs.Decimal.{digits};
+ghost use Rattle.station.specs.Form.{tieLine, print};
 ghost use Rattle.station.specs.Wrote.{Wrote, Left};
 ghost use Rattle.placing.specs.Table.{kindOf, numberIn, cellAt};
 ghost use Rattle.frame.specs.Types.{answerIn};
@@ -49,12 +50,23 @@ pub(crate) fn refused_line(out: &mut [u8], at: usize, line: usize, cause: Refusa
     numbers_end(out, numbers, line, n as usize)
 }
 
-// Writes the line of an answer: `(now T)`, `(taken K)`, or the refused line. Answers the next place.
+// Writes `(tie hold)` or `(tie place)`: an accepted tie event as it came. Answers the next place.
+fn tie_line(out: &mut [u8], at: usize, hold: bool) -> usize
+    ensures { λ r. ⌜ Wrote (now (out .entry)) at (print (tieLine hold)) (now (out .exit)) r ⌝ }
+{
+    if hold {
+        return word(out, at, b"(tie hold)\n");
+    }
+    word(out, at, b"(tie place)\n")
+}
+
+// Writes the line of an answer: `(now T)`, `(tie hold)` or `(tie place)`, `(taken K)`, or the refused line. Answers the next place.
 pub(crate) fn answer_line(out: &mut [u8], at: usize, line: usize, answer: Answer) -> usize
     ensures { λ r. ⌜ Wrote (now (out .entry)) at (answerLine line (answerIn answer)) (now (out .exit)) r ⌝ }
 {
     match answer {
         Answer::Now(t) => number_line(out, at, b"(now ", t),
+        Answer::Tie(hold) => tie_line(out, at, hold),
         Answer::Taken(n) => number_line(out, at, b"(taken ", n),
         Answer::Refused(_, r) => refused_line(out, at, line, r),
     }

@@ -14,20 +14,22 @@ ghost use mathlib.Core.Path.{_≡_};
 ghost use Rattle.frame.specs.method.TextParts.{refusedRun};
 ghost use Rattle.frame.specs.TextEntry.{TextOnSlice, answerOf};
 
-// A refusal at line 0, which leaves the head, the records and the clock as they were handed in.
+// A refusal at line 0, which leaves the head, the records, the clock and the order of ties as they were handed in.
 fn refused_at_start(
     cause: Refusal,
     head: Head,
     copied: [Preset; MOST_PRESETS],
     clock: usize,
+    hold: bool,
 ) -> TextRun
-    ensures { λ r. ⌜ r ≡ refusedRun 0 cause head copied clock ⌝ }
+    ensures { λ r. ⌜ r ≡ refusedRun 0 cause head copied clock hold ⌝ }
 {
     TextRun {
         ended: Ended::Refused(0, cause),
         head,
         presets: copied,
         clock,
+        hold,
     }
 }
 
@@ -39,17 +41,18 @@ pub(crate) fn text_counted(
     copied: [Preset; MOST_PRESETS],
     table: &mut [Cell],
     clock: usize,
+    hold: bool,
     out: &mut [u8],
 ) -> TextRun
-    ensures { λ r. ⌜ TextOnSlice records (now (text .entry)) head copied (now (table .entry)) clock (now (out .entry)) (now (table .exit)) (now (out .exit)) r ⌝ }
+    ensures { λ r. ⌜ TextOnSlice records (now (text .entry)) head copied (now (table .entry)) clock hold (now (out .entry)) (now (table .exit)) (now (out .exit)) r ⌝ }
 {
     if MOST_BYTES < text.len() {
-        return refused_at_start(Refusal::TextTooLong, head, copied, clock);
+        return refused_at_start(Refusal::TextTooLong, head, copied, clock, hold);
     }
     if records < LEAST_RECORDS {
-        return refused_at_start(Refusal::TooShort, head, copied, clock);
+        return refused_at_start(Refusal::TooShort, head, copied, clock, hold);
     }
-    run_text_by_value(text, head, copied, table, clock, out)
+    run_text_by_value(text, head, copied, table, clock, hold, out)
 }
 
 // The records that a text leaves.
@@ -66,5 +69,11 @@ pub(crate) fn answer_of(run: TextRun) -> TextAnswer
     let ended = run.ended;
     let head = run.head;
     let clock = run.clock;
-    TextAnswer { ended, head, clock }
+    let hold = run.hold;
+    TextAnswer {
+        ended,
+        head,
+        clock,
+        hold,
+    }
 }

@@ -11,9 +11,10 @@ ghost use Rattle.station.specs.Types.{headIn};
 ghost use Rattle.placing.specs.State.{stateOf};
 ghost use Rattle.frame.specs.method.TextLines.{LinesStart, RanLines};
 
-// What the lines leave beside the table and the output: the clock, and the place after the last answer.
+// What the lines leave beside the table and the output: the clock, the order of ties, and the place after the last answer.
 pub(crate) struct Lines {
     pub clock: usize,
+    pub hold: bool,
     pub position: usize,
 }
 
@@ -27,15 +28,17 @@ pub(crate) fn run_lines(
     presets: [Preset; MOST_PRESETS],
     table: &mut [Cell],
     start: usize,
+    order: bool,
     out: &mut [u8],
     position: usize,
 ) -> Lines
-    requires { ⌜ LinesStart head presets (now text) from first (stateOf (now table) start) ⌝ }
-    ensures { λ r. ⌜ RanLines (headIn head presets) (now (text .entry)) from first (stateOf (now (table .entry)) start) (now (out .entry)) position (now (table .exit)) (now (out .exit)) r ⌝ }
+    requires { ⌜ LinesStart head presets (now text) from first (stateOf (now table) start order) ⌝ }
+    ensures { λ r. ⌜ RanLines (headIn head presets) (now (text .entry)) from first (stateOf (now (table .entry)) start order) (now (out .entry)) position (now (table .exit)) (now (out .exit)) r ⌝ }
 {
     let mut at = from;
     let mut n = first;
     let mut clock = start;
+    let mut hold = order;
     let mut next = position;
     let counts = counts_of(head, presets, table, clock);
     let mut used = counts.used;
@@ -48,6 +51,7 @@ pub(crate) fn run_lines(
             presets,
             table,
             clock,
+            hold,
             &mut used,
             &mut admitted,
             &mut capacities,
@@ -57,10 +61,12 @@ pub(crate) fn run_lines(
         n += 1;
         next = answer_line(out, next, n, answer);
         clock = done.clock;
+        hold = done.hold;
         at += line.len();
     }
     Lines {
         clock,
+        hold,
         position: next,
     }
 }

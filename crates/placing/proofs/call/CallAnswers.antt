@@ -11,7 +11,6 @@ use mathlib.Core.Option.{Option, none, some}
 use mathlib.Core.List.{List, [], _∷_, _++_}
 use lib.ListN.{length, getD, take, replicate}
 use Rattle.laws.specs.Lists.{at}
-use Rattle.laws.specs.Eviction.{ones}
 use Rattle.laws.proofs.Tests.{true-of-not}
 use Rattle.laws.proofs.Stores.{zeros}
 use Rattle.station.specs.Head.{Head, Job}
@@ -31,7 +30,8 @@ use Rattle.placing.specs.declared.call.CallAnswer.the-variants.{Taken, R
 use Rattle.placing.specs.Table.{cell, callCell}
 use Rattle.placing.specs.State.{State, stateOf}
 use Rattle.placing.specs.Valid.{jobAt}
-use Rattle.placing.specs.Call.{lengths, evictedSet, callFits}
+use Rattle.placing.specs.Plan.{tieOf}
+use Rattle.placing.specs.Call.{lengths, callFits}
 use Rattle.placing.specs.Types.{jobsIn}
 use Rattle.placing.specs.method.Jobs.{jobNumber}
 use Rattle.placing.specs.method.Limits.{sizesInLimits}
@@ -89,15 +89,15 @@ module _ (h : Head) (jobs : List Job) (st : State) where
       → placeable (h .slots) (h .bridges) needs k (length (st .table)) ≡ true
       → lengths jobs ≡ take k needs
       → ((i : ℕ) → i < length jobs → at late i ≡ callCell (jobAt jobs i .number))
-      → u ≡ placedWithin (h .slots) (h .bridges) (found .free) needs k (replicate 64 0) late late (st .table)
+      → u ≡ placedWithin (tieOf (st .hold)) (h .slots) (h .bridges) (found .free) needs k (replicate 64 0) late late (st .table)
       → CallCarriedOut h jobs st u (Taken (found .count))
   carried-taken found ev fits needs k late {u} limits en el eu =
       record {
         answer = ap (λ (n : ℕ). CallAnswer.taken (cost n)) (ev .count) ∙ sym (ap (λ (o : CallOutcome). o .answer) (carried-yes yes));
         table = eu
-            ∙ placed-within (h .slots) (h .bridges) (found .free) needs k (replicate 64 0) late late (st .table) limits
-            ∙ ap (λ (c : List ℕ). placedIn (h .slots) (h .bridges) (found .free) c (replicate 64 0) late late (st .table)) (sym en)
-            ∙ placed-called h (st .clock) jobs (found .free) (replicate 64 0) late late (st .table) (ev .free) (λ i l. zeros 64 i) el
+            ∙ placed-within (tieOf (st .hold)) (h .slots) (h .bridges) (found .free) needs k (replicate 64 0) late late (st .table) limits
+            ∙ ap (λ (c : List ℕ). placedIn (tieOf (st .hold)) (h .slots) (h .bridges) (found .free) c (replicate 64 0) late late (st .table)) (sym en)
+            ∙ placed-called (tieOf (st .hold)) h (st .clock) jobs (found .free) (replicate 64 0) late late (st .table) (ev .free) (λ i l. zeros 64 i) el
             ∙ sym (ap (λ (o : CallOutcome). o .after .table) (carried-yes yes));
       }
     where
@@ -225,11 +225,11 @@ counted-after head ps js n st long v run e m {u} d {after = after} {ys = ys} {ad
 -- ---- the frame afterwards
 
 -- A running frame is one after a call: what a call that is taken leaves is well-formed.
-pub call-running : (h : Head) (jobs : List Job) (st : State) → Running h st → Running h (stateOf (callOf h jobs st .after .table) (st .clock))
+pub call-running : (h : Head) (jobs : List Job) (st : State) → Running h st → Running h (stateOf (callOf h jobs st .after .table) (st .clock) (st .hold))
 call-running h jobs st run = go (firstOf (frameCauses h st ++ callCauses h (st .clock) jobs (cell h (st .table)))) refl
   where
     go : (o : Option Refusal) → firstOf (frameCauses h st ++ callCauses h (st .clock) jobs (cell h (st .table))) ≡ o
-        → Running h (stateOf (callOf h jobs st .after .table) (st .clock))
+        → Running h (stateOf (callOf h jobs st .after .table) (st .clock) (st .hold))
     go none e =
         let claim = call-claim h jobs st in
         let taken = ap (λ (o : CallOutcome). o .answer) (of-passed h jobs st e) in
@@ -241,13 +241,13 @@ call-running h jobs st run = go (firstOf (frameCauses h st ++ callCauses h (st .
     go (some r) e = rw (of-stopped h jobs st r e) run
 
 pub done-running : (head : record-of-head.Head) (ps : List record-of-preset.Preset) (jobs : List Job) (st : State) {u : List ℕ} {r : reply.CallAnswer}
-    → CallDone head ps jobs st u r → Running (headIn head ps) st → Running (headIn head ps) (stateOf u (st .clock))
+    → CallDone head ps jobs st u r → Running (headIn head ps) st → Running (headIn head ps) (stateOf u (st .clock) (st .hold))
 done-running head ps jobs st {u} d run = go (firstOf (causesOf head ps (st .table))) refl
   where
-    left-by : (o : CallOutcome) → callMeant head ps jobs st ≡ o → Running (headIn head ps) (stateOf (o .after .table) (st .clock)) → Running (headIn head ps) (stateOf u (st .clock))
+    left-by : (o : CallOutcome) → callMeant head ps jobs st ≡ o → Running (headIn head ps) (stateOf (o .after .table) (st .clock) (st .hold)) → Running (headIn head ps) (stateOf u (st .clock) (st .hold))
     left-by o e after =
-        subst (λ (t : List ℕ). Running (headIn head ps) (stateOf t (st .clock))) (sym (d .table ∙ ap (λ (x : CallOutcome). x .after .table) e)) after
+        subst (λ (t : List ℕ). Running (headIn head ps) (stateOf t (st .clock) (st .hold))) (sym (d .table ∙ ap (λ (x : CallOutcome). x .after .table) e)) after
 
-    go : (o : Option Refusal) → firstOf (causesOf head ps (st .table)) ≡ o → Running (headIn head ps) (stateOf u (st .clock))
+    go : (o : Option Refusal) → firstOf (causesOf head ps (st .table)) ≡ o → Running (headIn head ps) (stateOf u (st .clock) (st .hold))
     go none q = left-by (callOf (headIn head ps) jobs st) (meant-call head ps jobs st q) (call-running (headIn head ps) jobs st run)
     go (some r) q = left-by (record { answer = CallAnswer.refused 0 r; after = st }) (meant-stopped head ps jobs st r q) run

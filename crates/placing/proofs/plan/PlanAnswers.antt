@@ -26,7 +26,7 @@ use Rattle.station.specs.declared.types.Head as record-of-head
 use Rattle.station.specs.declared.types.Refusal as cause
 use Rattle.station.specs.declared.types.Refusal.the-variants.{OutOfLimits, MandatoryNotFeasible, TooShort}
 use Rattle.placing.specs.Table.{busyCell, Each, cell, presetCount, mandatoryCell, optionalCell}
-use Rattle.placing.specs.Plan.{mandatories, planFree, planFits, needs, grants, planned}
+use Rattle.placing.specs.Plan.{mandatories, planFree, planFits, needs, grants, tieOf, planned}
 use Rattle.placing.specs.method.Records.{recordAt}
 use Rattle.placing.specs.method.Grants.{freeMasks, GrantedTo}
 use Rattle.placing.specs.method.Rule.{placedIn, placedWithin}
@@ -120,14 +120,14 @@ module _ (head : record-of-head.Head) (ps : List record-of-preset.Preset) (long 
       → first ≡ filled 64 (head .count) (λ i. recordAt ps i .mandatory)
       → early ≡ filled 64 (head .count) (λ i. 512 + recordAt ps i .number)
       → late ≡ filled 64 (head .count) (λ i. 768 + recordAt ps i .number)
-      → placedWithin (head .slots) (head .bridges) masks (r .needs) (head .count) first early late u ≡ written h (planned h) t
+      → placedWithin (tieOf (h .hold)) (head .slots) (head .bridges) masks (r .needs) (head .count) first early late u ≡ written h (planned (tieOf (h .hold)) h) t
   unfolding written
   plan-written t {u} {masks} {first} {early} {late} enough eu em ef ee el =
-      placed-within (head .slots) (head .bridges) masks (r .needs) (head .count) first early late u
+      placed-within (tieOf (h .hold)) (head .slots) (head .bridges) masks (r .needs) (head .count) first early late u
       (is-placeable (head .slots) (head .bridges) (r .needs) (head .count) (length u) (record-valid head ps v .slots-high) (record-valid head ps v .bridges-high)
       (omega (arith, count-high head ps v)) (omega (arith, ap length eu, busy-length t (head .slots * head .bridges))) low)
-      ∙ ap (λ (c : List ℕ). placedIn (head .slots) (head .bridges) masks c first early late u) needs-are
-      ∙ placed-planned h masks first early late u (needs-length h r g start few)
+      ∙ ap (λ (c : List ℕ). placedIn (tieOf (h .hold)) (head .slots) (head .bridges) masks c first early late u) needs-are
+      ∙ placed-planned (tieOf (h .hold)) h masks first early late u (needs-length h r g start few)
       (λ s l. ap (λ (q : List ℕ). at q s) em ∙ free-at head ps s (record-valid head ps v .slots-high) l)
       (of-preset (λ (p : Preset). p .mandatory) (λ (p : record-of-preset.Preset). p .mandatory) (λ i l. ap (λ (p : Preset). p .mandatory) (sym (preset-of head ps i l))) ef)
       (of-preset (λ (p : Preset). mandatoryCell (p .number)) (λ (p : record-of-preset.Preset). 512 + p .number) (λ i l. ap (λ (p : Preset). mandatoryCell (p .number)) (sym (preset-of head ps i l))) ee)
@@ -144,7 +144,7 @@ module _ (head : record-of-head.Head) (ps : List record-of-preset.Preset) (long 
       needs-are = ap (λ (k : ℕ). take k (r .needs)) (sym same) ∙ granted-needs h r g start few
 
       front : List ℕ
-      front = tabulate (h .slots * h .bridges) (λ i. planned h (i / h .bridges) (i % h .bridges))
+      front = tabulate (h .slots * h .bridges) (λ i. planned (tieOf (h .hold)) h (i / h .bridges) (i % h .bridges))
 
       busy : Each h (λ s b. planFree h s b ≡ false → cell h u s b ≡ busyCell)
       busy s b ls lb e =
@@ -186,7 +186,7 @@ module _ (h : Head) (t : List ℕ) where
   unfolding planOf
   plan-stopped r e = rw (e, planOf) refl
 
-  plan-passed : firstOf (planCauses h t) ≡ none → planOf h t ≡ record { answer = PlanAnswer.granted (grants h); table = written h (planned h) t }
+  plan-passed : firstOf (planCauses h t) ≡ none → planOf h t ≡ record { answer = PlanAnswer.granted (grants h); table = written h (planned (tieOf (h .hold)) h) t }
   unfolding planOf
   plan-passed e = rw (e, planOf) refl
 
@@ -229,7 +229,7 @@ module _ (head : record-of-head.Head) (ps : List record-of-preset.Preset) (t : L
           (cause-last (recordCauses h′ t) mandatoryNotFeasible (not (planFits h′ (mandatories h′))) before-five (not-is-true _ f))
 
       pub meant-granted : planFits h′ (mandatories h′) ≡ true
-          → planMeant head ps t ≡ record { answer = PlanAnswer.granted (grants h′); table = written h′ (planned h′) t }
+          → planMeant head ps t ≡ record { answer = PlanAnswer.granted (grants h′); table = written h′ (planned (tieOf (h′ .hold)) h′) t }
       meant-granted f =
           meant-plan
           ∙ plan-passed h′ t
@@ -251,10 +251,10 @@ module _ (head : record-of-head.Head) (ps : List record-of-preset.Preset) (t : L
 
   pub plan-done : {u : List ℕ}
       → planMeant head ps t
-      ≡ record { answer = PlanAnswer.granted (grants (headIn head ps)); table = written (headIn head ps) (planned (headIn head ps)) t }
+      ≡ record { answer = PlanAnswer.granted (grants (headIn head ps)); table = written (headIn head ps) (planned (tieOf (headIn head ps .hold)) (headIn head ps)) t }
       → r .answer ≡ Granted → take (head .count) (r .grants) ≡ grants (headIn head ps)
       → r .grants ≡ filled 32 (length (grants (headIn head ps))) (at (grants (headIn head ps)))
-      → u ≡ written (headIn head ps) (planned (headIn head ps)) t → PlanDone head ps t u r
+      → u ≡ written (headIn head ps) (planned (tieOf (headIn head ps .hold)) (headIn head ps)) t → PlanDone head ps t u r
   plan-done {u} e a g l w =
       record {
         answer = ap (repliedIn (take (head .count) (r .grants))) a ∙ ap PlanAnswer.granted g ∙ sym (ap (λ (o : PlanOutcome). o .answer) e);

@@ -1,24 +1,24 @@
 -- What `placedIn` says of a head's frame: with the masks of the free bridges it is the table that `written` and `placing` define.
 --
--- In order: the needs that are left, the table that `placing` gives and a tabulated list go only by the slots and bridges of the frame (`..-ext`); a table of
--- masks (`placed-written`), of a plan and of a call (`placed-planned`, `placed-called`).
+-- In order, for every order of ties: how far the rule has come, whom it chooses and the table that `placing` gives go only by the slots and bridges of the frame (`..-ext`); a
+-- table of masks (`placed-written`), of a plan and of a call (`placed-planned`, `placed-called`).
 -- Assumes nothing.
 use Prim.Native.Nat.{ℕ, zero, suc, _-_, _*_, _/_, _%_, _≤_, _<_, zero-le}
-use native.Mathlib.Nat.{le-refl}
 use native.Mathlib.Omega.{arith}
 use mathlib.Core.Path.{_≡_, refl, _∙_, ap, ap₂}
 use mathlib.Core.Bool.{Bool, false, _&&_, cond}
-use mathlib.Core.List.{List, _∷_, _++_}
+use mathlib.Core.List.{List, _++_}
 use lib.ListN.{length, drop, length-map}
 use lib.Dec.{eqb}
-use Rattle.laws.specs.Sums.{only, sum, count}
-use Rattle.laws.specs.Lists.{at, tabulate}
-use Rattle.laws.specs.Placement.{chosen, served, left, lrtf}
+use Rattle.laws.specs.Sums.{only, sum}
+use Rattle.laws.specs.Lists.{at}
+use Rattle.laws.specs.Placement.{Ties, nobody, AtSlot, choice, served, atSlot, left, lrtf}
 use Rattle.laws.specs.Cells.{takes}
 use Rattle.laws.proofs.Tests.{Is, is-true, is-false, is}
 use Rattle.laws.proofs.Comparisons.{ltb-no}
 use Rattle.laws.proofs.Sums.{sum-ext}
 use Rattle.laws.proofs.Counts.{count-ext}
+use Rattle.laws.proofs.Lists.{tabulate-ext}
 use Rattle.station.specs.Head.{Head, Job, presetAt, hasBit}
 use Rattle.placing.specs.Table.{Cells, Each, cell, presetCount, numberAt, mandatoryCell, optionalCell, busyCell, callCell}
 use Rattle.placing.specs.Valid.{jobAt}
@@ -30,15 +30,15 @@ use Rattle.placing.specs.method.Rule.{jobCell, freeIn, cellIn, placedIn}
 use Rattle.placing.proofs.MaskBits.{hasBit-mask}
 use Rattle.placing.proofs.rule.SlotsPlaced.{place-of}
 
-pub left-ext : (c : List ℕ) (x y : ℕ → ℕ) (n : ℕ) → ((s : ℕ) → s < n → x s ≡ y s) → (s : ℕ) → s ≤ n → left c x s ≡ left c y s
-unfolding left
-left-ext c x y n h zero l = refl
-left-ext c x y n h (suc s) l = ap₂ served (left-ext c x y n h s (omega arith)) (h s l)
+-- LRTF goes by the free cells of the slots up to the one that it places
+module _ (ties : Ties) (c : List ℕ) (n : ℕ) (x y : ℕ → ℕ) (same : (s : ℕ) → s < n → x s ≡ y s) where
+  atSlot-ext : (s : ℕ) → s ≤ n → atSlot ties nobody c x s ≡ atSlot ties nobody c y s
+  unfolding atSlot
+  atSlot-ext zero l = refl
+  atSlot-ext (suc s) l = ap₂ (λ (r : AtSlot) (d : ℕ). served ties nobody d s r) (atSlot-ext s (omega arith)) (same s l)
 
-pub tabulate-ext : (n : ℕ) (f g : ℕ → ℕ) → ((i : ℕ) → i < n → f i ≡ g i) → tabulate n f ≡ tabulate n g
-unfolding tabulate
-tabulate-ext zero f g h = refl
-tabulate-ext (suc n) f g h = ap₂ _∷_ (h 0 (omega arith)) (tabulate-ext n (λ i. f (suc i)) (λ i. g (suc i)) (λ i l. h (suc i) (omega arith)))
+  lrtf-ext : (i s : ℕ) → s < n → lrtf ties nobody c x i s ≡ lrtf ties nobody c y i s
+  lrtf-ext i s l = ap₂ (λ (r : AtSlot) (d : ℕ). choice ties d s r i) (atSlot-ext s (omega arith)) (same s l)
 
 -- Of n slots and B bridges: free bridges, who has a cell in which slot, what the jobs write, and what the bridges that are not free hold.
 module _ (n B k : ℕ) (f g a a′ : ℕ → ℕ → Bool) (v w : ℕ → ℕ → ℕ) (t u : Cells)
@@ -69,20 +69,15 @@ module _ (n B k : ℕ) (f g a a′ : ℕ → ℕ → Bool) (v w : ℕ → ℕ �
       go (is-true e) = rw e (sum-ext k taken-by-f taken-by-g one)
       go (is-false e) = rw e (holds s b l m e)
 
--- LRTF goes by the free cells of the slots up to the one that it places
-lrtf-same : (c : List ℕ) (n : ℕ) (x y : ℕ → ℕ) → ((s : ℕ) → s < n → x s ≡ y s) → (i s : ℕ) → s < n → lrtf c x i s ≡ lrtf c y i s
-lrtf-same c n x y same i s l =
-    ap₂ (λ (r : List ℕ) (d : ℕ). chosen (length c) (at r) d i) (left-ext c x y n same s (omega arith)) (same s l)
-
 -- The table that `place` leaves, of a head's frame, where the masks are those of the free bridges f: job i writes v i s in slot s, and where a bridge is not
 -- free the lent table holds what u does.
-pub placed-written : (h : Head) (masks c first early late t : List ℕ) (f : ℕ → ℕ → Bool) (v : ℕ → ℕ → ℕ) (u : Cells)
+pub placed-written : (ties : Ties) (h : Head) (masks c first early late t : List ℕ) (f : ℕ → ℕ → Bool) (v : ℕ → ℕ → ℕ) (u : Cells)
     → ((s : ℕ) → s < h .slots → at masks s ≡ bridgeMask (h .bridges) (λ b. f s b))
-    → ((i s : ℕ) → i < length c → s < h .slots → cellIn c (freeCount (h .bridges) f) first early late i s ≡ v i s)
+    → ((i s : ℕ) → i < length c → s < h .slots → cellIn ties c (freeCount (h .bridges) f) first early late i s ≡ v i s)
     → Each h (λ s b. f s b ≡ false → cell h t s b ≡ u s b)
-    → placedIn (h .slots) (h .bridges) masks c first early late t ≡ written h (placing (length c) f (λ i s. lrtf c (freeCount (h .bridges) f) i s) v u) t
+    → placedIn ties (h .slots) (h .bridges) masks c first early late t ≡ written h (placing (length c) f (λ i s. lrtf ties nobody c (freeCount (h .bridges) f) i s) v u) t
 unfolding placedIn written
-placed-written h masks c first early late t f v u masked writes holds =
+placed-written ties h masks c first early late t f v u masked writes holds =
     ap (λ (l : List ℕ). l ++ drop (h .slots * B) t) (tabulate-ext (h .slots * B) _ _ one)
   where
     B : ℕ
@@ -94,55 +89,55 @@ placed-written h masks c first early late t f v u masked writes holds =
     counts : (s : ℕ) → s < h .slots → freeCount B (freeIn masks) s ≡ freeCount B f s
     counts s m = count-ext B (λ b. freeIn masks s b) (λ b. f s b) (λ b k. free s b m k)
 
-    wrote : (i s : ℕ) → i < length c → s < h .slots → cellIn c (freeCount B (freeIn masks)) first early late i s ≡ v i s
+    wrote : (i s : ℕ) → i < length c → s < h .slots → cellIn ties c (freeCount B (freeIn masks)) first early late i s ≡ v i s
     wrote i s j l =
-        ap (λ (r : List ℕ). jobCell (at c i) (at r i) (at first i) (at early i) (at late i))
-        (left-ext c (freeCount B (freeIn masks)) (freeCount B f) (h .slots) counts s (omega arith))
+        ap (λ (r : AtSlot). jobCell (at c i) (at (r .needs) i) (at first i) (at early i) (at late i))
+        (atSlot-ext ties c (h .slots) (freeCount B (freeIn masks)) (freeCount B f) counts s (omega arith))
         ∙ writes i s j l
 
     one : (i : ℕ) → i < h .slots * B
-        → placing (length c) (freeIn masks) (λ j s. lrtf c (freeCount B (freeIn masks)) j s) (cellIn c (freeCount B (freeIn masks)) first early late) (cell h t) (i / B) (i % B)
-        ≡ placing (length c) f (λ j s. lrtf c (freeCount B f) j s) v u (i / B) (i % B)
+        → placing (length c) (freeIn masks) (λ j s. lrtf ties nobody c (freeCount B (freeIn masks)) j s) (cellIn ties c (freeCount B (freeIn masks)) first early late) (cell h t) (i / B) (i % B)
+        ≡ placing (length c) f (λ j s. lrtf ties nobody c (freeCount B f) j s) v u (i / B) (i % B)
     one i l =
         let p = place-of (h .slots) B i l in
-        placing-ext (h .slots) B (length c) (freeIn masks) f (λ j s. lrtf c (freeCount B (freeIn masks)) j s) (λ j s. lrtf c (freeCount B f) j s)
-        (cellIn c (freeCount B (freeIn masks)) first early late) v (cell h t) u free
-        (λ j s m. lrtf-same c (h .slots) (freeCount B (freeIn masks)) (freeCount B f) counts j s m) wrote holds
+        placing-ext (h .slots) B (length c) (freeIn masks) f (λ j s. lrtf ties nobody c (freeCount B (freeIn masks)) j s) (λ j s. lrtf ties nobody c (freeCount B f) j s)
+        (cellIn ties c (freeCount B (freeIn masks)) first early late) v (cell h t) u free
+        (lrtf-ext ties c (h .slots) (freeCount B (freeIn masks)) (freeCount B f) counts) wrote holds
         (i / B) (i % B) (p .0) (p .1)
 
 -- the table of a plan, where busy cells stand in the lent table already
-pub placed-planned : (h : Head) (masks first early late t : List ℕ) → length (needs h) ≡ presetCount h
+pub placed-planned : (ties : Ties) (h : Head) (masks first early late t : List ℕ) → length (needs h) ≡ presetCount h
     → ((s : ℕ) → s < h .slots → at masks s ≡ bridgeMask (h .bridges) (λ b. planFree h s b))
     → ((i : ℕ) → i < presetCount h → at first i ≡ presetAt h i .mandatory)
     → ((i : ℕ) → i < presetCount h → at early i ≡ mandatoryCell (numberAt h i))
     → ((i : ℕ) → i < presetCount h → at late i ≡ optionalCell (numberAt h i))
     → Each h (λ s b. planFree h s b ≡ false → cell h t s b ≡ busyCell)
-    → placedIn (h .slots) (h .bridges) masks (needs h) first early late t ≡ written h (planned h) t
+    → placedIn ties (h .slots) (h .bridges) masks (needs h) first early late t ≡ written h (planned ties h) t
 unfolding planned
-placed-planned h masks first early late t long masked mandatory early-cell late-cell busy =
-    placed-written h masks (needs h) first early late t (planFree h) (planCell h (needs h)) (λ s b. busyCell) masked writes busy
+placed-planned ties h masks first early late t long masked mandatory early-cell late-cell busy =
+    placed-written ties h masks (needs h) first early late t (planFree h) (planCell ties h (needs h)) (λ s b. busyCell) masked writes busy
   where
-    writes : (i s : ℕ) → i < length (needs h) → s < h .slots → cellIn (needs h) (planFreeCount h) first early late i s ≡ planCell h (needs h) i s
+    writes : (i s : ℕ) → i < length (needs h) → s < h .slots → cellIn ties (needs h) (planFreeCount h) first early late i s ≡ planCell ties h (needs h) i s
     writes i s l m =
         let j : i < presetCount h = omega (arith, long) in
         rw (mandatory i j, early-cell i j, late-cell i j) refl
 
 -- the table of a call
-pub placed-called : (h : Head) (clock : ℕ) (jobs : List Job) (masks first early late t : List ℕ)
+pub placed-called : (ties : Ties) (h : Head) (clock : ℕ) (jobs : List Job) (masks first early late t : List ℕ)
     → ((s : ℕ) → s < h .slots → at masks s ≡ bridgeMask (h .bridges) (λ b. callFree h clock jobs (cell h t) s b))
     → ((i : ℕ) → i < length jobs → at first i ≡ 0)
     → ((i : ℕ) → i < length jobs → at late i ≡ callCell (jobAt jobs i .number))
-    → placedIn (h .slots) (h .bridges) masks (lengths jobs) first early late t ≡ written h (called h clock jobs (cell h t)) t
+    → placedIn ties (h .slots) (h .bridges) masks (lengths jobs) first early late t ≡ written h (called ties h clock jobs (cell h t)) t
 unfolding called
-placed-called h clock jobs masks first early late t masked never late-cell =
-    placed-written h masks (lengths jobs) first early late t (callFree h clock jobs (cell h t)) (λ i s. callCell (jobAt jobs i .number)) (cell h t)
+placed-called ties h clock jobs masks first early late t masked never late-cell =
+    placed-written ties h masks (lengths jobs) first early late t (callFree h clock jobs (cell h t)) (λ i s. callCell (jobAt jobs i .number)) (cell h t)
     masked writes (λ s b l m e. refl)
   where
     x : ℕ → ℕ
     x = callFreeCount h clock jobs (cell h t)
 
     writes : (i s : ℕ) → i < length (lengths jobs) → s < h .slots
-        → cellIn (lengths jobs) x first early late i s ≡ callCell (jobAt jobs i .number)
+        → cellIn ties (lengths jobs) x first early late i s ≡ callCell (jobAt jobs i .number)
     writes i s l m =
         let j : i < length jobs = omega (arith, length-map jobs (λ (k : Job). k .slots)) in
-        rw (never i j, ltb-no (at (lengths jobs) i - at (left (lengths jobs) x s) i) 0 zero-le) (late-cell i j)
+        rw (never i j, ltb-no (at (lengths jobs) i - at (left ties nobody (lengths jobs) x s) i) 0 zero-le) (late-cell i j)

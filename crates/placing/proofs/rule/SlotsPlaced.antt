@@ -15,7 +15,7 @@ use lib.Seq.{length-take-le, ext-getD, getD-append-add, getD-drop, getD-take}
 use lib.Dec.{ltb, leb, eqb}
 use Rattle.laws.specs.Sums.{bit, only, sum, position, every}
 use Rattle.laws.specs.Lists.{at, tabulate}
-use Rattle.laws.specs.Placement.{before, chosen, left, lrtf}
+use Rattle.laws.specs.Placement.{Ties, tieHold, nobody, goesFirst, chosen, AtSlot, holds, atSlot, left, lrtf}
 use Rattle.laws.specs.Cells.{takes, slotCell}
 use Rattle.laws.proofs.Tests.{Is, is-true, is-false, is, both, left-of, right-of, fails-left, fails-right}
 use Rattle.laws.proofs.Comparisons.{lt-of, le-of, ge-of, eq-of, ne-of, leb-yes, leb-no, ltb-no}
@@ -23,9 +23,9 @@ use Rattle.laws.proofs.Every.{every-all, all-every}
 use Rattle.laws.proofs.Sums.{sum-zero}
 use Rattle.laws.proofs.Counts.{count-none}
 use Rattle.laws.proofs.Lists.{length-tabulate, at-tabulate, at-past}
-use Rattle.laws.proofs.Placement.{left-length, left-step, left-got}
+use Rattle.laws.proofs.Placement.{hold-set, left-length, left-step, left-got, held-step}
 use Rattle.station.specs.Head.{hasBit}
-use Rattle.placing.specs.Plan.{placing, freeCount}
+use Rattle.placing.specs.Plan.{placing, freeCount, tieOf}
 use Rattle.placing.specs.method.Limits.{sizesInLimits}
 use Rattle.placing.specs.method.Rule.{dueCells, RowWritten, EmptyRow, Levelled, freeIn, cellIn, cellsIn, placeable, placedIn, placedWithin}
 use Rattle.placing.proofs.limits.Within.{in-limits, limits-of}
@@ -37,9 +37,9 @@ use Rattle.placing.proofs.rule.row.RowWritten.{due-cell, row-as-it-was,
 -- ---- the table, slot by slot
 
 -- what cell b of slot s is to hold
-abbrev pub cellOf : ℕ → List ℕ → List ℕ → List ℕ → List ℕ → List ℕ → List ℕ → ℕ → ℕ → ℕ
-cellOf B masks c first early late t s b =
-    placing (length c) (freeIn masks) (λ i r. lrtf c (freeCount B (freeIn masks)) i r) (cellIn c (freeCount B (freeIn masks)) first early late) (cellsIn B t) s b
+abbrev pub cellOf : Ties → ℕ → List ℕ → List ℕ → List ℕ → List ℕ → List ℕ → List ℕ → ℕ → ℕ → ℕ
+cellOf ties B masks c first early late t s b =
+    placing (length c) (freeIn masks) (λ i r. lrtf ties nobody c (freeCount B (freeIn masks)) i r) (cellIn ties c (freeCount B (freeIn masks)) first early late) (cellsIn B t) s b
 
 -- the slot and the bridge of a cell of n slots and B bridges
 pub place-of : (n B i : ℕ) → i < n * B → (i / B < n) × (i % B < B)
@@ -106,28 +106,28 @@ module _ (B : ℕ) (w : ℕ → ℕ → ℕ) (t : List ℕ) where
           ∙ sym (ap (at (front ++ rest)) over ∙ getD-append-add front rest (i - n * B) 0 ∙ getD-drop (n * B) t (i - n * B) 0 ∙ ap (at t) back)
 
 -- The row that the code writes in slot s is the rule's. Of the 64 jobs of a mask only those of the list are chosen.
-pub row-rule : (B : ℕ) (masks c first early late t u : List ℕ) (s : ℕ) (a : ℕ → Bool) (v : ℕ → ℕ) → length c ≤ 64
-    → ((i : ℕ) → i < 64 → a i ≡ lrtf c (freeCount B (freeIn masks)) i s)
-    → ((i : ℕ) → i < length c → v i ≡ cellIn c (freeCount B (freeIn masks)) first early late i s)
-    → SlotsPlaced B (cellOf B masks c first early late t) t u s
+pub row-rule : (ties : Ties) (B : ℕ) (masks c first early late t u : List ℕ) (s : ℕ) (a : ℕ → Bool) (v : ℕ → ℕ) → length c ≤ 64
+    → ((i : ℕ) → i < 64 → a i ≡ lrtf ties nobody c (freeCount B (freeIn masks)) i s)
+    → ((i : ℕ) → i < length c → v i ≡ cellIn ties c (freeCount B (freeIn masks)) first early late i s)
+    → SlotsPlaced B (cellOf ties B masks c first early late t) t u s
     → (b : ℕ) → b < B
-    → slotCell 64 a (λ d. freeIn masks s d) v (λ d. at u (s * B + d)) b ≡ cellOf B masks c first early late t s b
+    → slotCell 64 a (λ d. freeIn masks s d) v (λ d. at u (s * B + d)) b ≡ cellOf ties B masks c first early late t s b
 unfolding placing
-row-rule B masks c first early late t u s a v few p q done b l =
+row-rule ties B masks c first early late t u s a v few p q done b l =
     ap (λ (n : ℕ). cond (freeIn masks s b) n (at u (s * B + b)))
     (sum-past (length c) 64 (λ i. only (takes a (λ d. freeIn masks s d) i b) (v i)) few (λ i h m.
     ap (λ (x : Bool). only x (v i)) (takes-not-chosen a (λ d. freeIn masks s d) i b (p i m ∙ past i h))))
     ∙ slotCell-ext (length c) a (λ d. freeIn masks s d) v (λ d. at u (s * B + d)) b
-    (λ i. lrtf c x i s)
-    (λ i. cellIn c x first early late i s)
+    (λ i. lrtf ties nobody c x i s)
+    (λ i. cellIn ties c x first early late i s)
     (λ d. cellsIn B t s d)
     (λ i h. p i (omega arith)) q (done .after (s * B + b) (omega arith))
   where
     x : ℕ → ℕ
     x = freeCount B (freeIn masks)
 
-    past : (i : ℕ) → length c ≤ i → lrtf c x i s ≡ false
-    past i h = rw (at-past (left c x s) i (omega (arith, left-length c x s, h))) refl
+    past : (i : ℕ) → length c ≤ i → lrtf ties nobody c x i s ≡ false
+    past i h = rw (at-past (left ties nobody c x s) i (omega (arith, left-length ties nobody c x s, h))) refl
 
 -- a row of a frame within the limits, and the frame, lie in 512 cells
 module _ (n B : ℕ) (few : n ≤ 64) (narrow : B ≤ 8) where
@@ -139,15 +139,38 @@ module _ (n B : ℕ) (few : n ≤ 64) (narrow : B ≤ 8) where
 
 -- ---- one turn of the code's loop
 
--- Before slot s: the table so far, the array of the first slots that are still due, and the needs that are left by levels, none of them above `top`.
-pub record Progress (B : ℕ) (masks c first early late t : List ℕ) (k s : ℕ) (u l levels : List ℕ) (top : ℕ) : Type 0 where
-  pub table : SlotsPlaced B (cellOf B masks c first early late t) t u s
-  pub due : (i : ℕ) → i < k → at l i ≡ at first i - (at c i - at (left c (freeCount B (freeIn masks)) s) i)
-  pub levelled : Levelled levels (at (left c (freeCount B (freeIn masks)) s))
-  pub most : (i : ℕ) → i < 64 → at (left c (freeCount B (freeIn masks)) s) i ≤ top
+-- how far the rule has come before slot s
+abbrev pub reached : Bool → ℕ → List ℕ → List ℕ → ℕ → AtSlot
+reached hold B masks c s = atSlot (tieOf hold) nobody c (freeCount B (freeIn masks)) s
+
+-- Before slot s: the table so far, the array of the first slots that are still due, the needs that are left by levels, none of them above `top`, and the mask of those who
+-- go first among equal ones.
+pub record Progress (hold : Bool) (B : ℕ) (masks c first early late t : List ℕ) (k s : ℕ) (u l levels : List ℕ) (top held : ℕ) : Type 0 where
+  pub table : SlotsPlaced B (cellOf (tieOf hold) B masks c first early late t) t u s
+  pub due : (i : ℕ) → i < k → at l i ≡ at first i - (at c i - at (reached hold B masks c s .needs) i)
+  pub levelled : Levelled levels (at (reached hold B masks c s .needs))
+  pub most : (i : ℕ) → i < 64 → at (reached hold B masks c s .needs) i ≤ top
+  pub ahead : (i : ℕ) → i < k → hasBit held i ≡ (hold && holds (reached hold B masks c s) i)
+
+-- Who goes first among equal ones, by a mask: where it has those who hold under `hold`, and nobody else, it is the order in force.
+tie-agrees : (hold : Bool) (s k : ℕ) (p q : ℕ → Bool) → ((i : ℕ) → i < k → p i ≡ (hold && q i))
+    → (j i : ℕ) → j < k → i < k → tieHold 0 p j i ≡ tieOf hold s q j i
+tie-agrees true s k p q same j i l m = hold-set 0 k p q same i j m l
+tie-agrees false s k p q same j i l m = rw (same j l, same i m) (place (ltb j i))
+  where
+    place : (b : Bool) → ltb 0 (0 + bit b) ≡ b
+    place true = refl
+    place false = refl
+
+held-bit : (hold : Bool) (m i : ℕ) → hasBit (cond hold m 0) i ≡ (hold && hasBit m i)
+held-bit true m i = refl
+held-bit false m i = hasBit-zero i
 
 -- the jobs of an array of which the first k count
-module _ (B : ℕ) (masks array first early late t : List ℕ) (k : ℕ) where
+module _ (hold : Bool) (B : ℕ) (masks array first early late t : List ℕ) (k : ℕ) where
+  abbrev ties : Ties
+  ties = tieOf hold
+
   abbrev c : List ℕ
   c = take k array
 
@@ -156,14 +179,15 @@ module _ (B : ℕ) (masks array first early late t : List ℕ) (k : ℕ) where
 
   -- before the first slot
   pub progress-none : (levels : List ℕ) (top : ℕ) → Levelled levels (at c) → ((i : ℕ) → i < k → at array i ≤ top)
-      → Progress B masks c first early late t k 0 t first levels top
-  unfolding left
+      → Progress hold B masks c first early late t k 0 t first levels top 0
+  unfolding atSlot
   progress-none levels top h most =
       record {
-        table = slots-none B (cellOf B masks c first early late t) t;
+        table = slots-none B (cellOf ties B masks c first early late t) t;
         due = λ i l. omega arith;
         levelled = h;
         most = λ i l. go i (is (ltb i k));
+        ahead = λ i l. hasBit-zero i ∙ sym (and-false hold);
       }
     where
       go : (i : ℕ) → Is (ltb i k) → at c i ≤ top
@@ -171,87 +195,97 @@ module _ (B : ℕ) (masks array first early late t : List ℕ) (k : ℕ) where
       go i (is-false e) = omega (arith, at-past c i (omega (arith, length-take k array, ge-of i k e)))
 
   -- One slot: the choice, the row, what is due after it and the levels, as the code's functions state them.
-  module _ (enough : k ≤ length array) (few : k ≤ 64) (s : ℕ) (u l levels : List ℕ) (top : ℕ)
-      (so-far : Progress B masks c first early late t k s u l levels top) (a : ℕ → Bool)
-      (choice : (i : ℕ) → i < 64 → a i ≡ chosen 64 (at (left c free s)) (free s) i) where
+  module _ (enough : k ≤ length array) (few : k ≤ 64) (s : ℕ) (u l levels : List ℕ) (top held : ℕ)
+      (so-far : Progress hold B masks c first early late t k s u l levels top held) (got : ℕ)
+      (picks : (i : ℕ) → i < 64 → hasBit got i ≡ chosen (tieHold 0 (hasBit held)) 64 (at (left ties nobody c free s)) (free s) i) where
     long : length c ≡ k
     long = length-take-le k array enough
 
-    chooses : (i : ℕ) → i < 64 → a i ≡ lrtf c free i s
+    many : length (left ties nobody c free s) ≡ k
+    many = left-length ties nobody c free s ∙ long
+
+    chooses : (i : ℕ) → i < 64 → hasBit got i ≡ lrtf ties nobody c free i s
     chooses i h =
-        choice i h
-        ∙ chosen-past (length c) 64 (at (left c free s)) (omega (arith, long, few))
-        (λ j m. at-past (left c free s) j (omega (arith, left-length c free s, m))) (free s) i
+        picks i h
+        ∙ chosen-past (tieHold 0 (hasBit held)) (ties s (holds (reached hold B masks c s))) (length (left ties nobody c free s)) 64 (at (left ties nobody c free s))
+        (omega (arith, many, few)) (at-past (left ties nobody c free s))
+        (λ j m p q. tie-agrees hold s k (hasBit held) (holds (reached hold B masks c s)) (so-far .ahead) j m (omega (arith, p, many)) (omega (arith, q, many))) (free s) i
 
-    after : (i : ℕ) → i < 64 → at (left c free s) i - bit (a i) ≡ at (left c free (s + 1)) i
-    after i h = rw (add-one s) (omega (arith, left-step c free i s, ap bit (chooses i h)))
+    after : (i : ℕ) → i < 64 → at (left ties nobody c free s) i - bit (hasBit got i) ≡ at (left ties nobody c free (s + 1)) i
+    after i h = rw (add-one s) (omega (arith, left-step ties nobody c free i s, ap bit (chooses i h)))
 
-    wrote : (i : ℕ) → i < length c → dueCells l early late i ≡ cellIn c free first early late i s
-    wrote i h = due-cell l early late i (at c i) (at (left c free s) i) (at first i) (so-far .due i (omega (arith, long, h)))
+    wrote : (i : ℕ) → i < length c → dueCells l early late i ≡ cellIn ties c free first early late i s
+    wrote i h = due-cell l early late i (at c i) (at (left ties nobody c free s) i) (at first i) (so-far .due i (omega (arith, long, h)))
 
-    pub progress-more : (v m levels′ : List ℕ) (top′ : ℕ) → ((i : ℕ) → i < 64 → at (left c free s) i ≤ top′)
-        → RowWritten u v (s * B) B (slotCell 64 a (hasBit (at masks s)) (dueCells l early late) (λ b. at u (s * B + b)))
-        → ((i : ℕ) → at m i ≡ at l i - bit (a i))
-        → Levelled levels′ (λ i. at (left c free s) i - bit (a i))
-        → Progress B masks c first early late t k (s + 1) v m levels′ top′
+    pub progress-more : (v m levels′ : List ℕ) (top′ : ℕ) → ((i : ℕ) → i < 64 → at (left ties nobody c free s) i ≤ top′)
+        → RowWritten u v (s * B) B (slotCell 64 (hasBit got) (hasBit (at masks s)) (dueCells l early late) (λ b. at u (s * B + b)))
+        → ((i : ℕ) → at m i ≡ at l i - bit (hasBit got i))
+        → Levelled levels′ (λ i. at (left ties nobody c free s) i - bit (hasBit got i))
+        → Progress hold B masks c first early late t k (s + 1) v m levels′ top′ (cond hold got 0)
     progress-more v m levels′ top′ most row rest moved =
         record {
           table =
-              slots-more B (cellOf B masks c first early late t) t u v s
-              (slotCell 64 a (hasBit (at masks s)) (dueCells l early late) (λ b. at u (s * B + b)))
+              slots-more B (cellOf ties B masks c first early late t) t u v s
+              (slotCell 64 (hasBit got) (hasBit (at masks s)) (dueCells l early late) (λ b. at u (s * B + b)))
               (so-far .table) row
-              (row-rule B masks c first early late t u s a (dueCells l early late) (omega (arith, long, few)) chooses wrote (so-far .table));
+              (row-rule ties B masks c first early late t u s (hasBit got) (dueCells l early late) (omega (arith, long, few)) chooses wrote (so-far .table));
           due = λ i h.
-              let step = left-step c free i s in
-              rw (add-one s) (omega (arith, rest i, so-far .due i h, step, left-got c free i s, ap bit (chooses i (omega (arith, h, few)))));
+              let step = left-step ties nobody c free i s in
+              rw (add-one s) (omega (arith, rest i, so-far .due i h, step, left-got ties nobody c free i s, ap bit (chooses i (omega (arith, h, few)))));
           levelled = λ q i p r j. moved q i p r j ∙ ap (λ (n : ℕ). eqb n q) (after i j);
           most = λ i h. omega (arith, after i h, most i h);
+          ahead = λ i h.
+              held-bit hold got i
+              ∙ ap (λ (x : Bool). hold && x)
+              (rw (add-one s) (chooses i (omega (arith, h, few)) ∙ sym (held-step ties nobody c free i s (omega (arith, h, long)))));
         }
 
-  -- a slot with no free bridge
-  pub progress-over : k ≤ length array → k ≤ 64 → (s : ℕ) (u l levels : List ℕ) (top top′ : ℕ) → Progress B masks c first early late t k s u l levels top
-      → at masks s ≡ 0 → ((i : ℕ) → i < 64 → at (left c free s) i ≤ top′) → Progress B masks c first early late t k (s + 1) u l levels top′
-  progress-over enough few s u l levels top top′ so-far empty most =
-      progress-more enough few s u l levels top so-far (λ i. false) nobody u l levels top′ most
-      (row-as-it-was u (s * B) _ B (λ b h. sym (rw (off b) refl))) (λ i. omega arith)
-      (λ q i p r j. so-far .levelled q i p r j ∙ ap (λ (n : ℕ). eqb n q) (omega arith))
+  -- a slot with no free bridge: nobody has a cell in it, so that nobody holds after it
+  pub progress-over : k ≤ length array → k ≤ 64 → (s : ℕ) (u l levels : List ℕ) (top held top′ : ℕ) → Progress hold B masks c first early late t k s u l levels top held
+      → at masks s ≡ 0 → ((i : ℕ) → i < 64 → at (left ties nobody c free s) i ≤ top′)
+      → Progress hold B masks c first early late t k (s + 1) u l levels top′ (cond hold 0 0)
+  progress-over enough few s u l levels top held top′ so-far empty most =
+      progress-more enough few s u l levels top held so-far 0 idle u l levels top′ most
+      (row-as-it-was u (s * B) _ B (λ b h. sym (rw (off b) refl))) (λ i. omega (arith, ap bit (hasBit-zero i)))
+      (λ q i p r j. so-far .levelled q i p r j ∙ ap (λ (n : ℕ). eqb n q) (omega (arith, ap bit (hasBit-zero i))))
     where
       off : (b : ℕ) → freeIn masks s b ≡ false
       off b = ap (λ (m : ℕ). hasBit m b) empty ∙ hasBit-zero b
 
-      nobody : (i : ℕ) → i < 64 → false ≡ chosen 64 (at (left c free s)) (free s) i
-      nobody i h =
-          sym (ap (λ (d : ℕ). chosen 64 (at (left c free s)) d i) (count-none B (λ b. freeIn masks s b) (λ b m. off b))
-          ∙ (rw (ltb-no (position 64 (before (at (left c free s))) i) 0 zero-le) (and-false (ltb 0 (at (left c free s) i)))))
+      idle : (i : ℕ) → i < 64 → hasBit 0 i ≡ chosen (tieHold 0 (hasBit held)) 64 (at (left ties nobody c free s)) (free s) i
+      idle i h =
+          hasBit-zero i
+          ∙ sym (ap (λ (d : ℕ). chosen (tieHold 0 (hasBit held)) 64 (at (left ties nobody c free s)) d i) (count-none B (λ b. freeIn masks s b) (λ b m. off b))
+          ∙ (rw (ltb-no (position 64 (goesFirst (tieHold 0 (hasBit held)) (at (left ties nobody c free s))) i) 0 zero-le) (and-false (ltb 0 (at (left ties nobody c free s) i)))))
 
   -- Nobody needs a cell any more, and the free ones of the slots from s on are empty: these are as they are to be.
-  module _ (s : ℕ) (u l levels : List ℕ) (top : ℕ) (so-far : Progress B masks c first early late t k s u l levels top) (few : k ≤ 64)
-      (none : (i : ℕ) → i < 64 → at (left c free s) i ≤ 0) where
-    now : (i : ℕ) → i < length c → at (left c free s) i ≡ 0
+  module _ (s : ℕ) (u l levels : List ℕ) (top held : ℕ) (so-far : Progress hold B masks c first early late t k s u l levels top held) (few : k ≤ 64)
+      (none : (i : ℕ) → i < 64 → at (left ties nobody c free s) i ≤ 0) where
+    now : (i : ℕ) → i < length c → at (left ties nobody c free s) i ≡ 0
     now i h = omega (arith, none i (omega (arith, h, few, length-take k array)))
 
-    idle : (i : ℕ) → i < length c → (q : ℕ) → s ≤ q → at (left c free q) i ≡ 0
+    idle : (i : ℕ) → i < length c → (q : ℕ) → s ≤ q → at (left ties nobody c free q) i ≡ 0
     idle i h zero m = let first : s ≡ 0 = omega arith in omega (arith, rw first at (now i h))
     idle i h (suc q) m = go (idle i h q) (is (eqb s (suc q)))
       where
-        go : (s ≤ q → at (left c free q) i ≡ 0) → Is (eqb s (suc q)) → at (left c free (suc q)) i ≡ 0
+        go : (s ≤ q → at (left ties nobody c free q) i ≡ 0) → Is (eqb s (suc q)) → at (left ties nobody c free (suc q)) i ≡ 0
         go ih (is-true e) = rw (eq-of s (suc q) e) at (now i h)
-        go ih (is-false e) = let ne : s ≡ suc q → ⊥ = ne-of s (suc q) e in omega (arith, left-step c free i q, ih (omega (arith, ne, m)))
+        go ih (is-false e) = let ne : s ≡ suc q → ⊥ = ne-of s (suc q) e in omega (arith, left-step ties nobody c free i q, ih (omega (arith, ne, m)))
 
-    as-it-was : (q b : ℕ) → s ≤ q → (freeIn masks q b ≡ true → at t (q * B + b) ≡ 0) → at t (q * B + b) ≡ cellOf B masks c first early late t q b
+    as-it-was : (q b : ℕ) → s ≤ q → (freeIn masks q b ≡ true → at t (q * B + b) ≡ 0) → at t (q * B + b) ≡ cellOf ties B masks c first early late t q b
     unfolding placing
     as-it-was q b m clean = go (is (freeIn masks q b))
       where
-        go : Is (freeIn masks q b) → at t (q * B + b) ≡ cellOf B masks c first early late t q b
+        go : Is (freeIn masks q b) → at t (q * B + b) ≡ cellOf ties B masks c first early late t q b
         go (is-true e) =
             clean e
-            ∙ sym (ap (λ (x : Bool). cond x (sum (length c) (λ i. only (takes (λ j. lrtf c free j q) (λ d. freeIn masks q d) i b) (cellIn c free first early late i q))) (at t (q * B + b))) e
-            ∙ sum-zero (length c) _ (λ i h. ap (λ (x : Bool). only x (cellIn c free first early late i q))
-            (takes-not-chosen (λ j. lrtf c free j q) (λ d. freeIn masks q d) i b (rw (idle i h q m) refl))))
+            ∙ sym (ap (λ (x : Bool). cond x (sum (length c) (λ i. only (takes (λ j. lrtf ties nobody c free j q) (λ d. freeIn masks q d) i b) (cellIn ties c free first early late i q))) (at t (q * B + b))) e
+            ∙ sum-zero (length c) _ (λ i h. ap (λ (x : Bool). only x (cellIn ties c free first early late i q))
+            (takes-not-chosen (λ j. lrtf ties nobody c free j q) (λ d. freeIn masks q d) i b (rw (idle i h q m) refl))))
         go (is-false e) = sym (rw e refl)
 
     pub progress-idle : (n : ℕ) → s ≤ n → ((q : ℕ) → s ≤ q → q < n → EmptyRow t (q * B) B (freeIn masks q))
-        → SlotsPlaced B (cellOf B masks c first early late t) t u n
+        → SlotsPlaced B (cellOf ties B masks c first early late t) t u n
     progress-idle n more clean =
         record {
           long = so-far .table .long;
@@ -259,7 +293,7 @@ module _ (B : ℕ) (masks array first early late t : List ℕ) (k : ℕ) where
           after = λ i h. so-far .table .after i (omega (arith, h, mul-le-mul-right {m = s} {n = n} B more));
         }
       where
-        go : (q b : ℕ) → q < n → b < B → Is (ltb q s) → at u (q * B + b) ≡ cellOf B masks c first early late t q b
+        go : (q b : ℕ) → q < n → b < B → Is (ltb q s) → at u (q * B + b) ≡ cellOf ties B masks c first early late t q b
         go q b h m (is-true e) = so-far .table .inside q b (lt-of q s e) m
         go q b h m (is-false e) =
             let past : s ≤ q = ge-of q s e in
@@ -303,12 +337,12 @@ module _ (slots bridges : ℕ) (needs : List ℕ) (k cells : ℕ) where
         λ i q. let m = le-of (at needs i) 64 (every-all k (λ j. leb (at needs j) 64) (right-of fewJobs lowNeeds both-of) i q) in omega (arith, m),
       )
 
-module _ (slots bridges : ℕ) (masks needs : List ℕ) (k : ℕ) (first early late t : List ℕ) where
+module _ (ties : Ties) (slots bridges : ℕ) (masks needs : List ℕ) (k : ℕ) (first early late t : List ℕ) where
   pub placed-within : placeable slots bridges needs k (length t) ≡ true
-      → placedWithin slots bridges masks needs k first early late t ≡ placedIn slots bridges masks (take k needs) first early late t
+      → placedWithin ties slots bridges masks needs k first early late t ≡ placedIn ties slots bridges masks (take k needs) first early late t
   unfolding placedWithin
   placed-within e = rw e refl
 
-  pub placed-beyond : placeable slots bridges needs k (length t) ≡ false → placedWithin slots bridges masks needs k first early late t ≡ t
+  pub placed-beyond : placeable slots bridges needs k (length t) ≡ false → placedWithin ties slots bridges masks needs k first early late t ≡ t
   unfolding placedWithin
   placed-beyond e = rw e refl

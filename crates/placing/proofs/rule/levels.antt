@@ -1,4 +1,5 @@
--- The choice of jobs in one slot; jobs by levels; levels gone through from the highest down.
+-- The choice of jobs in one slot; the first of a set, those that hold before the others; jobs by levels; levels gone through from the highest down.
 pub mod Choice
+pub mod FirstHeld
 pub mod ByLevel
 pub mod LevelsDone

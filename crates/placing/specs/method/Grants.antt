@@ -1,10 +1,10 @@
 -- What the functions that grant are held to: free bridges as masks, and what each preset gets. Document 01, "What is granted, and where it goes".
 -- Assumes nothing.
-use Prim.Native.Nat.{ℕ, zero, suc, _+_, _-_, _≤_, _<_, min, max}
+use Prim.Native.Nat.{ℕ, suc, _+_, _-_, _≤_, _<_, min, max}
 use mathlib.Core.Path.{_≡_}
 use mathlib.Core.Bool.{Bool, true, false, not, _&&_}
 use mathlib.Core.List.{List}
-use lib.ListN.{length, getD, set, replicate}
+use lib.ListN.{length, getD, replicate}
 use lib.Count.{ones}
 use lib.Dec.{ltb, leb}
 use Rattle.laws.specs.Sums.{bit, only, sum, count, every}

@@ -9,7 +9,7 @@ use lib.Bits.{bitAnd, bitXor}
 use lib.Dec.{ltb, leb, eqb}
 use Rattle.laws.specs.Sums.{bit, count, every}
 use Rattle.laws.specs.Lists.{at, tabulate}
-use Rattle.laws.specs.Placement.{chosen, left, lrtf}
+use Rattle.laws.specs.Placement.{Ties, tieHold, nobody, chosen, left, lrtf}
 use Rattle.station.specs.Limits.{mostLength}
 use Rattle.station.specs.Head.{hasBit}
 use Rattle.placing.specs.method.Limits.{mostPlaced, levelCount, sizesInLimits}
@@ -24,15 +24,19 @@ without a b = bitXor a (bitAnd a b)
 abbrev pub firstFew : (ℕ → Bool) → ℕ → ℕ → Bool
 firstFew f d i = f i && ltb (count i f) d
 
+-- the first d of those that pass a test, where those of p go before the others: "those with a cell in the slot just before come first, then file or call order"
+abbrev pub firstHeld : (ℕ → Bool) → (ℕ → Bool) → ℕ → ℕ → Bool
+firstHeld p f d i = f i && ltb (count mostPlaced (λ j. f j && tieHold 0 p j i)) d
+
 -- The jobs by levels, a mask a level: job i stands in level l if it still needs l slots. Jobs that need none stand nowhere.
 -- "those with the most slots still to get, never one with none left": whoever goes down the levels meets the jobs in that order.
 abbrev pub Levelled : List ℕ → (ℕ → ℕ) → Type 0
 Levelled t c = (l i : ℕ) → 0 < l → l < levelCount → i < mostPlaced → hasBit (at t l) i ≡ eqb (c i) l
 
--- One slot with d free cells: the mask r has the jobs that get one, of those with the needs c, and each of them stands one level lower in t.
+-- One slot with d free cells: the mask r has the jobs that get one, of those with the needs c, where of equal ones those of p go first; each of them stands one level lower in t.
 -- "as many presets as there are free bridges, those with the most slots still to get, never one with none left".
-pub record Served (t : List ℕ) (c : ℕ → ℕ) (d r : ℕ) : Type 0 where
-  pub picks : (i : ℕ) → i < mostPlaced → hasBit r i ≡ chosen mostPlaced c d i
+pub record Served (t : List ℕ) (c : ℕ → ℕ) (p : ℕ → Bool) (d r : ℕ) : Type 0 where
+  pub picks : (i : ℕ) → i < mostPlaced → hasBit r i ≡ chosen (tieHold 0 p) mostPlaced c d i
   pub levels : Levelled t (λ i. c i - bit (hasBit r i))
 
 -- What a job writes that needs `need` slots in all and `rest` of them still: `early` in its first `first` slots, `late` in the others.
@@ -64,8 +68,8 @@ abbrev pub freeIn : List ℕ → ℕ → ℕ → Bool
 freeIn masks s b = hasBit (at masks s) b
 
 -- what job i writes in slot s, where the jobs with the needs c go by LRTF into the free cells x
-abbrev pub cellIn : List ℕ → (ℕ → ℕ) → List ℕ → List ℕ → List ℕ → ℕ → ℕ → ℕ
-cellIn c x first early late i s = jobCell (at c i) (at (left c x s) i) (at first i) (at early i) (at late i)
+abbrev pub cellIn : Ties → List ℕ → (ℕ → ℕ) → List ℕ → List ℕ → List ℕ → ℕ → ℕ → ℕ
+cellIn ties c x first early late i s = jobCell (at c i) (at (left ties nobody c x s) i) (at first i) (at early i) (at late i)
 
 -- the cells of a lent table of so many bridges
 abbrev pub cellsIn : ℕ → List ℕ → Cells
@@ -76,10 +80,10 @@ abbrev pub CleanFrom : ℕ → ℕ → ℕ → List ℕ → List ℕ → Type 0
 CleanFrom clean slots bridges masks t = (s : ℕ) → clean ≤ s → s < slots → EmptyRow t (s * bridges) bridges (freeIn masks s)
 
 -- The lent table after jobs were placed: by the rule in the cells of the frame, and "Cells past S × B are never changed".
-unfoldable pub placedIn : ℕ → ℕ → List ℕ → List ℕ → List ℕ → List ℕ → List ℕ → List ℕ → List ℕ
-placedIn slots bridges masks c first early late t =
+unfoldable pub placedIn : Ties → ℕ → ℕ → List ℕ → List ℕ → List ℕ → List ℕ → List ℕ → List ℕ → List ℕ
+placedIn ties slots bridges masks c first early late t =
     tabulate (slots * bridges) (λ i.
-    placing (length c) (freeIn masks) (λ j s. lrtf c (freeCount bridges (freeIn masks)) j s) (cellIn c (freeCount bridges (freeIn masks)) first early late)
+    placing (length c) (freeIn masks) (λ j s. lrtf ties nobody c (freeCount bridges (freeIn masks)) j s) (cellIn ties c (freeCount bridges (freeIn masks)) first early late)
     (cellsIn bridges t) (i / bridges) (i % bridges))
     ++ drop (slots * bridges) t
 
@@ -88,6 +92,6 @@ unfoldable pub placeable : ℕ → ℕ → List ℕ → ℕ → ℕ → Bool
 placeable slots bridges needs k cells = leb k mostPlaced && every k (λ i. leb (at needs i) mostLength) && sizesInLimits slots bridges 0 cells
 
 -- The lent table after `place`, for the first k needs of an array: beyond the limits it is as it was.
-unfoldable pub placedWithin : ℕ → ℕ → List ℕ → List ℕ → ℕ → List ℕ → List ℕ → List ℕ → List ℕ → List ℕ
-placedWithin slots bridges masks needs k first early late t =
-    cond (placeable slots bridges needs k (length t)) (placedIn slots bridges masks (take k needs) first early late t) t
+unfoldable pub placedWithin : Ties → ℕ → ℕ → List ℕ → List ℕ → ℕ → List ℕ → List ℕ → List ℕ → List ℕ → List ℕ
+placedWithin ties slots bridges masks needs k first early late t =
+    cond (placeable slots bridges needs k (length t)) (placedIn ties slots bridges masks (take k needs) first early late t) t

@@ -11,7 +11,7 @@ use lib.Dec.{ltb, leb, eqb}
 use lib.Count as digits
 use Rattle.laws.specs.Sums.{sum, only, count, greatest, position}
 use Rattle.laws.specs.Lists.{at}
-use Rattle.laws.specs.Placement.{before, capacity, excess}
+use Rattle.laws.specs.Placement.{before, capacity}
 use Rattle.laws.specs.Eviction.{put, ones}
 use Rattle.station.specs.Limits.{mostSlots, mostBridges, mostPresets, leastCells}
 use Rattle.station.specs.Head.{Head, Job}

@@ -5,15 +5,15 @@ use crate::numbers::wide;
 use crate::rule::masks::without_lowest;
 use station::limits::MOST_LENGTH;
 ghost use mathlib.Core.Path.{_≡_};
-ghost use mathlib.Core.Bool.{_&&_};
-ghost use Prim.Native.Nat.{ℕ, _-_, _<_, _≤_, _^_};
+ghost use mathlib.Core.Bool.{_&&_, cond};
+ghost use Prim.Native.Nat.{ℕ, _-_, _<_, _≤_};
 ghost use lib.ListN.{length, replicate};
-ghost use lib.Count.{ones};
 ghost use lib.Dec.{ltb, eqb};
+ghost use Rattle.laws.specs.Sums.{count};
 ghost use Rattle.laws.specs.Lists.{at};
 ghost use Rattle.station.specs.Head.{hasBit};
 ghost use Rattle.placing.specs.method.Limits.{mostPlaced, levelCount};
-ghost use Rattle.placing.specs.method.Rule.{without, firstFew, Levelled, Served};
+ghost use Rattle.placing.specs.method.Rule.{without, firstFew, firstHeld, Levelled, Served};
 
 // How many levels there are: for those that still need 0 to as many slots as the longest job.
 pub(crate) const LEVELS: usize = MOST_LENGTH as usize + 1;
@@ -68,7 +68,7 @@ pub(crate) struct First {
 
 // The first d jobs of a mask, or all of it: "Equal ones: the earlier line first". The lowest bits go one by one, which costs less than to count them.
 fn first_of(mask: u64, d: u32) -> First
-    ensures { λ r. ⌜ (r .jobs < 2 ^ mostPlaced) × ((i : ℕ) → i < mostPlaced → hasBit (r .jobs) i ≡ firstFew (hasBit mask) d i) × (r .more ≡ d - ones (r .jobs)) ⌝ }
+    ensures { λ r. ⌜ ((i : ℕ) → i < mostPlaced → hasBit (r .jobs) i ≡ firstFew (hasBit mask) d i) × (r .more ≡ d - count mostPlaced (hasBit mask)) ⌝ }
 {
     let mut rest = mask;
     let mut more = d;
@@ -88,18 +88,31 @@ fn first_of(mask: u64, d: u32) -> First
     }
 }
 
-// The jobs that get one of d cells, where nobody stands above level `top`. Each of them moves to the level below; there it is passed over, since it has got a cell.
-pub(crate) fn choose(levels: &mut [u64; LEVELS], top: usize, d: u32) -> u64
+// The first d jobs of a mask, those that are held before the others, or all of it.
+fn first_held(mask: u64, held: u64, d: u32) -> First
+    ensures { λ r. ⌜ ((i : ℕ) → i < mostPlaced → hasBit (r .jobs) i ≡ firstHeld (hasBit held) (hasBit mask) d i) × (r .more ≡ d - count mostPlaced (hasBit mask)) ⌝ }
+{
+    let stay = first_of(mask & held, d);
+    let come = first_of(mask ^ (mask & held), stay.more);
+    First {
+        jobs: stay.jobs | come.jobs,
+        more: come.more,
+    }
+}
+
+// The jobs that get one of d cells, where nobody stands above level `top`; of those that need the same the held ones go first. Each of them moves to the level below; there it is passed
+// over, since it has got a cell.
+pub(crate) fn choose(levels: &mut [u64; LEVELS], top: usize, d: u32, held: u64) -> u64
     requires { ⌜ (top < levelCount) × (length (now levels) ≡ levelCount) ⌝ }
     ensures { λ r. ⌜ (length (now (levels .exit)) ≡ levelCount)
-        × ((c : ℕ → ℕ) → Levelled (now (levels .entry)) c → ((i : ℕ) → i < mostPlaced → c i ≤ top) → Served (now (levels .exit)) c d r) ⌝ }
+        × ((c : ℕ → ℕ) → Levelled (now (levels .entry)) c → ((i : ℕ) → i < mostPlaced → c i ≤ top) → Served (now (levels .exit)) c (hasBit held) d r) ⌝ }
 {
     let mut served: u64 = 0;
     let mut rest = d;
     let mut l = top;
     while 0 < l {
         let level = levels[l];
-        let first = first_of(level ^ (level & served), rest);
+        let first = first_held(level ^ (level & served), held, rest);
         let next = first.jobs;
         let below = l - 1;
         levels[l] = level ^ next;
@@ -112,4 +125,14 @@ pub(crate) fn choose(levels: &mut [u64; LEVELS], top: usize, d: u32) -> u64
         l = highest(&*levels, below, served);
     }
     served
+}
+
+// Who goes first among equal ones in the next slot: by `hold` the jobs that were chosen, and nobody else.
+pub(crate) fn held_after(chosen: u64, hold: bool) -> u64
+    ensures { λ r. ⌜ r ≡ cond hold chosen 0 ⌝ }
+{
+    if hold {
+        return chosen;
+    }
+    0
 }

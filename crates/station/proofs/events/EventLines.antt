@@ -14,8 +14,8 @@ use lib.Dec.{leb}
 use Rattle.laws.proofs.Tests.{Is, is, is-true, is-false, clash}
 use Rattle.laws.proofs.Comparisons.{le-of, gt-of, leb-no}
 use Rattle.station.specs.Text.{bytes}
-use Rattle.station.specs.Form.{CallJobs, Form, frameLine, busyLine, presetLine, clockLine, callLine, jobsOf, starts, word, made, readJobs, print}
-use Rattle.station.specs.Form.{frameIn, busyIn, presetIn, clockIn, callIn, form}
+use Rattle.station.specs.Form.{CallJobs, Form, frameLine, busyLine, presetLine, clockLine, callLine, tieLine, jobsOf, starts, word, _orElse_, made, readJobs, print}
+use Rattle.station.specs.Form.{frameIn, busyIn, presetIn, clockIn, callIn, tieIn, form}
 use Rattle.station.proofs.Form.{word-had, form-had}
 use Rattle.station.specs.declared.brackets.Jobs.{Jobs}
 use Rattle.station.specs.method.Bracket.{jobsRead}
@@ -25,10 +25,14 @@ use Rattle.station.specs.Jobs.{seen}
 
 -- ---- the first word of a call
 
+or-none : {A : Type 0} (o : Option A) → (o orElse none) ≡ o
+or-none none = refl
+or-none (some a) = refl
+
 -- the second or third byte tells it from the other forms
 pub call-form : (l : List ℕ) → starts (bytes "(call ") l ≡ true → form l ≡ made callLine (readJobs (drop 6 l))
-unfolding form frameIn busyIn presetIn clockIn callIn word starts bytes
-call-form l e = word-had (bytes "(call ") l (λ r. some r) (drop 6 l) (rw e refl) (λ r h q. rw h refl)
+unfolding form frameIn busyIn presetIn clockIn callIn tieIn word starts bytes
+call-form l e = word-had (bytes "(call ") l (λ r. some r) (drop 6 l) (rw e refl) (λ r h q. rw h (or-none (made callLine (readJobs r))))
 
 no-call : (l : List ℕ) (p : CallJobs) → starts (bytes "(call ") l ≡ false → form l ≡ some (callLine p) → ⊥
 unfolding print starts bytes
@@ -65,3 +69,4 @@ line-read hi l s = go (form l) refl
     go (some (presetLine p)) e = refl
     go (some (clockLine t)) e = refl
     go (some (callLine p)) e = absurd (no-call l p s e)
+    go (some (tieLine hold)) e = refl

@@ -1,11 +1,12 @@
 -- Laws of what the code makes of a line.
 --
--- In order: the first of two forms that is there (`read-first`, `read-second`); the five forms in two parts (`form-parts`); a busy line by its
--- stretches (`busy-none`, `busy-some`); a call by its jobs (`call-none`, `call-some`).
+-- In order: the first of two forms that is there (`read-first`, `read-second`); the six forms in two parts (`form-parts`); a busy line by its
+-- stretches (`busy-none`, `busy-some`); a call by its jobs (`call-none`, `call-some`);
+-- a tie line by its text (`tie-hold`, `tie-place`, `tie-none`).
 -- Assumes nothing.
 use Prim.Native.Nat.{ℕ}
 use mathlib.Core.Path.{_≡_, refl, sym, _∙_, ap}
-use mathlib.Core.Bool.{true, false}
+use mathlib.Core.Bool.{Bool, true, false}
 use mathlib.Core.Option.{Option, none, some}
 use mathlib.Core.List.{List}
 use Rattle.laws.proofs.Tests.{clash}
@@ -13,11 +14,14 @@ use Rattle.station.specs.declared.forms.Read.{Read}
 use Rattle.station.specs.declared.forms.Line.the-variants.{Busy, Call}
 use Rattle.station.specs.declared.brackets.BusyMask.{BusyMask}
 use Rattle.station.specs.declared.brackets.Jobs.{Jobs}
-use Rattle.station.specs.Form.{Pairs, CallJobs, Form, frameLine, busyLine, presetLine, clockLine, callLine, _orElse_, made}
-use Rattle.station.specs.Form.{frameIn, busyIn, presetIn, form}
+use Rattle.station.specs.Form.{Pairs, CallJobs, Form, frameLine, busyLine, presetLine, clockLine, callLine, tieLine, _orElse_, made}
+use Rattle.station.specs.Form.{frameIn, busyIn, presetIn, tieIn, form, word, whole}
 use Rattle.station.specs.Jobs.{noJobs, seen}
 use Rattle.station.specs.method.ReadLine.{readIn, hasForm, headForm, eventForm}
 use Rattle.station.specs.method.Bracket.{busyMaskIn, jobsRead}
+use Rattle.station.specs.method.Numeral.{closes}
+use Rattle.station.specs.Text.{bytes}
+use Rattle.station.proofs.numbers.Recognised.{ends-yes, ends-no}
 
 -- ---- the first of two forms that is there
 
@@ -28,6 +32,7 @@ module _ (hi : ℕ) where
   has-some (presetLine p) = refl
   has-some (clockLine t) = refl
   has-some (callLine p) = refl
+  has-some (tieLine hold) = refl
 
   pub read-first : (x y : Option Form) (r : Read) → r ≡ readIn hi x → hasForm (r .line) ≡ true → r ≡ readIn hi (x orElse y)
   read-first none y r e h = absurd (clash (sym h ∙ ap (λ (q : Read). hasForm (q .line)) e))
@@ -42,7 +47,7 @@ or-three none none z w = refl
 or-three none (some g) z w = refl
 or-three (some f) y z w = refl
 
--- the five forms in two parts
+-- the six forms in two parts
 pub form-parts : (l : List ℕ) → form l ≡ (headForm l orElse eventForm l)
 unfolding form
 form-parts l = or-three (frameIn l) (busyIn l) (presetIn l) (eventForm l)
@@ -69,3 +74,31 @@ pub call-some : (hi : ℕ) (o : Option CallJobs) (j : Jobs) → j ≡ jobsRead o
     → record { line = Call (j .count); jobs = j .jobs } ≡ readIn hi (made callLine o)
 call-some hi none j e h = absurd (clash (sym h ∙ ap (λ (x : Jobs). x .found) e))
 call-some hi (some p) j e h = rw e refl
+
+-- ---- a tie line by its text
+
+module _ (t : List ℕ) where
+  -- whether the line is `(tie hold)`, and whether it is `(tie place)`
+  abbrev is-hold : Bool
+  is-hold = closes (bytes "(tie hold)\n") t 0
+
+  abbrev is-place : Bool
+  is-place = closes (bytes "(tie place)\n") t 0
+
+  pub tie-hold : is-hold ≡ true → tieIn t ≡ some (tieLine true)
+  unfolding tieIn
+  tie-hold h =
+      let a : word (bytes "(tie hold)\n") t (whole (tieLine true)) ≡ some (tieLine true) = ends-yes t (bytes "(tie hold)\n") 0 (tieLine true) h in
+      rw a refl
+
+  not-hold : is-hold ≡ false → tieIn t ≡ word (bytes "(tie place)\n") t (whole (tieLine false))
+  unfolding tieIn
+  not-hold h =
+      let a : word (bytes "(tie hold)\n") t (whole (tieLine true)) ≡ none = ends-no t (bytes "(tie hold)\n") 0 (tieLine true) h in
+      rw a refl
+
+  pub tie-place : is-hold ≡ false → is-place ≡ true → tieIn t ≡ some (tieLine false)
+  tie-place h p = not-hold h ∙ ends-yes t (bytes "(tie place)\n") 0 (tieLine false) p
+
+  pub tie-none : is-hold ≡ false → is-place ≡ false → tieIn t ≡ none
+  tie-none h p = not-hold h ∙ ends-no t (bytes "(tie place)\n") 0 (tieLine false) p

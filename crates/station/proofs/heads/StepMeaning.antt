@@ -1,6 +1,6 @@
 -- One line more in the reading of a head: what the code's step means for `readFrom`.
 --
--- In order: stages (`leastBridge`); the state's bounds (`Kept`); what a step means for the lines that are left (`afterStep`); line 1 (`first-line`), a line after it
+-- In order: stages (`leastBridge`, `not-begun`); the state's bounds (`Kept`); what a step means for the lines that are left (`afterStep`); line 1 (`first-line`), a line after it
 -- (`next-line`), and both (`step-line`).
 -- Assumes nothing.
 use Prim.Native.Nat.{ℕ, suc, _+_, _-_, _≤_, _<_, min}
@@ -16,6 +16,8 @@ use lib.Dec.{leb}
 use Rattle.laws.proofs.Tests.{Is, is, is-true, is-false, clash, left-of, right-of}
 use Rattle.laws.proofs.Comparisons.{gt-of}
 use Rattle.station.specs.declared.types.Preset.{Preset}
+use Rattle.station.specs.declared.heads.steps.Stage as code
+use Rattle.station.specs.declared.heads.steps.Stage.the-variants.{Frame, Tie, Busy, Presets}
 use Rattle.station.specs.declared.heads.steps.State.{State}
 use Rattle.station.specs.declared.heads.steps.Verdict.{Verdict}
 use Rattle.station.specs.declared.heads.steps.Verdict.the-variants.{Goes, Ends, Fails}
@@ -23,14 +25,14 @@ use Rattle.station.specs.declared.heads.steps.Step.{Step}
 use Rattle.station.specs.Head as meant
 use Rattle.station.specs.Head.{presetOf, withBusy, withPresets, within, presetInLimits, hasNumber}
 use Rattle.station.specs.Refusal.{firstOf}
-use Rattle.station.specs.Form.{Pairs, Form, frameLine, busyLine, presetLine, clockLine, callLine}
+use Rattle.station.specs.Form.{Pairs, Form, frameLine, busyLine, presetLine, clockLine, callLine, tieLine}
 use Rattle.station.specs.Writing.{maskOf, ordered}
-use Rattle.station.specs.Reading.{Reading, accepted, refused, Stage, atFrame, atBusy, atPresets, begun, SoFar, busyMisplaced, tried, readFrom}
+use Rattle.station.specs.Reading.{Reading, accepted, refused, Stage, atFrame, atTie, atBusy, atPresets, begun, SoFar, busyMisplaced, tried, readFrom}
 use Rattle.station.specs.method.ReadLine.{lineIn}
 use Rattle.station.specs.Types.{refusalIn, presetIn, headIn}
 use Rattle.station.specs.ReadHead.{recordOf}
 use Rattle.station.specs.method.HeadStep.{stageIn, soFarIn, stepOf, stepWhere, firstStep, nextStep, afterFrame, afterBusy, afterPreset}
-use Rattle.station.specs.method.HeadStep.{frameStep, busyStep, presetStep}
+use Rattle.station.specs.method.HeadStep.{frameStep, tieStepAt, busyStep, presetStep}
 use Rattle.station.proofs.numbers.Decimals.{seen-leb, seen-within}
 use Rattle.station.proofs.ValidHead.{within-high, limits-of}
 use mathlib.Core.List.{map-append}
@@ -42,20 +44,22 @@ use Rattle.station.specs.Jobs.{seen}
 -- the least bridge that a busy line may have, where one may come
 abbrev pub leastBridge : Stage → ℕ
 leastBridge atFrame = 0
+leastBridge atTie = 0
 leastBridge (atBusy b) = b
 leastBridge atPresets = 0
 
 -- a bridge as it is read is as much out of its place
 seen-misplaced : (g : Stage) (b : ℕ) → leastBridge g ≤ 9 → busyMisplaced g (seen b) ≡ busyMisplaced g b
 seen-misplaced atFrame b h = refl
+seen-misplaced atTie b h = refl
 seen-misplaced (atBusy k) b h = seen-ltb b k (omega arith)
 seen-misplaced atPresets b h = refl
 
--- before the frame line every busy line is
-not-begun : (g : Stage) (b : ℕ) → begun g ≡ false → busyMisplaced g b ≡ true
-not-begun atFrame b e = refl
-not-begun (atBusy k) b e = absurd (clash e)
-not-begun atPresets b e = absurd (clash e)
+not-begun : (g : Stage) → begun g ≡ false → g ≡ atFrame
+not-begun atFrame e = refl
+not-begun atTie e = absurd (clash e)
+not-begun (atBusy k) e = absurd (clash e)
+not-begun atPresets e = absurd (clash e)
 
 -- ---- the state's bounds
 
@@ -127,10 +131,11 @@ module _ (old : List Preset) (s : State) (k : Kept old s) (n : ℕ) (ls : List (
     unfolding readFrom tried firstOf
     first-line hi none = record { reads = refl; kept = k }
     first-line hi (some (frameLine a b)) = frame-line a b
-    first-line hi (some (busyLine b p)) = record { reads = rw (not-begun (stageIn (s .stage)) b e) refl; kept = k }
+    first-line hi (some (busyLine b p)) = record { reads = rw (not-begun (stageIn (s .stage)) e) refl; kept = k }
     first-line hi (some (presetLine p)) = record { reads = rw e refl; kept = k }
     first-line hi (some (clockLine t)) = record { reads = rw e refl; kept = k }
     first-line hi (some (callLine p)) = record { reads = rw e refl; kept = k }
+    first-line hi (some (tieLine hold)) = record { reads = rw (not-begun (stageIn (s .stage)) e) refl; kept = k }
 
   -- ---- a line after line 1
 
@@ -309,6 +314,28 @@ module _ (old : List Preset) (s : State) (k : Kept old s) (n : ℕ) (ls : List (
         go (is-true e) (is-false u) (is-true c) = raw e (preset-over e u c)
         go (is-true e) (is-false u) (is-false c) = raw e (preset-fits e u c)
 
+  -- a tie line: directly after the frame line it is one of the head, anywhere else it ends it
+  tie-line : begun (stageIn (s .stage)) ≡ true → (stage : code.Stage) → s .stage ≡ stage → (hold : Bool)
+      → LineMeans old (soFarIn s) n (some (tieLine hold)) ls (tieStepAt stage s hold)
+  unfolding readFrom tried firstOf
+  tie-line g Frame e hold = absurd (clash (sym (rw e at g)))
+  tie-line g Tie e true = record {
+    reads = rw e refl;
+    kept =
+        record {
+          slots = k .slots;
+          bridges = k .bridges;
+          least = omega arith;
+          count = k .count;
+          records = k .records;
+          fresh = λ f. absurd (clash f);
+          past = k .past;
+        };
+  }
+  tie-line g Tie e false = record { reads = rw e refl; kept = k }
+  tie-line g (Busy b) e hold = record { reads = rw e refl; kept = k }
+  tie-line g Presets e hold = record { reads = rw e refl; kept = k }
+
   -- a line after line 1; an event's form ends the head
   pub next-line : begun (stageIn (s .stage)) ≡ true → (f : Option Form) → LineMeans old (soFarIn s) n f ls (nextStep s (lineIn (s .head .slots) f))
   unfolding readFrom tried firstOf
@@ -318,6 +345,7 @@ module _ (old : List Preset) (s : State) (k : Kept old s) (n : ℕ) (ls : List (
   next-line g (some (presetLine p)) = preset-line g p
   next-line g (some (clockLine t)) = record { reads = rw g refl; kept = k }
   next-line g (some (callLine p)) = record { reads = rw g refl; kept = k }
+  next-line g (some (tieLine hold)) = tie-line g (s .stage) refl hold
 
   -- ---- a line wherever it stands
 

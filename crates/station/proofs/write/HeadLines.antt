@@ -21,7 +21,7 @@ use Rattle.station.specs.Head.{Head}
 use Rattle.station.specs.Refusal.{Refusal, outOfLimits, tooShort, firstOf}
 use Rattle.station.specs.Text.{join}
 use Rattle.station.specs.Form.{Form, frameLine, presetLine, print}
-use Rattle.station.specs.Writing.{stretches, busyLineOf, busyLines, formsOf, textOf}
+use Rattle.station.specs.Writing.{stretches, busyLineOf, busyLines, tieLines, formsOf, textOf}
 use Rattle.station.specs.Types.{presetIn, noRecord, headIn, validRecord}
 use Rattle.station.specs.Wrote.{Wrote}
 use Rattle.station.specs.WriteHead.{written, writeCauses, answerOf, outputOf, writeAnswer, writeOutput, WroteHead}
@@ -48,10 +48,14 @@ pub preset-lines-step : (i n : ℕ) (ps : List Preset) → i < n → n ≤ lengt
     ≡ print (presetLine (presetIn (getD ps i noRecord))) ++ join (map print (map presetLine (map presetIn (drop (suc i) (take n ps)))))
 preset-lines-step i n ps h l = rw (records-step i n ps h l) refl
 
--- the text of a head: the frame line, the busy lines, the preset lines
-pub head-text : (h : Head) → textOf h ≡ print (frameLine (h .slots) (h .bridges)) ++ (join (map print (busyLines 1 (h .busy))) ++ join (map print (map presetLine (h .presets))))
+-- the text of a head: the frame line, the tie line, the busy lines, the preset lines
+pub head-text : (h : Head) → textOf h ≡ print (frameLine (h .slots) (h .bridges)) ++ (join (map print (tieLines (h .hold)))
+    ++ (join (map print (busyLines 1 (h .busy))) ++ join (map print (map presetLine (h .presets)))))
 unfolding textOf formsOf
-head-text h = ap (λ (l : List ℕ). print (frameLine (h .slots) (h .bridges)) ++ l) (text-append (busyLines 1 (h .busy)) (map presetLine (h .presets)))
+head-text h =
+    ap (λ (l : List ℕ). print (frameLine (h .slots) (h .bridges)) ++ l)
+    (text-append (tieLines (h .hold)) (busyLines 1 (h .busy) ++ map presetLine (h .presets))
+    ∙ ap (λ (l : List ℕ). join (map print (tieLines (h .hold))) ++ l) (text-append (busyLines 1 (h .busy)) (map presetLine (h .presets))))
 
 -- ---- the entry's answer and output, by the cause that holds
 

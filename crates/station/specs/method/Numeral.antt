@@ -1,7 +1,7 @@
 -- What the code makes of a number and of a word at a place. Document 01, "The station text": "Numbers are decimal, of any length, without
 -- leading zeros." A number is read into 32 bits that stop at 65,535, a value past every limit: it never wraps.
 -- Assumes nothing.
-use Prim.Native.Nat.{ℕ, _+_, min}
+use Prim.Native.Nat.{ℕ, _+_}
 use mathlib.Core.Bool.{Bool, true, false, _&&_}
 use mathlib.Core.List.{List, [], _∷_}
 use lib.ListN.{length, take, drop}

@@ -22,11 +22,12 @@ ghost use Rattle.station.specs.method.ReadLine.{lineIn};
 ghost use Rattle.station.specs.Reading.{begun, busyMisplaced};
 ghost use Rattle.station.specs.Types.{presetIn};
 ghost use Rattle.station.specs.ReadHead.{recordOf};
-ghost use Rattle.station.specs.method.HeadStep.{stageIn, stopped, frameStep, busyStep, presetStep, firstStep, nextStep, stepOf};
+ghost use Rattle.station.specs.method.HeadStep.{stageIn, stopped, frameStep, headTieStep, tieStep, busyStep, presetStep, firstStep, nextStep, stepOf};
 
-// How far a head was read: at the frame line; at the busy lines, the next with this bridge at the least; at the presets.
+// How far a head was read: at the frame line; directly after it, where the head's tie line stands; at the busy lines, the next with this bridge at the least; at the presets.
 pub(crate) enum Stage {
     Frame,
+    Tie,
     Busy(usize),
     Presets,
 }
@@ -57,6 +58,7 @@ pub(crate) fn has_begun(stage: Stage) -> bool
 {
     match stage {
         Stage::Frame => false,
+        Stage::Tie => true,
         Stage::Busy(_) => true,
         Stage::Presets => true,
     }
@@ -68,6 +70,7 @@ fn busy_misplaced(stage: Stage, bridge: usize) -> bool
 {
     match stage {
         Stage::Frame => true,
+        Stage::Tie => false,
         Stage::Busy(least) => bridge < least,
         Stage::Presets => true,
     }
@@ -150,13 +153,53 @@ fn frame_step(state: State, slots: u32, bridges: u32) -> Step
     head.bridges = bridges as usize;
     let presets = state.presets;
     let next = State {
-        stage: Stage::Busy(0),
+        stage: Stage::Tie,
         head,
         presets,
     };
     Step {
         verdict: Verdict::Goes,
         state: next,
+    }
+}
+
+// The head's tie line, directly after the frame line: place is out of its place there.
+fn tie_in_head(state: State, hold: bool) -> Step
+    ensures { λ r. ⌜ r ≡ headTieStep state hold ⌝ }
+{
+    if !hold {
+        return stop(state, Refusal::OutOfPlace);
+    }
+    let mut after = state.head;
+    after.hold = true;
+    let presets = state.presets;
+    let next = State {
+        stage: Stage::Busy(0),
+        head: after,
+        presets,
+    };
+    Step {
+        verdict: Verdict::Goes,
+        state: next,
+    }
+}
+
+// A tie line after the frame line: anywhere but directly after it, it ends the head before it, as an event does.
+fn tie_step(state: State, hold: bool) -> Step
+    ensures { λ r. ⌜ r ≡ tieStep state hold ⌝ }
+{
+    let stage = state.stage;
+    match stage {
+        Stage::Frame => stop(state, Refusal::OutOfPlace),
+        Stage::Tie => tie_in_head(state, hold),
+        Stage::Busy(_) => Step {
+            verdict: Verdict::Ends,
+            state,
+        },
+        Stage::Presets => Step {
+            verdict: Verdict::Ends,
+            state,
+        },
     }
 }
 
@@ -233,10 +276,11 @@ fn first_step(state: State, line: Line) -> Step
         Line::Preset(_, _, _, _) => stop(state, Refusal::OutOfPlace),
         Line::Clock(_) => stop(state, Refusal::OutOfPlace),
         Line::Call(_) => stop(state, Refusal::OutOfPlace),
+        Line::Tie(_) => stop(state, Refusal::OutOfPlace),
     }
 }
 
-// A line after line 1: an event ends the head before it.
+// A line after line 1: an event ends the head before it, and so does a tie line that is not the head's.
 fn next_step(state: State, line: Line) -> Step
     ensures { λ r. ⌜ r ≡ nextStep state line ⌝ }
 {
@@ -255,6 +299,7 @@ fn next_step(state: State, line: Line) -> Step
             verdict: Verdict::Ends,
             state,
         },
+        Line::Tie(hold) => tie_step(state, hold),
     }
 }
 

@@ -17,11 +17,11 @@ use Rattle.frame.proofs.event.event_by_value.Tie as tie
 -- no cause of the frame is met
 free : (c : tie.After-enum-told)
     → let a = c .before .before .before .before .before .before .args in
-    firstOf (frameCausesOf (a .head) (a .presets) (stateOf (a .table .now) (a .clock))) ≡ none
+    firstOf (frameCausesOf (a .head) (a .presets) (stateOf (a .table .now) (a .clock) (a .hold))) ≡ none
 free c =
     let f = c .before .before in
     let a = f .before .before .before .before .args in
-    frame-free (a .head) (a .presets) (stateOf (a .table .now) (a .clock)) (f .frame-cause .ensures) (c .enum-told .given .1)
+    frame-free (a .head) (a .presets) (stateOf (a .table .now) (a .clock) (a .hold)) (f .frame-cause .ensures (a .hold)) (c .enum-told .given .1)
 
 frame-cause-requires : tie.Need-frame-cause-requires
 frame-cause-requires c κs = search needs
@@ -37,8 +37,8 @@ returns c =
     let f = c .before .before .before in
     let a = f .before .before .before .before .args in
     let e = Event.line (a .line .now) in
-    let done = frame-refused (a .head) (a .presets) (stateOf (a .table .now) (a .clock)) e (c .before .r .given .0 .0) (f .frame-cause .ensures) (c .before .r .given .1) in
-    (done, (done-running (a .head) (a .presets) (stateOf (a .table .now) (a .clock)) e done, demand-3 (headIn (a .head) (a .presets)) (stateOf (a .table .now) (a .clock)) (e ∷ [])))
+    let done = frame-refused (a .head) (a .presets) (stateOf (a .table .now) (a .clock) (a .hold)) e (c .before .r .given .0 .0) (f .frame-cause .ensures (a .hold)) (c .before .r .given .1) in
+    (done, (done-running (a .head) (a .presets) (stateOf (a .table .now) (a .clock) (a .hold)) e done, demand-3 (headIn (a .head) (a .presets)) (stateOf (a .table .now) (a .clock) (a .hold)) (e ∷ [])))
 
 enum-told : tie.Need-enum-told
 enum-told c = search needs
@@ -58,10 +58,10 @@ returns-2 c =
     let n = k .before .before in
     let a = n .before .before .before .before .before .before .args in
     let e = Event.line (a .line .now) in
-    let run = frame-running (a .head) (a .presets) (stateOf (a .table .now) (a .clock)) (free n) in
-    let done = event-done (a .head) (a .presets) (stateOf (a .table .now) (a .clock)) e (free n)
-    (line-done (a .head) (a .presets) (stateOf (a .table .now) (a .clock)) (free n) (a .line .now) (c .before .before .event-by-counts .ensures (run .0) (run .1) (k .counts-of .ensures (run .0) (run .1 .long)) .0)) in
-    (done, (done-running (a .head) (a .presets) (stateOf (a .table .now) (a .clock)) e done, demand-3 (headIn (a .head) (a .presets)) (stateOf (a .table .now) (a .clock)) (e ∷ [])))
+    let run = frame-running (a .head) (a .presets) (stateOf (a .table .now) (a .clock) (a .hold)) (free n) in
+    let done = event-done (a .head) (a .presets) (stateOf (a .table .now) (a .clock) (a .hold)) e (free n)
+    (line-done (a .head) (a .presets) (stateOf (a .table .now) (a .clock) (a .hold)) (free n) (a .line .now) (c .before .before .event-by-counts .ensures (run .0) (run .1) (k .counts-of .ensures (run .0) (run .1 .long)) .0)) in
+    (done, (done-running (a .head) (a .presets) (stateOf (a .table .now) (a .clock) (a .hold)) e done, demand-3 (headIn (a .head) (a .presets)) (stateOf (a .table .now) (a .clock) (a .hold)) (e ∷ [])))
 
 pub event-by-value-spec : {M : Type 1} → statement M
 event-by-value-spec =

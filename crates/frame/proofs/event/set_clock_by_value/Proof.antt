@@ -19,9 +19,9 @@ returns : tie.Need-returns
 returns c =
     let f = c .before .before .before in
     let a = f .before .before .args in
-    let st = stateOf (a .table .now) (a .clock) in
+    let st = stateOf (a .table .now) (a .clock) (a .hold) in
     let e = Event.clock (a .t) in
-    let done = frame-refused (a .head) (a .presets) st e (c .before .r .given .0 .0) (f .frame-cause .ensures) (c .before .r .given .1) in
+    let done = frame-refused (a .head) (a .presets) st e (c .before .r .given .0 .0) (f .frame-cause .ensures (a .hold)) (c .before .r .given .1) in
     (done, (done-running (a .head) (a .presets) st e done, demand-3 (headIn (a .head) (a .presets)) st (e ∷ [])))
 
 enum-told : tie.Need-enum-told
@@ -34,9 +34,9 @@ returns-2 : tie.Need-returns-2
 returns-2 c =
     let f = c .before .before .before in
     let a = f .before .before .args in
-    let st = stateOf (a .table .now) (a .clock) in
+    let st = stateOf (a .table .now) (a .clock) (a .hold) in
     let e = Event.clock (a .t) in
-    let free = frame-free (a .head) (a .presets) st (f .frame-cause .ensures) (c .before .enum-told .given .1) in
+    let free = frame-free (a .head) (a .presets) st (f .frame-cause .ensures (a .hold)) (c .before .enum-told .given .1) in
     let done = event-done (a .head) (a .presets) st e free (clock-done (a .head) (a .presets) st free (a .t) (c .asked-clock .ensures)) in
     (done, (done-running (a .head) (a .presets) st e done, demand-3 (headIn (a .head) (a .presets)) st (e ∷ [])))
 

@@ -14,8 +14,10 @@ use Rattle.frame.proofs.listing.slot_counted.Statement.{statement}
 use Rattle.frame.proofs.listing.slot_counted.Tie as tie
 
 -- no cause of the frame is met
-free : (c : tie.After-enum-told) → let a = c .before .before .before .before .before .before .before .args in none ≡ firstOf (frameCausesOf (a .head) (a .copied) (startOf (now (a .table))))
-free c = sym (ap causeIn (c .enum-told .given .1)) ∙ c .before .before .frame-cause .ensures
+free : (c : tie.After-enum-told) → let a = c .before .before .before .before .before .before .before .args in none ≡ firstOf (frameCausesOf (a .head) (a .copied) (startOf (headIn (a .head) (a .copied)) (now (a .table))))
+free c =
+    let f = c .before .before in
+    sym (ap causeIn (c .enum-told .given .1)) ∙ f .frame-cause .ensures (f .before .before .before .before .before .args .head .hold)
 
 returns : tie.Need-returns
 returns c = let a = c .before .before .before .args in line-short _ (slotLine (headIn (a .head) (a .copied)) (now (a .table)) (a .slot - 1)) (now (a .out)) (c .if1 .taken)
@@ -37,7 +39,7 @@ returns-3 c =
     let i = f .before in
     let a = i .before .before .before .before .args in
     slot-stopped (a .records) (a .head) (a .copied) (now (a .table)) (a .slot) (now (a .out)) (i .before .if1 .left) (i .if2 .left) (c .before .r .given .0 .0)
-    (sym (ap causeIn (c .before .r .given .1)) ∙ f .frame-cause .ensures)
+    (sym (ap causeIn (c .before .r .given .1)) ∙ f .frame-cause .ensures (a .head .hold))
 
 enum-told : tie.Need-enum-told
 enum-told c = search needs

@@ -21,7 +21,7 @@ returns : tie.Need-returns
 returns c =
     let p = c .before .before .before .before .before .before .before in
     let s = p .before .before .before .before .before in
-    run-refused (s .pre) (p .plan-by-value .ensures .0) (s .args .clock) (s .args .out .now) (c .before .before .answer .given .1) (c .refused .ensures)
+    run-refused (s .pre) (p .plan-by-value .ensures .0) (s .args .clock) (s .args .hold) (s .args .out .now) (c .before .before .answer .given .1) (c .refused .ensures)
 
 enum-told : tie.Need-enum-told
 enum-told c = search needs
@@ -52,7 +52,7 @@ returns-2 c =
     let e = w .before .before in
     let p = e .before .before .before .before .before in
     let s = p .before .before .before .before .before in
-    run-done (s .pre) (p .plan-by-value .ensures .0) (e .enum-told .given .1) (s .args .clock) (w .granted-lines .ensures) (r .run-lines .ensures) (d .slot-lines .ensures) refl
+    run-done (s .pre) (p .plan-by-value .ensures .0) (e .enum-told .given .1) (s .args .clock) (s .args .hold) (w .granted-lines .ensures) (r .run-lines .ensures) (d .slot-lines .ensures) refl
 
 pub run-head-spec : {M : Type 1} → statement M
 run-head-spec =

@@ -23,8 +23,8 @@ returns : tie.Need-returns
 returns c =
     let k = c .before .before .before in
     let a = k .before .before .before .args in
-    let st = stateOf (a .table .now) (a .clock) in
-    let done = frame-refused (a .head) (a .presets) (callJobs (a .n) (a .jobs)) st (c .before .r .given .0 .0) (k .frame-cause .ensures) (c .before .r .given .1) in
+    let st = stateOf (a .table .now) (a .clock) (a .hold) in
+    let done = frame-refused (a .head) (a .presets) (callJobs (a .n) (a .jobs)) st (c .before .r .given .0 .0) (k .frame-cause .ensures (a .hold)) (c .before .r .given .1) in
     (done, (done-running (a .head) (a .presets) (callJobs (a .n) (a .jobs)) st done, call-claim (headIn (a .head) (a .presets)) (callJobs (a .n) (a .jobs)) st))
 
 enum-told : tie.Need-enum-told
@@ -46,8 +46,8 @@ returns-2 c =
     let e = n .before .before in
     let k = e .before .before in
     let a = k .before .before .before .args in
-    let st = stateOf (a .table .now) (a .clock) in
-    let run = frame-running (a .head) (a .presets) st (sym (k .frame-cause .ensures) ∙ ap causeIn (e .enum-told .given .1)) in
+    let st = stateOf (a .table .now) (a .clock) (a .hold) in
+    let run = frame-running (a .head) (a .presets) st (sym (k .frame-cause .ensures (a .hold)) ∙ ap causeIn (e .enum-told .given .1)) in
     let done = o .call-by-counts .ensures (run .0) (run .1) (n .counts-of .ensures (run .0) (run .1 .long)) .0 in
     (done, (done-running (a .head) (a .presets) (callJobs (a .n) (a .jobs)) st done, call-claim (headIn (a .head) (a .presets)) (callJobs (a .n) (a .jobs)) st))
 

@@ -43,7 +43,7 @@ returns : tie.Need-returns
 returns c =
     λ v long few inside.
     let a = c .before .before .before .before .before .before .args in
-    carried-refused (headIn (a .head) (a .presets)) (jobsIn (a .n) (a .jobs)) (stateOf (a .table .now) (a .clock))
+    carried-refused (headIn (a .head) (a .presets)) (jobsIn (a .n) (a .jobs)) (stateOf (a .table .now) (a .clock) (a .hold))
     (sym (searched (c .before .before) v long few inside .fits) ∙ false-of-not _ (c .if1 .taken))
 
 job-cells-requires : tie.Need-job-cells-requires
@@ -70,7 +70,7 @@ returns-2 c =
     let a = s .args in
     let h = headIn (a .head) (a .presets) in
     let valid = record-valid (a .head) (a .presets) v in
-    carried-taken h (jobsIn (a .n) (a .jobs)) (stateOf (a .table .now) (a .clock)) (e .evict .result) (searched e v long few inside) (true-of-not _ (f .if1 .left))
+    carried-taken h (jobsIn (a .n) (a .jobs)) (stateOf (a .table .now) (a .clock) (a .hold)) (e .evict .result) (searched e v long few inside) (true-of-not _ (f .if1 .left))
     (e .before .before .job-needs .result) (a .n) (k .job-cells .result)
     (is-placeable (h .slots) (h .bridges) (e .before .before .job-needs .result) (a .n) (length (a .table .now)) (valid .slots-high) (valid .bridges-high) (omega (arith, few)) long
     (needs-low (a .jobs) (omega (arith, s)) (a .n) few inside (e .before .before .job-needs .result) (e .before .before .job-needs .ensures (a .n) few inside)))

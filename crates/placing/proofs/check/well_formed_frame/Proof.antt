@@ -13,7 +13,7 @@ well-formed-requires : tie.Need-well-formed-requires
 well-formed-requires c κs = search needs
 
 returns : tie.Need-returns
-returns c =
+returns c hold =
     let k = c .before in
     let a = k .before .before .args in
     let h = headIn (a .head) (a .presets) in
@@ -23,7 +23,7 @@ clock-in-requires : tie.Need-clock-in-requires
 clock-in-requires c κs = search needs
 
 returns-2 : tie.Need-returns-2
-returns-2 c =
+returns-2 c hold =
     let k = c .before .before in
     ap₂ (λ (x y : Bool). x && y) (sym (true-of-not _ (c .before .if1 .left)) ∙ k .well-formed .ensures) (c .clock-in .ensures)
 

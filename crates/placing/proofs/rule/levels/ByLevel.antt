@@ -1,25 +1,25 @@
--- Laws of the jobs by levels: those that need most come first, and of those that need the same the earlier ones.
+-- Laws of the jobs by levels: those that need most come first, and of those that need the same whom the order of ties puts first.
 --
 -- In order: a job's position by levels (`position-levels`), and whether it is chosen, by its level (`chosen-level`, `chosen-below`); the jobs put into
 -- their levels one by one (`standing-..`); levels in which nobody stands (`nobody`, `most-of`, `empty-more`); jobs that move to the level below
 -- (`levelled-moved`).
 -- Assumes nothing.
-use Prim.Native.Nat.{ℕ, zero, suc, _+_, _-_, _^_, _≤_, _<_}
+use Prim.Native.Nat.{ℕ, _+_, _-_, _^_, _≤_, _<_}
 use native.Mathlib.Omega.{arith}
 use mathlib.Core.Path.{_≡_, refl, sym, _∙_, ap, ap₂}
-use mathlib.Core.Bool.{Bool, true, false, not, _&&_, _||_, cond, and-true, and-false, or-false, or-true}
+use mathlib.Core.Bool.{Bool, true, false, not, _&&_, _||_, cond, and-false, or-false, or-true}
 use mathlib.Core.List.{List}
 use lib.ListN.{length, set, take, replicate, length-set, length-take}
 use lib.Seq.{getD-set-same, getD-set-other, getD-take}
 use lib.Bits.{bitOr, bitXor}
 use lib.Dec.{ltb, eqb}
-use Rattle.laws.specs.Sums.{bit, sum, count, position}
+use Rattle.laws.specs.Sums.{bit, count, position}
 use Rattle.laws.specs.Lists.{at}
-use Rattle.laws.specs.Placement.{before, chosen}
+use Rattle.laws.specs.Placement.{goesFirst, chosen}
 use Rattle.laws.proofs.Tests.{Is, is-true, is-false, is, clash, not-true, both, right-of}
 use Rattle.laws.proofs.Comparisons.{lt-of, ge-of, eq-of, ne-of, ltb-yes, ltb-no, eqb-yes, eqb-no, ltb-iff, ltb-next}
 use Rattle.laws.proofs.Sums.{sum-ext, sum-add}
-use Rattle.laws.proofs.Counts.{bit-le, bit-ltb, count-ext, count-imp}
+use Rattle.laws.proofs.Counts.{bit-le, bit-ltb, count-imp}
 use Rattle.laws.proofs.Lists.{at-past}
 use Rattle.laws.proofs.Stores.{zeros}
 use Rattle.station.specs.Head.{hasBit}
@@ -30,58 +30,42 @@ use Rattle.placing.proofs.rule.levels.Choice.{chosen-by-position}
 
 -- ---- a job's position by levels
 
--- those below i among those below n
-count-part : (n : ℕ) (p : ℕ → Bool) (i : ℕ) → i ≤ n → count n (λ j. p j && ltb j i) ≡ count i p
-unfolding sum
-count-part zero p i h = let z : i ≡ 0 = omega arith in rw z refl
-count-part (suc n) p i h = go (count-part n p i) (is (ltb n i))
-  where
-    go : (i ≤ n → count n (λ j. p j && ltb j i) ≡ count i p) → Is (ltb n i) → count (suc n) (λ j. p j && ltb j i) ≡ count i p
-    go ih (is-true e) =
-        let same : i ≡ suc n = omega (arith, lt-of n i e) in
-        rw same (count-ext (suc n) (λ j. p j && ltb j (suc n)) p (λ j l. rw (ltb-yes j (suc n) l) (and-true (p j))))
-    go ih (is-false e) = rw (e, and-false (p n)) (omega (arith, ih (omega (arith, ge-of n i e))))
-
-module _ (n : ℕ) (c : ℕ → ℕ) (i : ℕ) where
-  split : (j : ℕ) → bit (before c j i) ≡ bit (ltb (c i) (c j)) + bit (eqb (c j) (c i) && ltb j i)
-  split j = go (is (eqb (c j) (c i))) (is (ltb j i))
+module _ (r : ℕ → ℕ → Bool) (n : ℕ) (c : ℕ → ℕ) (i : ℕ) where
+  split : (j : ℕ) → bit (goesFirst r c j i) ≡ bit (ltb (c i) (c j)) + bit (eqb (c j) (c i) && r j i)
+  split j = go (is (eqb (c j) (c i))) (is (r j i))
     where
-      go : Is (eqb (c j) (c i)) → Is (ltb j i) → bit (before c j i) ≡ bit (ltb (c i) (c j)) + bit (eqb (c j) (c i) && ltb j i)
+      go : Is (eqb (c j) (c i)) → Is (r j i) → bit (goesFirst r c j i) ≡ bit (ltb (c i) (c j)) + bit (eqb (c j) (c i) && r j i)
       go (is-true p) (is-true q) = rw (p, q) (omega (arith, eq-of (c j) (c i) p, bit-ltb (c i) (c j + 1), bit-ltb (c i) (c j)))
       go (is-true p) (is-false q) = rw (p, q) (omega (arith, bit-ltb (c i) (c j + 0), bit-ltb (c i) (c j)))
       go (is-false p) q =
           let ne : c j ≡ c i → ⊥ = ne-of (c j) (c i) p in
-          rw p (omega (arith, ne, bit-le (ltb j i), bit-ltb (c i) (c j + bit (ltb j i)), bit-ltb (c i) (c j)))
+          rw p (omega (arith, ne, bit-le (r j i), bit-ltb (c i) (c j + bit (r j i)), bit-ltb (c i) (c j)))
 
-  -- those of the levels above, and the earlier ones of the same
-  position-levels : i ≤ n → position n (before c) i ≡ count n (λ j. ltb (c i) (c j)) + count i (λ j. eqb (c j) (c i))
-  position-levels h =
-      omega (
-        arith,
-        sum-ext n (λ j. bit (before c j i)) (λ j. bit (ltb (c i) (c j)) + bit (eqb (c j) (c i) && ltb j i)) (λ j l. split j),
-        sum-add n (λ j. bit (ltb (c i) (c j))) (λ j. bit (eqb (c j) (c i) && ltb j i)),
-        count-part n (λ j. eqb (c j) (c i)) i h,
-      )
+  -- those of the levels above, and those of the same that the order of ties puts first
+  position-levels : position n (goesFirst r c) i ≡ count n (λ j. ltb (c i) (c j)) + count n (λ j. eqb (c j) (c i) && r j i)
+  position-levels =
+      sum-ext n (λ j. bit (goesFirst r c j i)) (λ j. bit (ltb (c i) (c j)) + bit (eqb (c j) (c i) && r j i)) (λ j l. split j)
+      ∙ sum-add n (λ j. bit (ltb (c i) (c j))) (λ j. bit (eqb (c j) (c i) && r j i))
 
-  module _ (d : ℕ) (h : i < n) where
-    -- a job of level l gets a cell if fewer of its level are earlier than the levels above leave cells
-    pub chosen-level : (l : ℕ) → 0 < l → c i ≡ l → ltb (count i (λ j. eqb (c j) l)) (d - count n (λ j. ltb l (c j))) ≡ chosen n c d i
+  module _ (d : ℕ) where
+    -- a job of level l gets a cell if fewer of its level go first than the levels above leave cells
+    pub chosen-level : (l : ℕ) → 0 < l → c i ≡ l → ltb (count n (λ j. eqb (c j) l && r j i)) (d - count n (λ j. ltb l (c j))) ≡ chosen r n c d i
     chosen-level l some e =
-        let p = position-levels (omega arith) in
+        let p = position-levels in
         rw (sym e)
-        (ltb-iff (count i (λ j. eqb (c j) (c i))) (d - count n (λ j. ltb (c i) (c j))) (position n (before c) i) d
+        (ltb-iff (count n (λ j. eqb (c j) (c i) && r j i)) (d - count n (λ j. ltb (c i) (c j))) (position n (goesFirst r c) i) d
         (λ q. omega (arith, p, q)) (λ q. omega (arith, p, q))
-        ∙ chosen-by-position n c d i (λ z. omega (arith, z, e, some)))
+        ∙ chosen-by-position r n c d i (λ z. omega (arith, z, e, some)))
 
     -- a job of no higher level than l gets none if the levels above l leave none
-    pub chosen-below : (l : ℕ) → c i ≤ l → d ≤ count n (λ j. ltb l (c j)) → chosen n c d i ≡ false
+    pub chosen-below : (l : ℕ) → c i ≤ l → d ≤ count n (λ j. ltb l (c j)) → chosen r n c d i ≡ false
     chosen-below l low full =
-        not-true (chosen n c d i) (λ e.
+        not-true (chosen r n c d i) (λ e.
         omega (
           arith,
           full,
-          lt-of (position n (before c) i) d (right-of (ltb 0 (c i)) (ltb (position n (before c) i) d) e),
-          position-levels (omega arith),
+          lt-of (position n (goesFirst r c) i) d (right-of (ltb 0 (c i)) (ltb (position n (goesFirst r c) i) d) e),
+          position-levels,
           count-imp n (λ j. ltb l (c j)) (λ j. ltb (c i) (c j)) (λ j m t. ltb-yes (c i) (c j) (omega (arith, low, lt-of l (c j) t))),
         ))
 

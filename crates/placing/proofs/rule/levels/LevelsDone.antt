@@ -2,7 +2,7 @@
 --
 -- In order: what it means that the levels above one are done (`Gone`); none is done, those in which nobody stands, one more, all (`gone-..`).
 -- Assumes nothing.
-use Prim.Native.Nat.{ℕ, _+_, _-_, _^_, _≤_, _<_, min}
+use Prim.Native.Nat.{ℕ, _+_, _-_, _≤_, _<_}
 use native.Mathlib.Nat.{add-zero}
 use native.Mathlib.Omega.{arith}
 use mathlib.Core.Path.{_≡_, refl, sym, _∙_, ap, ap₂}
@@ -11,7 +11,6 @@ use mathlib.Core.Bool.{Bool, true, false, not, _&&_, _||_, and-true, and-false, 
 use mathlib.Core.List.{List}
 use lib.ListN.{length}
 use lib.Bits.{bitOr}
-use lib.Count.{ones}
 use lib.Dec.{ltb, eqb}
 use Rattle.laws.specs.Sums.{bit, count}
 use Rattle.laws.specs.Lists.{at}
@@ -21,9 +20,9 @@ use Rattle.laws.proofs.Comparisons.{lt-of, ge-of, eq-of, ne-of, ltb-yes, ltb-no
 use Rattle.laws.proofs.Sums.{sum-ext, sum-add}
 use Rattle.laws.proofs.Counts.{bit-ltb, count-ext, count-none}
 use Rattle.station.specs.Head.{hasBit}
-use Rattle.placing.specs.method.Rule.{without, firstFew, Levelled}
+use Rattle.placing.specs.method.Rule.{without, Levelled}
 use Rattle.placing.proofs.MaskBits.{hasBit-zero}
-use Rattle.placing.proofs.rule.masks.Sets.{hasBit-or, hasBit-without, first-count}
+use Rattle.placing.proofs.rule.masks.Sets.{hasBit-or, hasBit-without}
 use Rattle.placing.proofs.rule.levels.ByLevel.{chosen-level, chosen-below, nobody, moved, levelled-moved}
 
 -- above l - 1 is above l, or at l
@@ -44,37 +43,37 @@ module _ (l x : ℕ) (some : 0 < l) where
       go (is-true e) = rw e (omega (arith, eq-of x l e, bit-ltb (l - 1) x, bit-ltb l x))
       go (is-false e) = sym (ap bit level-or) ∙ (rw e (ap bit (or-false (ltb l x)) ∙ sym (add-zero (bit (ltb l x)))))
 
--- Of the jobs with the needs c, which go for d cells, those above level l have been served: t has the needs that are left by levels, r the jobs that got
+-- Of the jobs with the needs c, which go for d cells under an order of ties, those above level l have been served: t has the needs that are left by levels, r the jobs that got
 -- a cell, and `rest` cells are left.
-pub record Gone (c : ℕ → ℕ) (d : ℕ) (t : List ℕ) (l rest r : ℕ) : Type 0 where
+pub record Gone (tie : ℕ → ℕ → Bool) (c : ℕ → ℕ) (d : ℕ) (t : List ℕ) (l rest r : ℕ) : Type 0 where
   pub levels : Levelled t (λ i. c i - bit (hasBit r i))
-  pub picked : (i : ℕ) → i < 64 → hasBit r i ≡ (ltb l (c i) && chosen 64 c d i)
+  pub picked : (i : ℕ) → i < 64 → hasBit r i ≡ (ltb l (c i) && chosen tie 64 c d i)
   pub cells : rest ≡ d - count 64 (λ j. ltb l (c j))
 
 -- no level: nobody stands above `top`
-pub gone-none : (c : ℕ → ℕ) (d : ℕ) (t : List ℕ) (top : ℕ) → Levelled t c → ((i : ℕ) → i < 64 → c i ≤ top) → Gone c d t top d 0
-gone-none c d t top h most =
+pub gone-none : (tie : ℕ → ℕ → Bool) (c : ℕ → ℕ) (d : ℕ) (t : List ℕ) (top : ℕ) → Levelled t c → ((i : ℕ) → i < 64 → c i ≤ top) → Gone tie c d t top d 0
+gone-none tie c d t top h most =
     record {
       levels = λ l i p q m. h l i p q m ∙ ap (λ (n : ℕ). eqb n l) (omega (arith, ap bit (hasBit-zero i)));
       picked = λ i m. hasBit-zero i ∙ sym (rw (ltb-no top (c i) (most i m)) refl);
       cells = omega (arith, count-none 64 (λ j. ltb top (c j)) (λ j m. ltb-no top (c j) (most j m)));
     }
 
-module _ (c : ℕ → ℕ) (d : ℕ) (t : List ℕ) (l rest r : ℕ) (high : l < 65) (so-far : Gone c d t l rest r) where
+module _ (tie : ℕ → ℕ → Bool) (c : ℕ → ℕ) (d : ℕ) (t : List ℕ) (l rest r : ℕ) (high : l < 65) (so-far : Gone tie c d t l rest r) where
   -- whoever got a cell stood above l
   above : (i : ℕ) → i < 64 → hasBit r i ≡ true → l < c i
-  above i m e = lt-of l (c i) (left-of (ltb l (c i)) (chosen 64 c d i) (sym (so-far .picked i m) ∙ e))
+  above i m e = lt-of l (c i) (left-of (ltb l (c i)) (chosen tie 64 c d i) (sym (so-far .picked i m) ∙ e))
 
   -- whoever needs no more than l got none, and stands where it stood
   still : (i : ℕ) → i < 64 → c i ≤ l → hasBit r i ≡ false
   still i m low = not-true (hasBit r i) (λ e. omega (arith, low, above i m e))
 
   -- nobody that got no cell stands in the levels from l down to l′
-  pub gone-empty : (l′ : ℕ) → l′ ≤ l → ((q : ℕ) → l′ < q → q ≤ l → without (at t q) r ≡ 0) → Gone c d t l′ rest r
+  pub gone-empty : (l′ : ℕ) → l′ ≤ l → ((q : ℕ) → l′ < q → q ≤ l → without (at t q) r ≡ 0) → Gone tie c d t l′ rest r
   gone-empty l′ less empty =
       record {
         levels = so-far .levels;
-        picked = λ i m. so-far .picked i m ∙ ap (λ (x : Bool). x && chosen 64 c d i) (same i m);
+        picked = λ i m. so-far .picked i m ∙ ap (λ (x : Bool). x && chosen tie 64 c d i) (same i m);
         cells = omega (arith, so-far .cells, count-ext 64 (λ j. ltb l (c j)) (λ j. ltb l′ (c j)) same);
       }
     where
@@ -89,25 +88,25 @@ module _ (c : ℕ → ℕ) (d : ℕ) (t : List ℕ) (l rest r : ℕ) (high : l <
               (still i m low) (omega (arith, ap bit (still i m low))))
 
   -- every level, or as many as there were cells for
-  pub gone-all : (l ≡ 0) ⊎ (rest ≡ 0) → (i : ℕ) → i < 64 → hasBit r i ≡ chosen 64 c d i
+  pub gone-all : (l ≡ 0) ⊎ (rest ≡ 0) → (i : ℕ) → i < 64 → hasBit r i ≡ chosen tie 64 c d i
   gone-all (inl e) i m = so-far .picked i m ∙ (rw e (go (is (ltb 0 (c i)))))
     where
-      go : Is (ltb 0 (c i)) → (ltb 0 (c i) && chosen 64 c d i) ≡ chosen 64 c d i
+      go : Is (ltb 0 (c i)) → (ltb 0 (c i) && chosen tie 64 c d i) ≡ chosen tie 64 c d i
       go (is-true p) = rw p refl
       go (is-false p) = rw p refl
   gone-all (inr e) i m = so-far .picked i m ∙ go (is (ltb l (c i)))
     where
-      go : Is (ltb l (c i)) → (ltb l (c i) && chosen 64 c d i) ≡ chosen 64 c d i
+      go : Is (ltb l (c i)) → (ltb l (c i) && chosen tie 64 c d i) ≡ chosen tie 64 c d i
       go (is-true p) = rw p refl
-      go (is-false p) = rw p (sym (chosen-below 64 c i d m l (ge-of l (c i) p) (omega (arith, so-far .cells, e))))
+      go (is-false p) = rw p (sym (chosen-below tie 64 c i d l (ge-of l (c i) p) (omega (arith, so-far .cells, e))))
 
   -- those that stand in level l and got no cell yet
   abbrev those : ℕ
   those = without (at t l) r
 
   -- One level more: the first `rest` of those get a cell (`got`) and move to the level below.
-  module _ (some : 0 < l) (got : ℕ) (short : got < 2 ^ 64)
-      (first : (i : ℕ) → i < 64 → hasBit got i ≡ firstFew (hasBit those) rest i) where
+  module _ (some : 0 < l) (got : ℕ)
+      (first : (i : ℕ) → i < 64 → hasBit got i ≡ (hasBit those i && ltb (count 64 (λ j. hasBit those j && tie j i)) rest)) where
     -- they are those who need l slots
     stands : (i : ℕ) → i < 64 → hasBit those i ≡ eqb (c i) l
     stands i m =
@@ -120,33 +119,27 @@ module _ (c : ℕ → ℕ) (d : ℕ) (t : List ℕ) (l rest r : ℕ) (high : l <
             rw (eqb-no (c i) l (λ z. omega (arith, z, above i m e)), e) (and-false (eqb (c i - 1) l))
         go (is-false e) = rw e (and-true (eqb (c i - 0) l) ∙ ap (λ (n : ℕ). eqb n l) (omega arith))
 
-    gets : (i : ℕ) → i < 64 → hasBit got i ≡ (eqb (c i) l && chosen 64 c d i)
-    gets i m = first i m ∙ ap (λ (x : Bool). x && ltb (count i (hasBit those)) rest) (stands i m) ∙ go (is (eqb (c i) l))
+    gets : (i : ℕ) → i < 64 → hasBit got i ≡ (eqb (c i) l && chosen tie 64 c d i)
+    gets i m = first i m ∙ ap (λ (x : Bool). x && ltb (count 64 (λ j. hasBit those j && tie j i)) rest) (stands i m) ∙ go (is (eqb (c i) l))
       where
-        go : Is (eqb (c i) l) → (eqb (c i) l && ltb (count i (hasBit those)) rest) ≡ (eqb (c i) l && chosen 64 c d i)
+        go : Is (eqb (c i) l) → (eqb (c i) l && ltb (count 64 (λ j. hasBit those j && tie j i)) rest) ≡ (eqb (c i) l && chosen tie 64 c d i)
         go (is-true e) =
             ap (λ (x : Bool). eqb (c i) l && x)
             (ap₂ (λ (n q : ℕ). ltb n q)
-            (count-ext i (hasBit those) (λ j. eqb (c j) l) (λ j q. stands j (omega arith)))
+            (count-ext 64 (λ j. hasBit those j && tie j i) (λ j. eqb (c j) l && tie j i) (λ j q. ap (λ (x : Bool). x && tie j i) (stands j q)))
             (so-far .cells)
-            ∙ chosen-level 64 c i d m l some (eq-of (c i) l e))
+            ∙ chosen-level tie 64 c i d l some (eq-of (c i) l e))
         go (is-false e) = rw e refl
 
     here : (i : ℕ) → i < 64 → hasBit got i ≡ true → c i ≡ l
-    here i m e = eq-of (c i) l (left-of (eqb (c i) l) (chosen 64 c d i) (sym (gets i m) ∙ e))
+    here i m e = eq-of (c i) l (left-of (eqb (c i) l) (chosen tie 64 c d i) (sym (gets i m) ∙ e))
 
-    -- how many these are
-    many : ones got ≡ min rest (count 64 (λ j. eqb (c j) l))
-    many =
-        first-count those rest got short first
-        ∙ ap (λ (n : ℕ). min rest n) (count-ext 64 (hasBit those) (λ j. eqb (c j) l) stands)
-
-    picked-more : (i : ℕ) → i < 64 → hasBit (bitOr r got) i ≡ (ltb (l - 1) (c i) && chosen 64 c d i)
+    picked-more : (i : ℕ) → i < 64 → hasBit (bitOr r got) i ≡ (ltb (l - 1) (c i) && chosen tie 64 c d i)
     picked-more i m =
         hasBit-or r got i
         ∙ ap₂ (λ (x y : Bool). x || y) (so-far .picked i m) (gets i m)
-        ∙ sym (and-or-distrib-right (ltb l (c i)) (eqb (c i) l) (chosen 64 c d i))
-        ∙ ap (λ (x : Bool). x && chosen 64 c d i) (level-or l (c i) some)
+        ∙ sym (and-or-distrib-right (ltb l (c i)) (eqb (c i) l) (chosen tie 64 c d i))
+        ∙ ap (λ (x : Bool). x && chosen tie 64 c d i) (level-or l (c i) some)
 
     served-more : (i : ℕ) → i < 64 → c i - bit (hasBit (bitOr r got) i) ≡ c i - bit (hasBit r i) - bit (hasBit got i)
     served-more i m = go (is (hasBit got i))
@@ -158,7 +151,7 @@ module _ (c : ℕ → ℕ) (d : ℕ) (t : List ℕ) (l rest r : ℕ) (high : l <
         go (is-false e) =
             omega (arith, ap bit (hasBit-or r got i ∙ ap (λ (x : Bool). hasBit r i || x) e ∙ or-false (hasBit r i)), ap bit e)
 
-    pub gone-more : (long : length t ≡ 65) → Gone c d (moved t l got long some high) (l - 1) (rest - ones got) (bitOr r got)
+    pub gone-more : (long : length t ≡ 65) → Gone tie c d (moved t l got long some high) (l - 1) (rest - count 64 (hasBit those)) (bitOr r got)
     gone-more long =
         record {
           levels =
@@ -170,7 +163,7 @@ module _ (c : ℕ → ℕ) (d : ℕ) (t : List ℕ) (l rest r : ℕ) (high : l <
               omega (
                 arith,
                 so-far .cells,
-                many,
+                count-ext 64 (hasBit those) (λ j. eqb (c j) l) stands,
                 sum-ext 64 (λ j. bit (ltb (l - 1) (c j))) (λ j. bit (ltb l (c j)) + bit (eqb (c j) l)) (λ j m. level-bits l (c j) some),
                 sum-add 64 (λ j. bit (ltb l (c j))) (λ j. bit (eqb (c j) l)),
               );

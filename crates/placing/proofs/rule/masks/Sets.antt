@@ -2,16 +2,16 @@
 --
 -- In order: the bits of `|`, `&` and `^` (`hasBit-or`, `hasBit-and`, `hasBit-xor`), of one mask without another (`hasBit-without`) and of a single one
 -- (`hasBit-one`); a mask after its lowest bits were cleared, one more at a time (`clear-more`), and whether any is left (`clear-some`, `clear-none`); the lowest bits themselves: all that there are, those
--- that were cleared, and how many they are (`first-all`, `first-cleared`, `first-count`).
+-- that were cleared (`first-all`, `first-cleared`).
 -- Assumes nothing.
-use Prim.Native.Nat.{ℕ, zero, suc, _+_, _-_, _/_, _%_, _^_, _≤_, _<_, min}
+use Prim.Native.Nat.{ℕ, zero, suc, _+_, _-_, _/_, _%_, _^_, _≤_, _<_}
 use native.Mathlib.Nat.{pow-suc}
 use native.Mathlib.Omega.{arith}
 use mathlib.Core.Path.{_≡_, refl, sym, _∙_, ap}
 use mathlib.Core.Logic.{_⊎_, inl, inr}
 use mathlib.Core.Bool.{Bool, true, false, not, _&&_, _||_, cond}
 use lib.Bits.{bitAnd, bitOr, bitXor, and-step, or-step, xor-step, and-shr, or-shr, xor-shr}
-use lib.Count.{ones, trailingZeros}
+use lib.Count.{trailingZeros}
 use lib.Dec.{eqb, leb, eqb·zero-suc, eqb·suc-zero, eqb·suc-suc}
 use Rattle.laws.specs.Sums.{bit, count}
 use Rattle.laws.proofs.Tests.{Is, is-true, is-false, is, left-of}
@@ -20,7 +20,7 @@ use Rattle.laws.proofs.Counts.{count-ext}
 use Rattle.laws.proofs.Cells.{count-below, count-first}
 use Rattle.station.specs.Head.{hasBit}
 use Rattle.placing.specs.method.Rule.{firstFew}
-use Rattle.placing.proofs.MaskBits.{parity, hasBit-zero, hasBit-half, taken-even, ones-hasBit, lowest, cleared}
+use Rattle.placing.proofs.MaskBits.{parity, hasBit-zero, hasBit-half, taken-even, lowest, cleared}
 use Rattle.placing.proofs.rule.row.RowWritten.{untaken, untaken-first, untaken-more, untaken-stays}
 
 -- ---- the bits of the operations
@@ -52,7 +52,7 @@ module _ (a b i : ℕ) where
   pub hasBit-or : hasBit (bitOr a b) i ≡ (hasBit a i || hasBit b i)
   hasBit-or = ap (λ (n : ℕ). eqb (n % 2) 1) (or-shr a b i) ∙ digit-or (a / 2 ^ i) (b / 2 ^ i) (digit a i) (digit b i)
 
-  hasBit-and : hasBit (bitAnd a b) i ≡ (hasBit a i && hasBit b i)
+  pub hasBit-and : hasBit (bitAnd a b) i ≡ (hasBit a i && hasBit b i)
   hasBit-and = ap (λ (n : ℕ). eqb (n % 2) 1) (and-shr a b i) ∙ digit-and (a / 2 ^ i) (b / 2 ^ i) (digit a i) (digit b i)
 
   pub hasBit-xor : hasBit (bitXor a b) i ≡ cond (hasBit b i) (not (hasBit a i)) (hasBit a i)
@@ -147,7 +147,3 @@ module _ (m d : ℕ) where
           turn true = refl
           turn false = refl
       go (is-false e) = rw e refl
-
-  -- how many the first d are
-  pub first-count : (r : ℕ) → r < 2 ^ 64 → ((i : ℕ) → i < 64 → hasBit r i ≡ firstFew (hasBit m) d i) → ones r ≡ min d (count 64 (hasBit m))
-  first-count r short first = ones-hasBit 64 r short ∙ count-ext 64 (hasBit r) (firstFew (hasBit m) d) first ∙ count-first 64 (hasBit m) d

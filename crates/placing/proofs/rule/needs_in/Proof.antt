@@ -1,7 +1,7 @@
 -- `rule::needs_in` meets its contract. The invariant: none of the needs passed is above the longest job. Assumes nothing.
 use Prim.Native.Nat.{_≤_, _-_}
 use native.Mathlib.Omega.{arith}
-use mathlib.Core.Path.{_≡_, sym, ap}
+use mathlib.Core.Path.{_≡_, sym}
 use mathlib.Core.Bool.{true}
 use lib.Dec.{leb}
 use Rattle.laws.specs.Sums.{every}

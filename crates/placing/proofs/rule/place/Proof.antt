@@ -1,5 +1,5 @@
--- `place` meets its contract. The loop's invariant: the slots before s are placed, `levels` has the needs that are left and `due` what is due of the first slots, for
--- all needs that the levels may have stood for at first. Assumes nothing.
+-- `place` meets its contract. The loop's invariant: the slots before s are placed, `levels` has the needs that are left, `due` what is due of the first slots and `held` who
+-- goes first among equal ones, for all needs that the levels may have stood for at first. Assumes nothing.
 use Prim.Native.Nat.{ℕ, _≤_, _<_, _+_, _-_, _*_}
 use native.Mathlib.Omega.{arith}
 use mathlib.Core.Path.{_≡_, refl, sym, _∙_, ap}
@@ -11,17 +11,17 @@ use borrow.Author.Needs as author
 use Rattle.laws.proofs.Tests.{false-of-not, true-of-not}
 use Rattle.laws.proofs.Comparisons.{ge-of}
 use Rattle.laws.specs.Lists.{at}
-use Rattle.laws.specs.Placement.{left, chosen}
+use Rattle.laws.specs.Placement.{tieHold, chosen}
 use Rattle.station.specs.Head.{hasBit}
-use Rattle.placing.specs.Plan.{freeCount}
-use Rattle.placing.specs.method.Rule.{Levelled, CleanFrom, freeIn, placeable, placedIn, placedWithin}
+use Rattle.placing.specs.Plan.{tieOf}
+use Rattle.placing.specs.method.Rule.{Levelled, CleanFrom, placeable, placedIn, placedWithin}
 use Rattle.placing.proofs.rule.levels.ByLevel.{standing-all, most-of}
-use Rattle.placing.proofs.rule.SlotsPlaced.{SlotsPlaced, Progress, cellOf, progress-none, progress-more, progress-over, progress-idle, slots-all, frame-within, row-within, placed-within, placed-beyond, placeable-of}
+use Rattle.placing.proofs.rule.SlotsPlaced.{SlotsPlaced, Progress, reached, cellOf, progress-none, progress-more, progress-over, progress-idle, slots-all, frame-within, row-within, placed-within, placed-beyond, placeable-of}
 use Rattle.placing.proofs.rule.place.Statement.{statement}
 use Rattle.placing.proofs.rule.place.Tie as tie
 
 abbrev Inv-loop : tie.InvT-loop
-Inv-loop table₀ slots bridges k clean free early late due₀ levels₀ top₀ s₀ table due levels top s =
+Inv-loop table₀ slots bridges k clean hold free early late due₀ levels₀ top₀ held₀ s₀ table due levels top held s =
     (s ≤ slots)
     × (slots ≤ 64)
     × (bridges ≤ 8)
@@ -32,10 +32,10 @@ Inv-loop table₀ slots bridges k clean free early late due₀ levels₀ top₀ 
     × (length levels ≡ 65)
     × (top < 65)
     × ((n : List ℕ) → k ≤ length n → Levelled levels₀ (at (take k n)) → ((i : ℕ) → i < k → at n i ≤ top₀) → CleanFrom clean slots bridges free table₀
-    → Progress bridges free (take k n) due₀ early late table₀ k s table due levels top)
+    → Progress hold bridges free (take k n) due₀ early late table₀ k s table due levels top held)
 
 abbrev μ-loop : tie.MeasureT-loop
-μ-loop table₀ slots bridges k clean free early late due₀ levels₀ top₀ s₀ table due levels top s = slots - s
+μ-loop table₀ slots bridges k clean hold free early late due₀ levels₀ top₀ held₀ s₀ table due levels top held s = slots - s
 
 within : (c : tie.Else1 Inv-loop μ-loop)
     → let a = c .before .before .before .before .args in placeable (a .slots) (a .bridges) (a .t5) (a .k) (length (a .table .now)) ≡ true
@@ -47,7 +47,7 @@ placeable-requires c κs = search author.needs
 returns : tie.Need-returns Inv-loop μ-loop
 returns c = λ clean.
     let a = c .before .before .before .before .args in
-    sym (placed-beyond (a .slots) (a .bridges) (a .t4) (a .t5) (a .k) (a .first) (a .t8) (a .t9) (a .table .now)
+    sym (placed-beyond (tieOf (a .hold)) (a .slots) (a .bridges) (a .t4) (a .t5) (a .k) (a .first) (a .t8) (a .t9) (a .table .now)
     (sym (c .before .placeable .ensures) ∙ false-of-not _ (c .if1 .taken)))
 
 enter-requires : tie.Need-enter-requires Inv-loop μ-loop
@@ -69,7 +69,7 @@ loop-holds c =
       search author.needs,
       c .enter .ensures .0,
       c .enter .ensures .2,
-      λ n enough h most clean. progress-none (a .bridges) (a .t4) n (a .first) (a .t8) (a .t9) (a .table .now) (a .k) (c .enter .last .0) (c .enter .result) h most,
+      λ n enough h most clean. progress-none (a .hold) (a .bridges) (a .t4) n (a .first) (a .t8) (a .t9) (a .table .now) (a .k) (c .enter .last .0) (c .enter .result) h most,
     )
 
 -- what the invariant says of the needs, where the frame is clean
@@ -77,7 +77,7 @@ so-far : (c : tie.At-loop Inv-loop μ-loop)
     → let l = c .loop in
     let a = c .before .before .before .before .before .before .before .before .args in
     CleanFrom (a .clean) (a .slots) (a .bridges) (a .t4) (a .table .now)
-    → Progress (a .bridges) (a .t4) (take (a .k) (a .t5)) (a .first) (a .t8) (a .t9) (a .table .now) (a .k) (l .s) (l .table) (l .due) (l .levels) (l .top)
+    → Progress (a .hold) (a .bridges) (a .t4) (take (a .k) (a .t5)) (a .first) (a .t8) (a .t9) (a .table .now) (a .k) (l .s) (l .table) (l .due) (l .levels) (l .top) (l .held)
 so-far c clean =
     let entered = c .before in
     let start = entered .before .before .before .before .before .before .before in
@@ -94,14 +94,14 @@ same-length c = c .before .before .before .before .before .loop .inv .5
 -- the table after all slots
 placed : (c : tie.At-loop Inv-loop μ-loop)
     → let a = c .before .before .before .before .before .before .before .before .args in
-    SlotsPlaced (a .bridges) (cellOf (a .bridges) (a .t4) (take (a .k) (a .t5)) (a .first) (a .t8) (a .t9) (a .table .now)) (a .table .now) (c .loop .table) (a .slots)
-    → c .loop .table ≡ placedWithin (a .slots) (a .bridges) (a .t4) (a .t5) (a .k) (a .first) (a .t8) (a .t9) (a .table .now)
+    SlotsPlaced (a .bridges) (cellOf (tieOf (a .hold)) (a .bridges) (a .t4) (take (a .k) (a .t5)) (a .first) (a .t8) (a .t9) (a .table .now)) (a .table .now) (c .loop .table) (a .slots)
+    → c .loop .table ≡ placedWithin (tieOf (a .hold)) (a .slots) (a .bridges) (a .t4) (a .t5) (a .k) (a .first) (a .t8) (a .t9) (a .table .now)
 unfolding placedIn
 placed c all =
     let a = c .before .before .before .before .before .before .before .before .args in
-    slots-all (a .bridges) (cellOf (a .bridges) (a .t4) (take (a .k) (a .t5)) (a .first) (a .t8) (a .t9) (a .table .now)) (a .table .now)
+    slots-all (a .bridges) (cellOf (tieOf (a .hold)) (a .bridges) (a .t4) (take (a .k) (a .t5)) (a .first) (a .t8) (a .t9) (a .table .now)) (a .table .now)
     (c .loop .table) (a .slots) (omega (arith, c .loop .inv .4, frame-within (a .slots) (a .bridges) (c .loop .inv .1) (c .loop .inv .2))) all
-    ∙ sym (placed-within (a .slots) (a .bridges) (a .t4) (a .t5) (a .k) (a .first) (a .t8) (a .t9) (a .table .now) (within (c .before .before .before .before)))
+    ∙ sym (placed-within (tieOf (a .hold)) (a .slots) (a .bridges) (a .t4) (a .t5) (a .k) (a .first) (a .t8) (a .t9) (a .table .now) (within (c .before .before .before .before)))
 
 returns-2 : tie.Need-returns-2 Inv-loop μ-loop
 returns-2 c = λ clean.
@@ -112,8 +112,8 @@ returns-2 c = λ clean.
     let now = so-far p clean in
     let none : found .highest .result ≡ 0 = c .before .if2 .taken in
     placed p
-    (progress-idle (a .bridges) (a .t4) (a .t5) (a .first) (a .t8) (a .t9) (a .table .now) (a .k) (l .s) (l .table) (l .due) (l .levels) (l .top) now (l .inv .3)
-    (rw none at (most-of (l .levels) (at (left (take (a .k) (a .t5)) (freeCount (a .bridges) (freeIn (a .t4))) (l .s))) (l .top) (found .highest .result)
+    (progress-idle (a .hold) (a .bridges) (a .t4) (a .t5) (a .first) (a .t8) (a .t9) (a .table .now) (a .k) (l .s) (l .table) (l .due) (l .levels) (l .top) (l .held) now (l .inv .3)
+    (rw none at (most-of (l .levels) (at (reached (a .hold) (a .bridges) (a .t4) (take (a .k) (a .t5)) (l .s) .needs)) (l .top) (found .highest .result)
     (now .levelled) (l .inv .8) (now .most) (found .highest .ensures .1)))
     (a .slots) (l .inv .0) (λ q past h. clean q (omega (arith, past, c .if3 .taken)) h))
 
@@ -144,6 +144,9 @@ write-row-requires c κs =
       p .loop .inv .6,
     )
 
+held-after-requires : tie.Need-held-after-requires Inv-loop μ-loop
+held-after-requires c κs = search author.needs
+
 add-s : tie.Need-add-s Inv-loop μ-loop
 add-s c = omega arith
 
@@ -152,15 +155,14 @@ loop-less c = omega arith
 
 loop-again : tie.Need-loop-again Inv-loop μ-loop
 loop-again c =
-    let found = c .before .before in
+    let found = c .before .before .before in
     let top = found .highest .result in
     let p = found .before .before .before in
     let l = p .loop in
     let a = p .before .before .before .before .before .before .before .before .args in
     let low : top < 65 = omega (arith, found .highest .ensures .0, l .inv .8) in
-    let d : ℕ → ℕ = freeCount (a .bridges) (freeIn (a .t4)) in
     ⊎-elim
-    (λ w. rw (w .11, w .12, w .13) (
+    (λ w. rw (c .held-after .ensures, w .11, w .12, w .13, w .14) (
       omega arith,
       l .inv .1,
       l .inv .2,
@@ -172,17 +174,17 @@ loop-again c =
       low,
       λ n enough h m clean.
           let now = l .inv .9 n enough h m clean in
-          let rest : ℕ → ℕ = at (left (take (a .k) n) d (l .s)) in
+          let rest : ℕ → ℕ = at (reached (a .hold) (a .bridges) (a .t4) (take (a .k) n) (l .s) .needs) in
           let most : (i : ℕ) → i < 64 → rest i ≤ top = most-of (l .levels) rest (l .top) top (now .levelled) (l .inv .8) (now .most) (found .highest .ensures .1) in
           let did = w .3 .ensures .1 rest (now .levelled) most in
-          progress-more (a .bridges) (a .t4) n (a .first) (a .t8) (a .t9) (a .table .now) (a .k) enough (l .inv .3)
-          (l .s) (l .table) (l .due) (l .levels) (l .top) now (hasBit (w .3 .result))
-          (λ i q. did .picks i q ∙ ap (λ (e : ℕ). chosen 64 rest e i) (w .2 .ensures))
+          progress-more (a .hold) (a .bridges) (a .t4) n (a .first) (a .t8) (a .t9) (a .table .now) (a .k) enough (l .inv .3)
+          (l .s) (l .table) (l .due) (l .levels) (l .top) (l .held) now (w .3 .result)
+          (λ i q. did .picks i q ∙ ap (λ (e : ℕ). chosen (tieHold 0 (hasBit (l .held))) 64 rest e i) (w .2 .ensures))
           (w .8 .last .0) (w .8 .last .1 .1 .1 .1 .1 .0) (w .3 .last .0) top most
           (w .8 .ensures .3 (λ e b q free. now .table .after (l .s * a .bridges + b) (omega arith) ∙ clean (l .s) (ge-of (l .s) (a .clean) e) (omega arith) b q free))
           (w .8 .ensures .2) (did .levels),
     ))
-    (λ w. rw (w .1, w .2, w .3) (
+    (λ w. rw (c .held-after .ensures, w .1, w .2, w .3, w .4) (
       omega arith,
       l .inv .1,
       l .inv .2,
@@ -194,11 +196,11 @@ loop-again c =
       low,
       λ n enough h m clean.
           let now = l .inv .9 n enough h m clean in
-          progress-over (a .bridges) (a .t4) n (a .first) (a .t8) (a .t9) (a .table .now) (a .k) enough (l .inv .3) (l .s) (l .table) (l .due) (l .levels) (l .top) top now
+          progress-over (a .hold) (a .bridges) (a .t4) n (a .first) (a .t8) (a .t9) (a .table .now) (a .k) enough (l .inv .3) (l .s) (l .table) (l .due) (l .levels) (l .top) (l .held) top now
           (w .0 .left)
-          (most-of (l .levels) (at (left (take (a .k) n) d (l .s))) (l .top) top (now .levelled) (l .inv .8) (now .most) (found .highest .ensures .1)),
+          (most-of (l .levels) (at (reached (a .hold) (a .bridges) (a .t4) (take (a .k) n) (l .s) .needs)) (l .top) top (now .levelled) (l .inv .8) (now .most) (found .highest .ensures .1)),
     ))
-    (c .if4 .came)
+    (c .before .if4 .came)
 
 same-length-2 : tie.Need-same-length-2 Inv-loop μ-loop
 same-length-2 c = c .before .loop .inv .5
@@ -226,6 +228,7 @@ place-spec =
     choose-requires
     mul-write-row
     write-row-requires
+    held-after-requires
     add-s
     loop-less
     loop-again

@@ -31,6 +31,9 @@ load-presets-requires c κs = search needs
 clock-of-requires : tie.Need-clock-of-requires
 clock-of-requires c κs = search needs
 
+hold-of-requires : tie.Need-hold-of-requires
+hold-of-requires c κs = search needs
+
 run-text-by-value-requires : tie.Need-run-text-by-value-requires
 run-text-by-value-requires c κs = search needs
 
@@ -64,15 +67,16 @@ returns-4 c =
     let records = place .before .before .before in
     let numbers = records .before .before .before .before in
     let ran = numbers .before .before .before .before .before .before .before .before in
-    let clock = ran .before .before in
+    let hold = ran .before .before in
+    let clock = hold .before .before in
     let copied = clock .before .before .before in
     let head = copied .before .before in
     let enough = head .before .before in
     let few = enough .before in
     let a = few .before .before .before .before .before .before .before .args in
     text-handed (a .text .now) (a .frame .now) (a .presets .now) (a .table .now) (a .out .now) (head .head-of .result) (copied .load-presets .result) (clock .clock-of .result)
-    (ran .run-text-by-value .result) (few .if2 .left) (enough .if3 .left) (head .head-of .ensures) (copied .load-presets .ensures) (clock .clock-of .ensures)
-    (ran .run-text-by-value .ensures .0) (numbers .save-run .ensures) (records .save-presets .ensures) (place .end-place .ensures) (c .end-number .ensures)
+    (hold .hold-of .result) (ran .run-text-by-value .result) (few .if2 .left) (enough .if3 .left) (head .head-of .ensures) (copied .load-presets .ensures) (clock .clock-of .ensures)
+    (hold .hold-of .ensures) (ran .run-text-by-value .ensures .0) (numbers .save-run .ensures) (records .save-presets .ensures) (place .end-place .ensures) (c .end-number .ensures)
 
 pub planner-run-text-spec : {M : Type 1} → statement M
 planner-run-text-spec =
@@ -84,6 +88,7 @@ planner-run-text-spec =
     head-of-requires
     load-presets-requires
     clock-of-requires
+    hold-of-requires
     run-text-by-value-requires
     save-run-requires
     save-presets-requires

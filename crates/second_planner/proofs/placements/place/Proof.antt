@@ -6,16 +6,19 @@ use Rattle.second_planner.proofs.placements.place.Statement.{statement}
 use Rattle.second_planner.proofs.placements.place.Tie as tie
 
 abbrev Inv-loop : tie.InvT-loop
-Inv-loop table sets mandatory optional marks after₀ free₀ left₀ before₀ pair₀ after free left before pair = pair ≤ 18
+Inv-loop table sets hold mandatory optional marks after₀ free₀ left₀ before₀ held₀ pair₀ after free left before held pair = pair ≤ 18
 
 abbrev μ-loop : tie.MeasureT-loop
-μ-loop table sets mandatory optional marks after₀ free₀ left₀ before₀ pair₀ after free left before pair = 18 - pair
+μ-loop table sets hold mandatory optional marks after₀ free₀ left₀ before₀ held₀ pair₀ after free left before held pair = 18 - pair
 
 wrapping-add-usize-requires : tie.Need-wrapping-add-usize-requires Inv-loop μ-loop
 wrapping-add-usize-requires c κs = search needs
 
 loop-holds : tie.Need-loop-holds Inv-loop μ-loop
 loop-holds c = omega arith
+
+held-of-requires : tie.Need-held-of-requires Inv-loop μ-loop
+held-of-requires c κs = search needs
 
 field-requires : tie.Need-field-requires Inv-loop μ-loop
 field-requires c κs = search needs
@@ -73,6 +76,7 @@ place-spec =
     μ-loop
     wrapping-add-usize-requires
     loop-holds
+    held-of-requires
     field-requires
     size-requires
     is-served-requires

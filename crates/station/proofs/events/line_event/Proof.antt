@@ -39,6 +39,9 @@ enum-told-5 c = search needs
 refused-requires-5 : tie.Need-refused-requires-5
 refused-requires-5 c κs = search needs
 
+enum-known-said-2 : tie.Need-enum-known-said-2
+enum-known-said-2 c = search needs
+
 returns : tie.Need-returns
 returns c = c .refused .ensures ∙ ap lineEvent (sym (c .before .enum-told .given .1))
 
@@ -57,6 +60,9 @@ returns-5 c = ap lineEvent (sym (c .before .said .given .1))
 returns-6 : tie.Need-returns-6
 returns-6 c = c .refused5 .ensures ∙ ap lineEvent (sym (c .before .enum-told5 .given .1))
 
+returns-7 : tie.Need-returns-7
+returns-7 c = ap lineEvent (sym (c .before .said2 .given .1))
+
 pub line-event-spec : {M : Type 1} → statement M
 line-event-spec =
     tie.close
@@ -72,9 +78,11 @@ line-event-spec =
     enum-known-said
     enum-told-5
     refused-requires-5
+    enum-known-said-2
     returns
     returns-2
     returns-3
     returns-4
     returns-5
-    returns-6)
+    returns-6
+    returns-7)

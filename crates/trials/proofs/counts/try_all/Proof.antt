@@ -1,4 +1,4 @@
--- `try_all` is safe and ends. The loop's invariant: `code` is at most 133056. Assumes nothing.
+-- `try_all` is safe and ends. The loop's invariant: `code` is at most 266112. Assumes nothing.
 use Prim.Native.Nat.{_≤_, _-_}
 use native.Mathlib.Omega.{arith}
 use borrow.Author.Needs.{needs}
@@ -6,10 +6,10 @@ use Rattle.trials.proofs.counts.try_all.Statement.{statement}
 use Rattle.trials.proofs.counts.try_all.Tie as tie
 
 abbrev Inv-loop : tie.InvT-loop
-Inv-loop counts₀ code₀ counts code = code ≤ 133056
+Inv-loop counts₀ code₀ counts code = code ≤ 266112
 
 abbrev μ-loop : tie.MeasureT-loop
-μ-loop counts₀ code₀ counts code = 133056 - code
+μ-loop counts₀ code₀ counts code = 266112 - code
 
 loop-holds : tie.Need-loop-holds Inv-loop μ-loop
 loop-holds c = omega arith

@@ -12,17 +12,17 @@ clock-in-requires c κs = search needs
 returns : tie.Need-returns
 returns c =
     let a = c .before .before .args in
-    clock-out (a .slots) (a .clock) (a .to) (sym (c .before .clock-in .ensures) ∙ false-of-not _ (c .if1 .taken))
+    clock-out (a .slots) (a .clock) (a .to) (a .hold) (sym (c .before .clock-in .ensures) ∙ false-of-not _ (c .if1 .taken))
 
 returns-2 : tie.Need-returns-2
 returns-2 c =
     let a = c .before .before .before .args in
-    clock-below (a .slots) (a .clock) (a .to) (sym (c .before .before .clock-in .ensures) ∙ true-of-not _ (c .before .if1 .left)) (c .if2 .taken)
+    clock-below (a .slots) (a .clock) (a .to) (a .hold) (sym (c .before .before .clock-in .ensures) ∙ true-of-not _ (c .before .if1 .left)) (c .if2 .taken)
 
 returns-3 : tie.Need-returns-3
 returns-3 c =
     let a = c .before .before .before .args in
-    clock-set (a .slots) (a .clock) (a .to) (sym (c .before .before .clock-in .ensures) ∙ true-of-not _ (c .before .if1 .left)) (c .if2 .left)
+    clock-set (a .slots) (a .clock) (a .to) (a .hold) (sym (c .before .before .clock-in .ensures) ∙ true-of-not _ (c .before .if1 .left)) (c .if2 .left)
 
 pub asked-clock-spec : {M : Type 1} → statement M
 asked-clock-spec = tie.close (tie.spec clock-in-requires returns returns-2 returns-3)

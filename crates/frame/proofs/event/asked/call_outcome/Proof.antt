@@ -14,10 +14,10 @@ enum-known-answer-2 : tie.Need-enum-known-answer-2
 enum-known-answer-2 c = search needs
 
 returns : tie.Need-returns
-returns c = (sym (ap (λ (a : reply.CallAnswer). answerOf (callAnswerIn a)) (c .before .answer .given .1)), refl)
+returns c = (sym (ap (λ (a : reply.CallAnswer). answerOf (callAnswerIn a)) (c .before .answer .given .1)), refl, refl)
 
 returns-2 : tie.Need-returns-2
-returns-2 c = (sym (ap (λ (a : reply.CallAnswer). answerOf (callAnswerIn a)) (c .before .answer2 .given .1)), refl)
+returns-2 c = (sym (ap (λ (a : reply.CallAnswer). answerOf (callAnswerIn a)) (c .before .answer2 .given .1)), refl, refl)
 
 pub call-outcome-spec : {M : Type 1} → statement M
 call-outcome-spec = tie.close (tie.spec enum-known-answer enum-known-answer-2 returns returns-2)

@@ -1,6 +1,6 @@
 -- `event::asked::event_by_counts` meets its contract: a law for what each line asks. Assumes nothing.
 use Rattle.placing.specs.State.{stateOf}
-use Rattle.frame.proofs.event.EventAnswers.{line-clock, line-place, line-fault, clock-counts}
+use Rattle.frame.proofs.event.EventAnswers.{line-clock, line-place, line-tie, line-fault, clock-counts}
 use borrow.Author.Needs.{needs}
 use Rattle.frame.proofs.event.asked.event_by_counts.Statement.{statement}
 use Rattle.frame.proofs.event.asked.event_by_counts.Tie as tie
@@ -32,6 +32,9 @@ call-outcome-requires c κs = search needs
 enum-known-event-3 : tie.Need-enum-known-event-3
 enum-known-event-3 c = search needs
 
+enum-known-event-4 : tie.Need-enum-known-event-4
+enum-known-event-4 c = search needs
+
 same-length : tie.Need-same-length
 same-length c = search needs
 
@@ -42,8 +45,8 @@ returns c =
     let r = k .before .before .before .before .before in
     let s = r .before .before .before in
     let a = s .args in (
-      line-clock (a .head) (a .presets) (stateOf (a .table .now) (a .clock)) (a .line .now) (r .read-event .ensures) (k .before .before .event .given .1) (k .asked-clock .ensures),
-      clock-counts (a .head) (a .presets) _ (stateOf (a .table .now) (a .clock)) (k .asked-clock .ensures) v run right (c .pass-slots .ensures),
+      line-clock (a .head) (a .presets) (stateOf (a .table .now) (a .clock) (a .hold)) (a .line .now) (r .read-event .ensures) (k .before .before .event .given .1) (k .asked-clock .ensures),
+      clock-counts (a .head) (a .presets) _ (stateOf (a .table .now) (a .clock) (a .hold)) (k .asked-clock .ensures) v run right (c .pass-slots .ensures),
     )
 
 same-length-2 : tie.Need-same-length-2
@@ -57,8 +60,8 @@ returns-2 c =
     let s = r .before .before .before in
     let a = s .args in
     let done = k .call-by-counts .ensures v run right in (
-      line-place (a .head) (a .presets) (stateOf (a .table .now) (a .clock)) (a .line .now) (r .read-event .ensures) (k .before .before .before .before .before .before .event2 .given .1) (done .0)
-          (c .call-outcome .ensures .0) (c .call-outcome .ensures .1),
+      line-place (a .head) (a .presets) (stateOf (a .table .now) (a .clock) (a .hold)) (a .line .now) (r .read-event .ensures) (k .before .before .before .before .before .before .event2 .given .1) (done .0)
+          (c .call-outcome .ensures .0) (c .call-outcome .ensures .1) (c .call-outcome .ensures .2),
       rw (c .call-outcome .ensures .1) (done .1),
     )
 
@@ -68,7 +71,15 @@ returns-3 c =
     let r = c .before .before .before .before in
     let s = r .before .before .before in
     let a = s .args in
-    (line-fault (a .head) (a .presets) (stateOf (a .table .now) (a .clock)) (a .line .now) (r .read-event .ensures) (c .before .event3 .given .1), right)
+    (line-tie (a .head) (a .presets) (stateOf (a .table .now) (a .clock) (a .hold)) (a .line .now) (r .read-event .ensures) (c .before .event3 .given .1), right)
+
+returns-4 : tie.Need-returns-4
+returns-4 c =
+    λ v run right.
+    let r = c .before .before .before .before in
+    let s = r .before .before .before in
+    let a = s .args in
+    (line-fault (a .head) (a .presets) (stateOf (a .table .now) (a .clock) (a .hold)) (a .line .now) (r .read-event .ensures) (c .before .event4 .given .1), right)
 
 pub event-by-counts-spec : {M : Type 1} → statement M
 event-by-counts-spec =
@@ -83,8 +94,10 @@ event-by-counts-spec =
     call-by-counts-requires
     call-outcome-requires
     enum-known-event-3
+    enum-known-event-4
     same-length
     returns
     same-length-2
     returns-2
-    returns-3)
+    returns-3
+    returns-4)

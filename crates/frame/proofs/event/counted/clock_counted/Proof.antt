@@ -9,7 +9,7 @@ use Rattle.frame.proofs.event.counted.clock_counted.Tie as tie
 returns : tie.Need-returns
 returns c =
     let a = c .before .before .args in
-    event-few (a .records) (a .head) (a .copied) (stateOf (a .table .now) (a .clock)) (Event.clock (a .t)) (c .if1 .taken)
+    event-few (a .records) (a .head) (a .copied) (stateOf (a .table .now) (a .clock) (a .hold)) (Event.clock (a .t)) (c .if1 .taken)
 
 set-clock-by-value-requires : tie.Need-set-clock-by-value-requires
 set-clock-by-value-requires c κs = search needs
@@ -17,7 +17,7 @@ set-clock-by-value-requires c κs = search needs
 returns-2 : tie.Need-returns-2
 returns-2 c =
     let a = c .before .before .before .args in
-    event-enough (a .records) (a .head) (a .copied) (stateOf (a .table .now) (a .clock)) (Event.clock (a .t)) (c .before .if1 .left) (c .set-clock-by-value .ensures .0)
+    event-enough (a .records) (a .head) (a .copied) (stateOf (a .table .now) (a .clock) (a .hold)) (Event.clock (a .t)) (c .before .if1 .left) (c .set-clock-by-value .ensures .0)
 
 pub clock-counted-spec : {M : Type 1} → statement M
 clock-counted-spec = tie.close (tie.spec returns set-clock-by-value-requires returns-2)

@@ -9,7 +9,7 @@ use Rattle.frame.proofs.event.counted.event_counted.Tie as tie
 returns : tie.Need-returns
 returns c =
     let a = c .before .before .before .args in
-    event-few (a .records) (a .head) (a .copied) (stateOf (a .table .now) (a .clock)) (Event.line (a .line .now)) (c .if1 .taken)
+    event-few (a .records) (a .head) (a .copied) (stateOf (a .table .now) (a .clock) (a .hold)) (Event.line (a .line .now)) (c .if1 .taken)
 
 event-by-value-requires : tie.Need-event-by-value-requires
 event-by-value-requires c κs = search needs
@@ -22,7 +22,7 @@ returns-2 c =
     let e = c .before .before in
     let i = e .before .before in
     let a = i .before .before .before .args in
-    event-enough (a .records) (a .head) (a .copied) (stateOf (a .table .now) (a .clock)) (Event.line (a .line .now)) (i .if1 .left) (e .event-by-value .ensures .0)
+    event-enough (a .records) (a .head) (a .copied) (stateOf (a .table .now) (a .clock) (a .hold)) (Event.line (a .line .now)) (i .if1 .left) (e .event-by-value .ensures .0)
 
 pub event-counted-spec : {M : Type 1} → statement M
 event-counted-spec = tie.close (tie.spec returns event-by-value-requires same-length returns-2)

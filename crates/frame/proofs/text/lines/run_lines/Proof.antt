@@ -10,11 +10,11 @@ use Rattle.frame.proofs.text.lines.run_lines.Statement.{statement}
 use Rattle.frame.proofs.text.lines.run_lines.Tie as tie
 
 abbrev Inv-loop : tie.InvT-loop
-Inv-loop text from first head presets table₀ start out₀ position at₀ n₀ clock₀ next₀ used₀ admitted₀ capacities₀ table out at n clock next used admitted capacities =
-    AtEvent head presets text from first (stateOf table₀ start) out₀ position at n clock next table out used admitted capacities
+Inv-loop text from first head presets table₀ start order out₀ position at₀ n₀ clock₀ hold₀ next₀ used₀ admitted₀ capacities₀ table out at n clock hold next used admitted capacities =
+    AtEvent head presets text from first (stateOf table₀ start order) out₀ position at n clock hold next table out used admitted capacities
 
 abbrev μ-loop : tie.MeasureT-loop
-μ-loop text from first head presets table₀ start out₀ position at₀ n₀ clock₀ next₀ used₀ admitted₀ capacities₀ table out at n clock next used admitted capacities =
+μ-loop text from first head presets table₀ start order out₀ position at₀ n₀ clock₀ hold₀ next₀ used₀ admitted₀ capacities₀ table out at n clock hold next used admitted capacities =
     length text - at
 
 counts-of-requires : tie.Need-counts-of-requires Inv-loop μ-loop
@@ -25,7 +25,7 @@ loop-holds c =
     let k = c .before .before in
     let s = k .before .before .before .before .before in
     let a = s .args in
-    at-first (a .head) (a .presets) (a .text .now) (a .from) (a .first) (a .table .now) (a .start) (a .out .now) (a .position) (s .pre) (k .counts-of .ensures)
+    at-first (a .head) (a .presets) (a .text .now) (a .from) (a .first) (a .table .now) (a .start) (a .order) (a .out .now) (a .position) (s .pre) (k .counts-of .ensures)
 
 line-at-requires : tie.Need-line-at-requires Inv-loop μ-loop
 line-at-requires c κs = search needs

@@ -8,35 +8,37 @@ use lib.ListN.{length, set, length-set}
 use lib.Bits.{bitOr, bitXor}
 use borrow.Author.Needs.{needs}
 use Rattle.laws.specs.Lists.{at}
+use Rattle.laws.specs.Placement.{tieHold}
+use Rattle.station.specs.Head.{hasBit}
 use Rattle.placing.specs.method.Rule.{Levelled}
 use Rattle.placing.proofs.rule.levels.LevelsDone.{Gone, gone-none, gone-empty, gone-more, gone-all}
 use Rattle.placing.proofs.rule.levels.choose.Statement.{statement}
 use Rattle.placing.proofs.rule.levels.choose.Tie as tie
 
 abbrev Inv-loop : tie.InvT-loop
-Inv-loop levels₀ top d served₀ rest₀ l₀ levels served rest l =
-    (l ≤ top) × (length levels ≡ 65) × ((c : ℕ → ℕ) → Levelled levels₀ c → ((i : ℕ) → i < 64 → c i ≤ top) → Gone c d levels l rest served)
+Inv-loop levels₀ top d held served₀ rest₀ l₀ levels served rest l =
+    (l ≤ top) × (length levels ≡ 65) × ((c : ℕ → ℕ) → Levelled levels₀ c → ((i : ℕ) → i < 64 → c i ≤ top) → Gone (tieHold 0 (hasBit held)) c d levels l rest served)
 
 abbrev μ-loop : tie.MeasureT-loop
-μ-loop levels₀ top d served₀ rest₀ l₀ levels served rest l = l
+μ-loop levels₀ top d held served₀ rest₀ l₀ levels served rest l = l
 
 loop-holds : tie.Need-loop-holds Inv-loop μ-loop
-loop-holds c = let a = c .args in (omega arith, c .pre .1, λ n h most. gone-none n (a .d) (a .levels .now) (a .top) h most)
+loop-holds c = let a = c .args in (omega arith, c .pre .1, λ n h most. gone-none (tieHold 0 (hasBit (a .held))) n (a .d) (a .levels .now) (a .top) h most)
 
 -- after the jobs of a level
-gone : (f : tie.After-first-of Inv-loop μ-loop)
+gone : (f : tie.After-first-held Inv-loop μ-loop)
     → let l = f .before .before .before .loop in
     let a = f .before .before .before .before .args in
-    let next = f .first-of .result .jobs in
+    let next = f .first-held .result .jobs in
     let off = set (l .levels) (l .l) (bitXor (at (l .levels) (l .l)) next) in
     (n : ℕ → ℕ) → Levelled (a .levels .now) n → ((i : ℕ) → i < 64 → n i ≤ a .top)
-    → Gone n (a .d) (set off (l .l - 1) (bitOr (at off (l .l - 1)) next)) (l .l - 1) (f .first-of .result .more) (bitOr (l .served) next)
+    → Gone (tieHold 0 (hasBit (a .held))) n (a .d) (set off (l .l - 1) (bitOr (at off (l .l - 1)) next)) (l .l - 1) (f .first-held .result .more) (bitOr (l .served) next)
 gone f n h most =
     let l = f .before .before .before .loop in
     let a = f .before .before .before .before .args in
-    let gave = f .first-of in
-    rw (sym (gave .ensures .2)) at (gone-more n (a .d) (l .levels) (l .l) (l .rest) (l .served) (omega arith) (l .inv .2 n h most) (omega arith) (gave .result .jobs)
-    (gave .ensures .0) (gave .ensures .1) (l .inv .1))
+    let gave = f .first-held in
+    rw (sym (gave .ensures .1)) at (gone-more (tieHold 0 (hasBit (a .held))) n (a .d) (l .levels) (l .l) (l .rest) (l .served) (omega arith) (l .inv .2 n h most) (omega arith) (gave .result .jobs)
+    (gave .ensures .0) (l .inv .1))
 
 mul-level : tie.Need-mul-level Inv-loop μ-loop
 mul-level c = omega arith
@@ -44,8 +46,8 @@ mul-level c = omega arith
 element-copy-out-level : tie.Need-element-copy-out-level Inv-loop μ-loop
 element-copy-out-level c = omega arith
 
-first-of-requires : tie.Need-first-of-requires Inv-loop μ-loop
-first-of-requires c κs = search needs
+first-held-requires : tie.Need-first-held-requires Inv-loop μ-loop
+first-held-requires c κs = search needs
 
 sub-below : tie.Need-sub-below Inv-loop μ-loop
 sub-below c = omega arith
@@ -73,14 +75,14 @@ returns c =
     let f = c .before .before in
     let l = f .before .before .before .loop in
     let a = f .before .before .before .before .args in
-    let next = f .first-of .result .jobs in
+    let next = f .first-held .result .jobs in
     let off : List ℕ = set (l .levels) (l .l) (bitXor (at (l .levels) (l .l)) next) in
     let moved : List ℕ = set off (l .l - 1) (bitOr (at off (l .l - 1)) next) in (
       simp length-set (l .inv .1),
       λ n h most.
           let so-far = gone f n h most in
           record {
-            picks = gone-all n (a .d) moved (l .l - 1) (f .first-of .result .more) (bitOr (l .served) next) (omega arith) so-far (inr (c .if1 .taken));
+            picks = gone-all (tieHold 0 (hasBit (a .held))) n (a .d) moved (l .l - 1) (f .first-held .result .more) (bitOr (l .served) next) (omega arith) so-far (inr (c .if1 .taken));
             levels = so-far .levels;
           },
     )
@@ -96,13 +98,13 @@ loop-again c =
     let f = c .before .before .before .before in
     let l = f .before .before .before .loop in
     let a = f .before .before .before .before .args in
-    let next = f .first-of .result .jobs in
+    let next = f .first-held .result .jobs in
     let off : List ℕ = set (l .levels) (l .l) (bitXor (at (l .levels) (l .l)) next) in
     let moved : List ℕ = set off (l .l - 1) (bitOr (at off (l .l - 1)) next) in (
       omega (arith, c .highest .ensures .0),
       simp length-set (l .inv .1),
       λ n h most.
-          gone-empty n (a .d) moved (l .l - 1) (f .first-of .result .more) (bitOr (l .served) next) (omega arith) (gone f n h most) (c .highest .result)
+          gone-empty (tieHold 0 (hasBit (a .held))) n (a .d) moved (l .l - 1) (f .first-held .result .more) (bitOr (l .served) next) (omega arith) (gone f n h most) (c .highest .result)
           (c .highest .ensures .0) (c .highest .ensures .1),
     )
 
@@ -113,7 +115,7 @@ returns-2 c =
       l .inv .1,
       λ n h most.
           let so-far = l .inv .2 n h most in
-          record { picks = gone-all n (a .d) (l .levels) (l .l) (l .rest) (l .served) (omega arith) so-far (inl (omega arith)); levels = so-far .levels },
+          record { picks = gone-all (tieHold 0 (hasBit (a .held))) n (a .d) (l .levels) (l .l) (l .rest) (l .served) (omega arith) so-far (inl (omega arith)); levels = so-far .levels },
     )
 
 pub choose-spec : {M : Type 1} → statement M
@@ -125,7 +127,7 @@ choose-spec =
     loop-holds
     mul-level
     element-copy-out-level
-    first-of-requires
+    first-held-requires
     sub-below
     mul-levels
     element-write-levels

@@ -2,13 +2,12 @@
 use Prim.Native.Nat.{ℕ, _+_, _-_, _≤_, _<_, _^_}
 use native.Mathlib.Omega.{arith}
 use mathlib.Core.Path.{_≡_, _∙_, ap}
-use lib.Bits.{and-le-l, xor-lt, bitXor}
+use lib.Bits.{and-le-l}
 use borrow.Author.Needs.{needs}
 use Rattle.laws.specs.Sums.{count}
 use Rattle.station.specs.Head.{hasBit}
-use Rattle.placing.proofs.MaskBits.{ones-hasBit}
 use Rattle.placing.proofs.rule.row.RowWritten.{untaken, untaken-none}
-use Rattle.placing.proofs.rule.masks.Sets.{clear-more, clear-some, clear-none, first-all, first-cleared, first-count}
+use Rattle.placing.proofs.rule.masks.Sets.{clear-more, clear-some, clear-none, first-all, first-cleared}
 use Rattle.placing.proofs.rule.levels.first_of.Statement.{statement}
 use Rattle.placing.proofs.rule.levels.first_of.Tie as tie
 
@@ -29,9 +28,8 @@ returns : tie.Need-returns Inv-loop μ-loop
 returns c =
     let l = c .before .before .loop in
     let a = c .before .before .before .args in
-    let short : a .mask < 2 ^ 64 = search needs in
     let none = clear-none (hasBit (a .mask)) (a .d - l .more) (l .rest) (l .inv .1) (l .inv .2) (c .if1 .taken) in
-    (short, first-all (a .mask) (a .d) (omega (arith, none)), omega (arith, none, l .inv .0, l .inv .3, ones-hasBit 64 (a .mask) short))
+    (first-all (a .mask) (a .d) (omega (arith, none)), omega (arith, none, l .inv .0, l .inv .3))
 
 without-lowest-requires : tie.Need-without-lowest-requires Inv-loop μ-loop
 without-lowest-requires c κs = search needs
@@ -60,9 +58,7 @@ returns-2 c =
     let l = c .before .loop in
     let a = c .before .before .args in
     let all : a .d - l .more ≡ a .d = omega arith in
-    let short : bitXor (a .mask) (l .rest) < 2 ^ 64 = xor-lt 64 (a .mask) (l .rest) (search needs) (l .inv .1) in
-    let first : (i : ℕ) → hasBit (bitXor (a .mask) (l .rest)) i ≡ _ = first-cleared (a .mask) (a .d) (l .rest) (rw all at (l .inv .2)) in
-    (short, λ i h. first i, omega (arith, all, l .inv .3, first-count (a .mask) (a .d) (bitXor (a .mask) (l .rest)) short (λ i h. first i)))
+    (λ i h. first-cleared (a .mask) (a .d) (l .rest) (rw all at (l .inv .2)) i, omega (arith, all, l .inv .3))
 
 pub first-of-spec : {M : Type 1} → statement M
 first-of-spec =

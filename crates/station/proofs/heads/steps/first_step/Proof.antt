@@ -42,6 +42,12 @@ enum-told-5 c = search needs
 stop-requires-5 : tie.Need-stop-requires-5
 stop-requires-5 c κs = search needs
 
+enum-told-6 : tie.Need-enum-told-6
+enum-told-6 c = search needs
+
+stop-requires-6 : tie.Need-stop-requires-6
+stop-requires-6 c κs = search needs
+
 returns : tie.Need-returns
 returns c = c .stop .ensures ∙ ap (firstStep (c .before .before .before .args .state)) (sym (c .before .enum-told .given .1))
 
@@ -60,6 +66,9 @@ returns-5 c = c .stop4 .ensures ∙ ap (firstStep (c .before .before .before .ar
 returns-6 : tie.Need-returns-6
 returns-6 c = c .stop5 .ensures ∙ ap (firstStep (c .before .before .before .args .state)) (sym (c .before .enum-told5 .given .1))
 
+returns-7 : tie.Need-returns-7
+returns-7 c = c .stop6 .ensures ∙ ap (firstStep (c .before .before .before .args .state)) (sym (c .before .enum-told6 .given .1))
+
 pub first-step-spec : {M : Type 1} → statement M
 first-step-spec =
     tie.close
@@ -76,9 +85,12 @@ first-step-spec =
     stop-requires-4
     enum-told-5
     stop-requires-5
+    enum-told-6
+    stop-requires-6
     returns
     returns-2
     returns-3
     returns-4
     returns-5
-    returns-6)
+    returns-6
+    returns-7)

@@ -36,6 +36,12 @@ enum-told-3 c = search needs
 enum-told-4 : tie.Need-enum-told-4
 enum-told-4 c = search needs
 
+enum-known-line-3 : tie.Need-enum-known-line-3
+enum-known-line-3 c = search needs
+
+tie-step-requires : tie.Need-tie-step-requires
+tie-step-requires c κs = search needs
+
 returns : tie.Need-returns
 returns c = c .stop .ensures ∙ ap (nextStep (c .before .before .before .args .state)) (sym (c .before .enum-told .given .1))
 
@@ -54,6 +60,9 @@ returns-5 c = ap (nextStep (c .before .before .args .state)) (sym (c .enum-told3
 returns-6 : tie.Need-returns-6
 returns-6 c = ap (nextStep (c .before .before .args .state)) (sym (c .enum-told4 .given .1))
 
+returns-7 : tie.Need-returns-7
+returns-7 c = c .tie-step .ensures ∙ ap (nextStep (c .before .before .before .before .args .state)) (sym (c .before .before .line3 .given .1))
+
 pub next-step-spec : {M : Type 1} → statement M
 next-step-spec =
     tie.close
@@ -68,9 +77,12 @@ next-step-spec =
     preset-step-requires
     enum-told-3
     enum-told-4
+    enum-known-line-3
+    tie-step-requires
     returns
     returns-2
     returns-3
     returns-4
     returns-5
-    returns-6)
+    returns-6
+    returns-7)

@@ -1,0 +1,150 @@
+//! Texts that try the order of ties: frames in which equal remaining times meet in many slots, and tie lines in every place,
+//! good or not.
+
+use super::limits::any_station;
+use super::rng::Rng;
+use super::station::{tie_line, Station, LARGE, MEDIUM, SMALL};
+
+/// Presets and jobs of few different lengths, on few bridges in many slots, some of which have no free bridge at all.
+pub fn equal_needs(rng: &mut Rng) -> Vec<u8> {
+    let size = *rng.pick(&[SMALL, SMALL, MEDIUM, MEDIUM, LARGE]);
+    let mut station = Station::head_only(rng, size);
+    station.head.truncate(station.presets);
+    if station.busy == 1 && rng.chance(60) {
+        station.hold();
+    }
+    if rng.chance(40) {
+        block_slots(rng, &mut station);
+    }
+    let (count, part) = (rng.within(2..=8), *rng.pick(&[1, 2, 3]));
+    let length = (station.slots * station.bridges / count / part).clamp(1, station.slots);
+    for _ in 0..count {
+        let number = station.job_number(rng, 0);
+        let (priority, mandatory) = (rng.below(3), rng.within(length.div_ceil(2)..=length));
+        station.head.push(format!("(preset {number} {priority} {mandatory} {})", rng.within(0..=length)));
+    }
+    for _ in 0..rng.within(0..=6) {
+        let event = if rng.chance(30) { tie_line(rng) } else { equal_call(rng, &mut station) };
+        station.events.push(event);
+    }
+    station.bytes()
+}
+
+/// Two to five jobs that differ by one slot at most.
+fn equal_call(rng: &mut Rng, station: &mut Station) -> String {
+    let length = rng.within(1..=station.slots.div_ceil(3));
+    let jobs: Vec<String> =
+        (0..rng.within(2..=5)).map(|_| format!("({} {})", station.job_number(rng, 2), length + rng.below(2))).collect();
+    format!("(call {})", jobs.join(" "))
+}
+
+/// Busy lines that take the same few slots on every bridge, in place of those there are.
+fn block_slots(rng: &mut Rng, station: &mut Station) {
+    let gap = 2 + rng.below(5);
+    let list: Vec<String> = (1 + rng.below(gap)..=station.slots).step_by(gap).map(|s| format!("({s} {s})")).collect();
+    station.head.truncate(station.busy);
+    if !list.is_empty() {
+        let busy = (1..=station.bridges).map(|bridge| format!("(busy {bridge} {})", list.join(" ")));
+        station.head.extend(busy);
+    }
+    station.presets = station.head.len();
+}
+
+/// Directly after the frame line: hold, place, one of them twice, both; and right after the head.
+pub fn in_its_place(rng: &mut Rng) -> Vec<u8> {
+    const LINES: &[&[&str]] = &[
+        &["(tie hold)"],
+        &["(tie hold)"],
+        &["(tie place)"],
+        &["(tie hold)", "(tie hold)"],
+        &["(tie hold)", "(tie place)"],
+        &["(tie place)", "(tie hold)"],
+    ];
+    let mut station = any_station(rng);
+    station.head.drain(1..station.busy);
+    let lines = rng.pick(LINES);
+    station.head.splice(1..1, lines.iter().map(|&line| line.to_owned()));
+    // A second tie line is an event: with it nothing else is left of the head, mostly.
+    if lines.len() > 1 && rng.chance(70) {
+        station.head.truncate(1 + lines.len());
+    }
+    if rng.chance(50) {
+        let line = tie_line(rng);
+        station.events.insert(0, line);
+    }
+    station.bytes()
+}
+
+/// One to three tie lines in any place: on line 1, among the busy lines, between presets, among the events, at the end.
+pub fn anywhere(rng: &mut Rng) -> Vec<u8> {
+    let mut station = any_station(rng);
+    for _ in 0..rng.within(1..=3) {
+        let line = tie_line(rng);
+        insert(rng, &mut station, line);
+    }
+    station.bytes()
+}
+
+/// A tie line without its form, in any place; now and then the last line of all, with or without its byte 10.
+pub fn damaged(rng: &mut Rng) -> Vec<u8> {
+    const LINES: &[&str] = &[
+        "(tie)",
+        "(tie )",
+        "(tie Hold)",
+        "(tie PLACE)",
+        "(Tie hold)",
+        "(tie hold )",
+        "(tie  place)",
+        "( tie hold)",
+        "(tie\thold)",
+        "(tiehold)",
+        "(tie hol)",
+        "(tie holds)",
+        "(tie plac)",
+        "(tie places)",
+        "(tie hold place)",
+        "(tie holdplace)",
+        "(tie placehold)",
+        "(tie hold 1)",
+        "(tie 0)",
+        "(tie 1)",
+        "(tie (hold))",
+        "(tie hold))",
+        "(tie hold",
+        "(tie place",
+        "(tie hold) ",
+        "(tie hold)\r",
+        "(tie hold)(tie hold)",
+        "(ties hold)",
+        "(hold)",
+        "tie hold",
+        "(t",
+    ];
+    let mut station = any_station(rng);
+    if rng.chance(20) {
+        let line = tie_line(rng);
+        station.events.push(line);
+        let mut bytes = station.bytes();
+        bytes.pop();
+        return bytes;
+    }
+    let line = (*rng.pick(LINES)).to_owned();
+    insert(rng, &mut station, line);
+    station.bytes()
+}
+
+fn insert(rng: &mut Rng, station: &mut Station, line: String) {
+    let (busy, presets, head) = (station.busy, station.presets, station.head.len());
+    let at = match rng.below(9) {
+        0 => 0,
+        1 | 2 => 1,
+        3 => rng.within(busy..=presets),
+        4 => rng.within(presets..=head),
+        _ => {
+            let at = rng.within(0..=station.events.len());
+            station.events.insert(at, line);
+            return;
+        }
+    };
+    station.head.insert(at, line);
+}
