@@ -5,17 +5,18 @@
 use Prim.Native.Nat.{ℕ, suc, _≤_, _<_}
 use native.Mathlib.Omega.{arith}
 use mathlib.Core.Path.{_≡_, refl, sym, _∙_, ap, subst}
+use mathlib.Core.Bool.{Bool}
 use mathlib.Core.List.{List}
-use lib.ListN.{length}
+use lib.ListN.{length, take}
 use lib.Dec.{ltb, lit≤}
 use Rattle.laws.proofs.Tests.{Is, is-true, is-false, is}
 use Rattle.laws.proofs.Comparisons.{lt-of, ge-of}
 use Rattle.station.specs.Head.{Head}
 use Rattle.station.specs.Refusal.{firstOf, mandatoryNotFeasible}
+use Rattle.station.specs.Form.{tieLine, print}
 use Rattle.station.specs.Reading.{Reading, headOf}
 use Rattle.station.proofs.Theorems.{read-means, read-valid, read-written, written-read, yielded}
-use Rattle.placing.specs.Table.{cells}
-use Rattle.placing.specs.State.{State, stateOf}
+use Rattle.placing.specs.State.{State, stateOf, withTable}
 use Rattle.placing.specs.Valid.{firstClock}
 use Rattle.placing.specs.Plan.{tieOf, planned}
 use Rattle.placing.specs.Outcomes.{PlanAnswer, planOf}
@@ -23,12 +24,13 @@ use Rattle.placing.specs.Claims.{Running}
 use Rattle.placing.proofs.Theorems.{cell-written, grants-rule}
 use Rattle.placing.proofs.Theorems.{clock-is}
 use Rattle.placing.proofs.Theorems.{plan-granted, plan-claim, plan-only-five, nine-counts-all, call-claim}
-use Rattle.frame.specs.Event.{Event, refused, Run, runOf}
+use Rattle.frame.specs.Event.{Event, asked, tieNow, Run, runOf}
 use Rattle.frame.specs.Text.{Whole, ran, startOf, eventsOf, wholeWithPlan, wholeWithHead, wholeOf}
 use Rattle.frame.specs.Demands.{stateAt, eventAt, answerAt, cellsAt, Ends, too-long, too-short, head-refused, is-not-planned, is-planned}
-use Rattle.frame.specs.Demands.{EventIs, Demand1, Demand2, OneText, Between, Demand3}
-use Rattle.frame.proofs.EventList.{answered, outcome-at, answer-at, state-next, state-end, between}
-use Rattle.frame.proofs.OneEvent.{event-is, refused-no-line, refused-leaves, clock-leaves, tie-leaves, now-asks, tie-asks, tie-said, event-never-eleven, seven-asks, event-running}
+use Rattle.frame.specs.Listing.{answerLine}
+use Rattle.frame.specs.Demands.{EventIs, Demand1, Demand2, OneText, lastTie, Between, Demand3}
+use Rattle.frame.proofs.EventList.{answered, outcome-at, answer-at, state-next, state-end, answers-take, between}
+use Rattle.frame.proofs.OneEvent.{event-is, refused-no-line, refused-leaves, clock-leaves, taken-leaves, tie-leaves, now-asks, tie-asks, tie-line, tie-said, event-never-eleven, seven-asks, event-running}
 use Rattle.frame.proofs.KeptCells.{Kept, Still, run-kept, run-still, run-counted, run-clock, run-tie}
 use Rattle.frame.proofs.ListedCalls.{running-at, callClaim, seven-at, took, rule-at, slots-at, valid-at, lost-at, reported-at, least-at}
 use Rattle.frame.proofs.CallCells.{call-cells}
@@ -122,6 +124,11 @@ kept-between : (h : Head) (st : State) (es : List Event) → Running h st
     → Between es (λ i j. Kept h (stateAt h st es i .table) (stateAt h st es j .table))
 kept-between h st es start = between h (Running h) (λ x y. Kept h (x .table) (y .table)) (event-running h) (run-kept h) st es start
 
+-- "printed as it came"
+tie-text : (n : ℕ) (hold : Bool) → answerLine n (tieNow hold) ≡ print (tieLine hold)
+unfolding answerLine
+tie-text n hold = refl
+
 -- Demand 3, over any list of events from any start that 11 lets pass.
 pub demand-3 : (h : Head) (st : State) (es : List Event) → Running h st → Demand3 h st es
 demand-3 h st es start = record {
@@ -148,17 +155,24 @@ demand-3 h st es start = record {
   clock = run-clock h st es;
   clock-asked = λ j t l q. now-asks h (stateAt h st es j) (eventAt es j) t (sym (answer-at h st es j l) ∙ q);
   tie = run-tie h st es;
+  tie-at = λ j. run-tie h st (take j es) ∙ ap (lastTie (st .hold)) (answers-take h st es j);
   tie-accepted = λ j hold l. (
     λ q. tie-asks h (stateAt h st es j) (eventAt es j) hold (sym (answer-at h st es j l) ∙ q),
     λ q. answer-at h st es j l ∙ tie-said h (stateAt h st es j) (eventAt es j) hold (running-at h st es start j) q,
   );
   tie-leaves = λ j hold l q.
       state-next h st es j l ∙ tie-leaves h (stateAt h st es j) (eventAt es j) hold (sym (answer-at h st es j l) ∙ q);
+  tie-printed = λ j n l hold i e q.
+      tie-text n hold ∙ sym (tie-line l hold (ap asked (sym e) ∙ tie-asks h (stateAt h st es j) (eventAt es j) hold (sym (answer-at h st es j i) ∙ q)));
   no-line = λ j n r l q. refused-no-line h (stateAt h st es j) (eventAt es j) n r (sym (answer-at h st es j l) ∙ q);
   refused-leaves = λ j r l q.
-      state-next h st es j l ∙ refused-leaves h (stateAt h st es j) (eventAt es j) r (sym (answer-at h st es j l) ∙ q);
+      state-next h st es j l ∙ refused-leaves h (stateAt h st es j) (eventAt es j) 0 r (sym (answer-at h st es j l) ∙ q);
   clock-leaves = λ j t l q.
-      ap (λ (x : State). x .table) (state-next h st es j l) ∙ clock-leaves h (stateAt h st es j) (eventAt es j) t (sym (answer-at h st es j l) ∙ q);
+      state-next h st es j l ∙ clock-leaves h (stateAt h st es j) (eventAt es j) t (sym (answer-at h st es j l) ∙ q);
+  call-leaves = λ j n l q.
+      state-next h st es j l
+      ∙ taken-leaves h (stateAt h st es j) (eventAt es j) n (sym (answer-at h st es j l) ∙ q)
+      ∙ ap (λ (x : State). withTable (x .table) (stateAt h st es j)) (sym (state-next h st es j l));
   fixed = run-kept h st es start .fixed;
   fixed-between = λ i j l m. kept-between h st es start i j l m .fixed;
   optional = run-kept h st es start .optional;

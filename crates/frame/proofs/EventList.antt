@@ -1,7 +1,7 @@
 -- A list of events, taken apart: what each event gets and answers, in terms of `eventOf` alone.
 --
 -- In order: one answer for each event (`answered`); what event j comes to (`outcome-at`, `answer-at`, `state-next`), and the whole list
--- (`state-end`); what each event keeps, of each state (`kept-at`) and of the whole list (`kept-over`); the list from event j on (`run-rest`); what every
+-- (`state-end`), and its first events (`answers-take`); what each event keeps, of each state (`kept-at`) and of the whole list (`kept-over`); the list from event j on (`run-rest`); what every
 -- list does, between any two moments of one (`run-between`, `between`).
 -- Assumes nothing.
 use Prim.Native.Nat.{ℕ, zero, suc, _≤_, _<_}
@@ -12,7 +12,7 @@ use lib.ListN.{length, take, drop}
 use lib.Seq.{take-take}
 use Rattle.station.specs.Head.{Head}
 use Rattle.placing.specs.State.{State}
-use Rattle.frame.specs.Event.{Event, Outcome, eventOf, runOf}
+use Rattle.frame.specs.Event.{Event, Answer, Outcome, eventOf, runOf}
 use Rattle.frame.specs.Demands.{stateAt, eventAt, answerAt, Between}
 
 -- every event has one answer
@@ -42,6 +42,14 @@ pub state-end : (h : Head) (st : State) (es : List Event) → stateAt h st es (l
 unfolding runOf
 state-end h st [] = refl
 state-end h st (e ∷ es) = state-end h (eventOf h st e .after) es
+
+-- the first events have the first answers
+pub answers-take : (h : Head) (st : State) (es : List Event) (j : ℕ) → runOf h st (take j es) .answers ≡ take j (runOf h st es .answers)
+unfolding runOf
+answers-take h st [] zero = refl
+answers-take h st [] (suc j) = refl
+answers-take h st (e ∷ es) zero = refl
+answers-take h st (e ∷ es) (suc j) = ap (λ (l : List Answer). eventOf h st e .answer ∷ l) (answers-take h (eventOf h st e .after) es j)
 
 -- What each event keeps, each state of the list has.
 pub kept-at : (h : Head) (P : State → Type 0) → ((st : State) (e : Event) → P st → P (eventOf h st e .after))

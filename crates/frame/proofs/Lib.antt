@@ -1,8 +1,8 @@
 -- The laws of layer 3. What programs and the static library cite: the theorems; and the three demands.
 pub mod Theorems
 pub mod Demands
--- A list of events taken apart; one event; what events leave as it was; a call of a list; call cells; events handed over one by one; the starred frames computed; limits and the order of causes held from two
--- sides; texts without a tie line list what they listed. The laws about one part of the code stand beside its proofs, in the folder of its name.
+-- A list of events taken apart; one event; what events leave as it was; a call of a list; call cells; events handed over one by one; the starred frames computed; limits and the order
+-- of causes held from two sides; texts without a tie line list what they listed. The laws about one part of the code stand beside its proofs, in the folder of its name.
 mod EventList
 mod OneEvent
 mod KeptCells

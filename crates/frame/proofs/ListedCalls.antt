@@ -61,8 +61,8 @@ module _ (h : Head) (st : State) (es : List Event) (start : Running h st) where
       rule-at =
           subst (λ (x : List ℕ). Each h (λ s b. cell h x s b ≡ called (tieOf (stAt .hold)) h (stAt .clock) jobs (cell h (stAt .table)) s b)) table-next (callClaim .rule n took)
 
-      pub slots-at : (s : ℕ) → s < h .slots → JobsRule h (stAt .clock) (stAt .hold) jobs (cell h (stAt .table)) (cell h tableAfter) s
-      slots-at s l = subst (λ (x : List ℕ). JobsRule h (stAt .clock) (stAt .hold) jobs (cell h (stAt .table)) (cell h x) s) table-next (callClaim .slots n took s l)
+      pub slots-at : (s : ℕ) → s < h .slots → JobsRule (tieOf (stAt .hold)) h (stAt .clock) jobs (cell h (stAt .table)) (cell h tableAfter) s
+      slots-at s l = subst (λ (x : List ℕ). JobsRule (tieOf (stAt .hold)) h (stAt .clock) jobs (cell h (stAt .table)) (cell h x) s) table-next (callClaim .slots n took s l)
 
       pub valid-at : ValidCall h (stAt .clock) jobs (cell h (stAt .table)) (cell h tableAfter)
       valid-at = subst (λ (x : List ℕ). ValidCall h (stAt .clock) jobs (cell h (stAt .table)) (cell h x)) table-next (callClaim .valid n took)

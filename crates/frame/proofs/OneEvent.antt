@@ -1,8 +1,9 @@
 -- One event on a running frame: what it can come to, and what it keeps.
 --
--- In order: the cases of an event (`event-is`, `clock-set`); what a refusal, a clock and a tie leave (`refused-no-line`, `refused-leaves`, `clock-leaves`, `tie-leaves`); a call as an event is the call of the layer below (`event-call`), which leaves all but the table (`call-leaves`); who asked for an answer
--- (`taken-asks`, `now-asks`, `tie-asks`); a tie is never refused (`tie-said`); the refusals that an event's own causes never give (`event-never-eleven`, `seven-asks`); the frame is a running one
--- afterwards (`event-running`).
+-- In order: the cases of an event (`event-is`, `clock-set`); what a refusal, a clock, a tie and a call leave (`refused-no-line`, `refused-leaves`, `clock-leaves`, `taken-leaves`,
+-- `tie-leaves`); a call as an event is the call of the layer below (`event-call`), which leaves all but the table (`call-leaves`); who asked for an answer (`now-asks`, `tie-asks`), and the line
+-- that asks for a tie (`asks-tie`, `tie-line`); a tie is never refused (`tie-said`); the refusals that an event's own causes never give (`event-never-eleven`, `seven-asks`); the
+-- frame is a running one afterwards (`event-running`).
 -- Assumes nothing.
 use Prim.Native.Nat.{ℕ, _≤_, _<_}
 use native.Mathlib.Omega.{arith}
@@ -17,11 +18,11 @@ use Rattle.laws.proofs.Comparisons.{ge-of}
 use Rattle.station.specs.Head.{Head, Job}
 use Rattle.station.specs.Refusal.{Refusal, numberOf, noForm, outOfLimits, outOfPlace, numberUsed, clockBack, callNotFeasible, tooMany, notWellFormed}
 use Rattle.station.specs.Refusal.{try, firstOf}
-use Rattle.station.specs.Form.{Form, frameLine, busyLine, presetLine, clockLine, callLine, tieLine, form}
-use Rattle.station.proofs.Theorems.{first-none, first-of-none, append-none, append-left-none, Never, end, skip, never-first}
+use Rattle.station.specs.Form.{Form, frameLine, busyLine, presetLine, clockLine, callLine, tieLine, print, form}
+use Rattle.station.proofs.Theorems.{form-had, first-none, first-of-none, append-none, append-left-none, Never, end, skip, never-first}
 use Rattle.placing.specs.Table.{cell}
 use Rattle.placing.specs.Valid.{clockIn}
-use Rattle.placing.specs.State.{State, withTable, withOrder}
+use Rattle.placing.specs.State.{State, withTable, withClock, withOrder}
 use Rattle.placing.specs.Plan.{tieOf}
 use Rattle.placing.specs.Call.{called, callFits}
 use Rattle.placing.specs.Outcomes.{Cost, costOf, written, frameCauses, jobsOutside, jobsUsed, jobsTooMany, callCauses, CallAnswer, CallOutcome, callOf}
@@ -76,24 +77,33 @@ refused-no-line h st e n r q = go (eventOf h st e) (event-is h st e) q
     go _ (tieSet hold asks f) p = cc
     go _ (placed jobs asks f) p = cc
 
--- a refused event changes nothing, a clock leaves the table, and a tie all but the order of ties
-pub refused-leaves : (h : Head) (st : State) (e : Event) (r : Refusal) → eventOf h st e .answer ≡ refused 0 r → eventOf h st e .after ≡ st
-refused-leaves h st e r q = go (eventOf h st e) (event-is h st e) q
+-- a refused event changes nothing, a clock all but the clock, a tie all but the order of ties, and a call that is taken all but the table
+pub refused-leaves : (h : Head) (st : State) (e : Event) (n : ℕ) (r : Refusal) → eventOf h st e .answer ≡ refused n r → eventOf h st e .after ≡ st
+refused-leaves h st e n r q = go (eventOf h st e) (event-is h st e) q
   where
-    go : (o : Outcome) → EventIs h st e o → o .answer ≡ refused 0 r → o .after ≡ st
+    go : (o : Outcome) → EventIs h st e o → o .answer ≡ refused n r → o .after ≡ st
     go _ (stopped c f) p = refl
     go _ (clockSet t f g) p = cc
     go _ (tieSet hold f g) p = cc
     go _ (placed jobs f g) p = cc
 
-pub clock-leaves : (h : Head) (st : State) (e : Event) (t : ℕ) → eventOf h st e .answer ≡ clockNow t → eventOf h st e .after .table ≡ st .table
+pub clock-leaves : (h : Head) (st : State) (e : Event) (t : ℕ) → eventOf h st e .answer ≡ clockNow t → eventOf h st e .after ≡ withClock t st
 clock-leaves h st e t q = go (eventOf h st e) (event-is h st e) q
   where
-    go : (o : Outcome) → EventIs h st e o → o .answer ≡ clockNow t → o .after .table ≡ st .table
-    go _ (stopped r f) p = refl
-    go _ (clockSet c f g) p = refl
-    go _ (tieSet hold f g) p = refl
+    go : (o : Outcome) → EventIs h st e o → o .answer ≡ clockNow t → o .after ≡ withClock t st
+    go _ (stopped r f) p = cc
+    go _ (clockSet c f g) p = let same : c ≡ t = cc in ap (λ (x : ℕ). withClock x st) same
+    go _ (tieSet hold f g) p = cc
     go _ (placed jobs f g) p = cc
+
+pub taken-leaves : (h : Head) (st : State) (e : Event) (n : Cost) → eventOf h st e .answer ≡ taken n → eventOf h st e .after ≡ withTable (eventOf h st e .after .table) st
+taken-leaves h st e n q = go (eventOf h st e) (event-is h st e) q
+  where
+    go : (o : Outcome) → EventIs h st e o → o .answer ≡ taken n → o .after ≡ withTable (o .after .table) st
+    go _ (stopped r f) p = cc
+    go _ (clockSet t f g) p = cc
+    go _ (tieSet hold f g) p = cc
+    go _ (placed jobs f g) p = refl
 
 pub tie-leaves : (h : Head) (st : State) (e : Event) (hold : Bool) → eventOf h st e .answer ≡ tieNow hold → eventOf h st e .after ≡ withOrder hold st
 tie-leaves h st e hold q = go (eventOf h st e) (event-is h st e) q
@@ -156,16 +166,6 @@ module _ (h : Head) (st : State) (e : Event) (jobs : List Job) (asks : asked e �
   pub call-table : eventOf h st e .after .table ≡ callOf h jobs st .after .table
   call-table = ap (λ (o : Outcome). o .after .table) (event-call h st e jobs asks)
 
--- an answer of cells taken is a call's
-pub taken-asks : (h : Head) (st : State) (e : Event) (n : Cost) → eventOf h st e .answer ≡ taken n → (jobs : List Job) × (asked e ≡ placeJobs jobs)
-taken-asks h st e n q = go (eventOf h st e) (event-is h st e) q
-  where
-    go : (o : Outcome) → EventIs h st e o → o .answer ≡ taken n → (jobs : List Job) × (asked e ≡ placeJobs jobs)
-    go _ (stopped r f) p = absurd (let z : _≡_ {A = ℕ} 0 1 = cc in omega arith)
-    go _ (clockSet t f g) p = absurd (let z : _≡_ {A = ℕ} 0 1 = cc in omega arith)
-    go _ (tieSet hold f g) p = absurd (let z : _≡_ {A = ℕ} 0 1 = cc in omega arith)
-    go _ (placed jobs f g) p = (jobs, f)
-
 -- an answer of the clock is that of an event that asks for it
 pub now-asks : (h : Head) (st : State) (e : Event) (t : ℕ) → eventOf h st e .answer ≡ clockNow t → asked e ≡ setClock t
 now-asks h st e t q = go (eventOf h st e) (event-is h st e) q
@@ -176,7 +176,20 @@ now-asks h st e t q = go (eventOf h st e) (event-is h st e) q
     go _ (tieSet hold f g) p = cc
     go _ (placed jobs f g) p = cc
 
--- and so is an answer of the order of ties
+-- a line that asks for a tie has its form, and is the tie line printed
+pub asks-tie : (o : Option Form) (hold : Bool) → askedByForm o ≡ setTie hold → o ≡ some (tieLine hold)
+asks-tie none hold q = cc
+asks-tie (some (frameLine s b)) hold q = cc
+asks-tie (some (busyLine b p)) hold q = cc
+asks-tie (some (presetLine p)) hold q = cc
+asks-tie (some (clockLine t)) hold q = cc
+asks-tie (some (callLine p)) hold q = cc
+asks-tie (some (tieLine next)) hold q = let same : next ≡ hold = cc in ap (λ (b : Bool). some (tieLine b)) same
+
+pub tie-line : (l : List ℕ) (hold : Bool) → asked (line l) ≡ setTie hold → l ≡ print (tieLine hold)
+tie-line l hold q = form-had l (tieLine hold) (asks-tie (form l) hold q)
+
+-- an answer of the order of ties is that of an event that asks for it
 pub tie-asks : (h : Head) (st : State) (e : Event) (hold : Bool) → eventOf h st e .answer ≡ tieNow hold → asked e ≡ setTie hold
 tie-asks h st e hold q = go (eventOf h st e) (event-is h st e) q
   where

@@ -220,8 +220,12 @@ tied =
     -- "As an event either holds for later calls", and is "printed as it came"
     ∷ shows "(frame 6 1)\n(preset 9 0 0 0)\n(tie hold)\n(call (1 1) (2 2))\n(tie place)\n(call (3 1) (4 2))\n"
     "(granted 9 0)\n(tie hold)\n(taken 0)\n(tie place)\n(taken 0)\n(slot 1 c2)\n(slot 2 c2)\n(slot 3 c1)\n(slot 4 c4)\n(slot 5 c3)\n(slot 6 c4)\n"
-    -- "Directly after the frame line `(tie hold)` holds for the plan and the calls"
-    ∷ shows "(frame 3 1)\n(tie hold)\n(call (1 1) (2 2))\n" "(taken 0)\n(slot 1 c2)\n(slot 2 c2)\n(slot 3 c1)\n"
+    -- "Directly after the frame line `(tie hold)` holds for the plan and the calls": the two frames of docs/CALLS.md
+    ∷ shows "(frame 3 1)\n(tie hold)\n(call (5 1) (6 2))\n" "(taken 0)\n(slot 1 c6)\n(slot 2 c6)\n(slot 3 c5)\n"
+    ∷ shows "(frame 3 1)\n(call (5 1) (6 2))\n" "(taken 0)\n(slot 1 c6)\n(slot 2 c5)\n(slot 3 c6)\n"
+    -- for more than one call, a clock between them or not, until a tie event says otherwise
+    ∷ shows "(frame 9 1)\n(tie hold)\n(call (1 1) (2 2))\n(clock 2)\n(call (3 1) (4 2))\n(tie place)\n(call (5 1) (6 2))\n"
+    "(taken 0)\n(now 2)\n(taken 0)\n(tie place)\n(taken 0)\n(slot 1 c2)\n(slot 2 c2)\n(slot 3 c1)\n(slot 4 c4)\n(slot 5 c4)\n(slot 6 c3)\n(slot 7 c6)\n(slot 8 c5)\n(slot 9 c6)\n"
     -- a refused line between leaves the order
     ∷ shows "(frame 3 1)\n(preset 9 0 0 0)\n(tie hold)\n(call (9 1))\n(tie Place)\n(clock 9)\n(call (1 1) (2 2))\n"
     "(granted 9 0)\n(tie hold)\n(refused 4 4)\n(refused 5 1)\n(refused 6 2)\n(taken 0)\n(slot 1 c2)\n(slot 2 c2)\n(slot 3 c1)\n"
@@ -290,7 +294,7 @@ tied-compute : All Computes tied
 unfolding lists tied
 tied-compute =
     (refl, tt) and (refl, tt) and (refl, tt) and (refl, tt) and (refl, tt) and (refl, refl) and (refl, refl) and (refl, refl) and (refl, tt) and (refl, tt) and (refl, tt) and (refl, tt)
-    and (refl, tt) and end
+    and (refl, tt) and (refl, tt) and (refl, tt) and end
 
 -- Every starred frame comes out as document 01 says, and so do the others; every frame of docs/CALLS.md comes out as that page says, and those with ties as document 02 does.
 pub frames-hold : All Holds starred × All Holds others × All Holds refuting × All Holds misleading × All Holds tied

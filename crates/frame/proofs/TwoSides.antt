@@ -3,7 +3,8 @@
 --
 -- In order: texts: lines after an event, the limits of a clock and of a call at both edges, the causes of a head and of an event two at a time, the order of
 -- loss (`texts-list`); events on a lent table, by the listed order 8, 2, 11, 1, 3, 2, 4, 9, 6, 7 (`events-answered`), and with preset records
--- (`records-answered`); the order of ties that is lent (`orders-met`); a text beside short lent things (`texts-end`), and a text of events (`events-end`); the entries that write lines (`lines-answered`).
+-- (`records-answered`); the order of ties that is lent, met and left (`orders-met`, `orders-left`); what a list handed over may start from (`starts-pass`); the moments of a list
+-- (`between-ends`); a text beside short lent things (`texts-end`), and a text of events (`events-end`); the entries that write lines (`lines-answered`).
 -- Assumes nothing.
 use Prim.Native.Nat.{ℕ}
 use mathlib.Core.Path.{_≡_, refl}
@@ -27,7 +28,7 @@ use Rattle.frame.specs.EventEntry.{eventOnSlice}
 use Rattle.frame.specs.HandedOver.{LetPass}
 use Rattle.frame.specs.Demands.{Between}
 use Rattle.frame.specs.Text.{notRead, wholeOf}
-use Rattle.frame.specs.TextDone.{wholeWithOutput, listed, refusedAt}
+use Rattle.frame.specs.TextDone.{wholeWithOutput, listed, refusedAt, holdAfter}
 use Rattle.frame.specs.TextEntry.{wholeOnSlice}
 use Rattle.frame.specs.EventsDone.{EventsOutcome, eventsMeant}
 use Rattle.frame.specs.Listing.{listingOf}
@@ -157,7 +158,9 @@ pub records-answered : (eventMeant (counting 32) (recordsTo 32) (stateOf (lent [
 unfolding lists eventMeant eventOnSlice recordsTo
 records-answered = (refl, refl, refl, refl, refl, refl)
 
--- the order of ties that is lent is in force, and a tie event's from then on; a refused line leaves it
+-- ---- the order of ties that is lent
+
+-- It is in force, and a tie event's from then on; a refused line leaves it.
 abbrev twoJobs : Event
 twoJobs = call (job 1 1 ∷ job 2 2 ∷ [])
 
@@ -172,7 +175,19 @@ pub orders-met : (take 3 (eventOf (bare 3 1) (stateOf (lent []) 1 true) twoJobs 
 unfolding lists eventsMeant moved
 orders-met = (refl, refl, refl, refl, refl)
 
--- A list handed over may start from 32 records, and from the last clock; not from 31, nor past that clock.
+-- What is refused before it is run leaves the order in force: a head that is not read, required slots that do not fit whatever the head says, and 8.
+pub orders-left : (holdAfter (wholeOf (bytes "(frame 1 1)\n(tie place)\n") (lent [])) true ≡ true)
+    × (holdAfter (wholeOf (bytes "(frame 1 1)\n(tie hold)\n(preset 1 0 2 0)\n") (lent [])) false ≡ false)
+    × (holdAfter (wholeOf (bytes "(frame 1 1)\n(preset 1 0 2 0)\n") (lent [])) true ≡ true)
+    × (eventsMeant 31 (counting 0) [] (stateOf (lent []) 1 true) (bytes "(tie place)\n") (replicate 8192 0) .after .hold ≡ true)
+    × (eventOnSlice 31 (counting 0) [] (stateOf (lent []) 1 true) (line (bytes "(tie place)\n")) .after .hold ≡ true)
+    × (eventMeant (counting 33) (recordsTo 33) (stateOf (lent []) 1 true) (line (bytes "(tie place)\n")) .after .hold ≡ true)
+unfolding lists holdAfter eventsMeant eventMeant eventOnSlice recordsTo moved
+orders-left = (refl, refl, refl, refl, refl, refl)
+
+-- ---- a list handed over
+
+-- It may start from 32 records, and from the last clock; not from 31, nor past that clock.
 pub starts-pass : LetPass (counting 0) (recordsTo 32) (stateOf (lent []) 1 false)
     × LetPass (counting 32) (recordsTo 32) (stateOf (lent []) 2 false)
     × (LetPass (counting 0) (recordsTo 31) (stateOf (lent []) 1 false) → some tooShort ≡ none)

@@ -1,5 +1,6 @@
 -- The three demands as statements about `wholeOf`, `headOf`, `textOf`, `planOf`, `eventOf` and `runOf`, each a record whose fields are document 01's
--- sentences in their order. That they hold for all texts, tables, starts and lists of events is `demand-1`, `demand-2` and `demand-3` in proofs/Demands.antt.
+-- sentences in their order, and those of document 02, 2026-02, on the order of ties. That they hold for all texts, tables, starts and lists of events is `demand-1`, `demand-2` and
+-- `demand-3` in proofs/Demands.antt.
 -- Assumes nothing.
 use Prim.Native.Nat.{ℕ, suc, _+_, _≤_, _<_}
 use mathlib.Core.Path.{_≡_}
@@ -16,7 +17,7 @@ use Rattle.station.specs.Text.{lines, join}
 use Rattle.station.specs.Writing.{formsOf, textOf}
 use Rattle.station.specs.Reading.{Reading, Means, headOf}
 use Rattle.placing.specs.Table.{Cells, cell, cells, Each, holding, isBusy, isMandatory, isOptional, isCall, callCell}
-use Rattle.placing.specs.State.{State, stateOf, withOrder}
+use Rattle.placing.specs.State.{State, stateOf, withTable, withClock, withOrder}
 use Rattle.placing.specs.Valid.{ValidPlan, ValidCall, usable, jobAt, lost, lostUpTo, optionalCount}
 use Rattle.placing.specs.Plan.{GrantRule, tieOf, planned}
 use Rattle.placing.specs.Call.{emptyCount, evictionOrder, InEvictionOrder, slotsOf, inSet, evictedSet, called}
@@ -25,6 +26,7 @@ use Rattle.placing.specs.Outcomes.{Cost, costOf, PlanAnswer, planOf, CallAnswer
 use Rattle.placing.specs.Claims.{Running, SamePast, PresetsRule, Fits, JobsRule, LeastCall, beforeSeven}
 use Rattle.frame.specs.Event.{Event, line, setClock, setTie, placeJobs, asked, Answer, clockNow, tieNow, taken, refused, Outcome, Run, clockState, tieState, eventCauses, runOf}
 use Rattle.frame.specs.Text.{Whole, notRead, notPlanned, ran, startOf, eventsOf, wholeOf}
+use Rattle.frame.specs.Listing.{answerLine}
 use Rattle.station.specs.Limits.{leastCells, mostBytes, worstPriority}
 
 -- ---- where an event stands in a list
@@ -87,13 +89,13 @@ pub record Demand2 (h : Head) (t : List ℕ) : Type 0 where
   pub grants : (g : List ℕ) → planOf h t .answer ≡ PlanAnswer.granted g → GrantRule h g
   -- "Placing, slot by slot from the first: as many presets as there are free bridges, those with the most slots still to get, never one with none left.
   -- Equal ones: the earlier line first", or whom `(tie hold)` in the head puts first.
-  pub slots : (g : List ℕ) → planOf h t .answer ≡ PlanAnswer.granted g → (s : ℕ) → s < h .slots → PresetsRule h g (cell h (planOf h t .table)) s
+  pub slots : (g : List ℕ) → planOf h t .answer ≡ PlanAnswer.granted g → (s : ℕ) → s < h .slots → PresetsRule (tieOf (h .hold)) h g (cell h (planOf h t .table)) s
   -- "The chosen, in file order, take the free bridges in ascending order"; "A preset's first m cells in time are required, the rest refinement"
   pub cells : (g : List ℕ) → planOf h t .answer ≡ PlanAnswer.granted g → Each h (λ s b. cell h (planOf h t .table) s b ≡ planned (tieOf (h .hold)) h s b)
-  -- "Jobs are then placed by the rule above over the empty and lost cells, in the call's order": a call on this table, whatever order of ties is in force. In each slot the jobs that have a cell are those
-  -- that the rule chooses, and they take the free bridges as the presets of a plan do.
+  -- "Jobs are then placed by the rule above over the empty and lost cells, in the call's order": a call on this table, whatever order of ties is in force. In each slot the jobs that
+  -- have a cell are those that the rule chooses, and they take the free bridges as the presets of a plan do.
   pub call-slots : (clock : ℕ) (hold : Bool) (jobs : List Job) (n : Cost) → callOf h jobs (stateOf t clock hold) .answer ≡ CallAnswer.taken n
-      → (s : ℕ) → s < h .slots → JobsRule h clock hold jobs (cell h t) (cell h (callOf h jobs (stateOf t clock hold) .after .table)) s
+      → (s : ℕ) → s < h .slots → JobsRule (tieOf hold) h clock jobs (cell h t) (cell h (callOf h jobs (stateOf t clock hold) .after .table)) s
   pub call-cells : (clock : ℕ) (hold : Bool) (jobs : List Job) (n : Cost) → callOf h jobs (stateOf t clock hold) .answer ≡ CallAnswer.taken n
       → Each h (λ s b. cell h (callOf h jobs (stateOf t clock hold) .after .table) s b ≡ called (tieOf hold) h clock jobs (cell h t) s b)
 
@@ -182,7 +184,7 @@ pub record Demand3 (h : Head) (st : State) (es : List Event) : Type 0 where
       → Each h (λ s b. cellsAt h st es (suc j) s b ≡ called (tieOf (stateAt h st es j .hold)) h (stateAt h st es j .clock) jobs (cellsAt h st es j) s b)
   -- that is demand 2's rule, slot by slot, on the table and clock of this very call and under the order of ties in force at it
   pub slots : (j : ℕ) (jobs : List Job) (n : Cost) → CallAt es j jobs → answerAt h st es j ≡ taken n
-      → (s : ℕ) → s < h .slots → JobsRule h (stateAt h st es j .clock) (stateAt h st es j .hold) jobs (cellsAt h st es j) (cellsAt h st es (suc j)) s
+      → (s : ℕ) → s < h .slots → JobsRule (tieOf (stateAt h st es j .hold)) h (stateAt h st es j .clock) jobs (cellsAt h st es j) (cellsAt h st es (suc j)) s
   pub valid : (j : ℕ) (jobs : List Job) (n : Cost) → CallAt es j jobs → answerAt h st es j ≡ taken n
       → ValidCall h (stateAt h st es j .clock) jobs (cellsAt h st es j) (cellsAt h st es (suc j))
   -- the cells that are lost in the table left are those of that set, and no other
@@ -200,20 +202,24 @@ pub record Demand3 (h : Head) (st : State) (es : List Event) : Type 0 where
   pub nine-counts-all : (j : ℕ) → j ≤ length es → (u : Cells) → lostUpTo h (cellsAt h st es j) u worstPriority ≡ cells h (λ s b. lost (cellsAt h st es j) u s b)
   -- "Optimality is shown for every order of ties": of the table that the rule makes of this call with any of them
   pub any-order : (j : ℕ) (jobs : List Job) (n : Cost) → CallAt es j jobs → answerAt h st es j ≡ taken n → (ties : Ties) → TotalTies ties
-      → LeastCall h (stateAt h st es j .clock) jobs n (cellsAt h st es j) (called ties h (stateAt h st es j .clock) jobs (cellsAt h st es j))
+      → LeastCall ties h (stateAt h st es j .clock) jobs n (cellsAt h st es j) (called ties h (stateAt h st es j .clock) jobs (cellsAt h st es j))
   -- "After the list: 11 was never met"; the frame that is left is one that 11 lets pass
   pub never-eleven : (j : ℕ) → j < length es → answerAt h st es j ≡ refused 0 notWellFormed → ⊥
   pub running : Running h (runOf h st es .after)
   -- "the clock is the t of the last accepted clock line, or without one the start's, and the head is the start's" (the events are handed one head)
   pub clock : runOf h st es .after .clock ≡ lastClock (st .clock) (runOf h st es .answers)
   pub clock-asked : (j t : ℕ) → j < length es → answerAt h st es j ≡ clockNow t → asked (eventAt es j) ≡ setClock t
-  -- the order of ties is that of the last accepted tie event, or without one the start's; a tie event is never refused, and changes nothing else
+  -- the order of ties is that of the last accepted tie event, or without one the start's, after the list and at each event of it; a tie event is never refused, changes nothing else, and is
+  -- "printed as it came": the line of its answer is the line handed over
   pub tie : runOf h st es .after .hold ≡ lastTie (st .hold) (runOf h st es .answers)
+  pub tie-at : (j : ℕ) → stateAt h st es j .hold ≡ lastTie (st .hold) (take j (runOf h st es .answers))
   pub tie-accepted : (j : ℕ) (hold : Bool) → j < length es → (answerAt h st es j ≡ tieNow hold) ↔ (asked (eventAt es j) ≡ setTie hold)
   pub tie-leaves : (j : ℕ) (hold : Bool) → j < length es → answerAt h st es j ≡ tieNow hold → stateAt h st es (suc j) ≡ withOrder hold (stateAt h st es j)
-  -- a refused event changes nothing, and a clock leaves the table
+  pub tie-printed : (j n : ℕ) (l : List ℕ) (hold : Bool) → j < length es → eventAt es j ≡ line l → answerAt h st es j ≡ tieNow hold → answerLine n (tieNow hold) ≡ l
+  -- a refused event changes nothing, a clock all but the clock, and a call all but the table
   pub refused-leaves : (j : ℕ) (r : Refusal) → j < length es → answerAt h st es j ≡ refused 0 r → stateAt h st es (suc j) ≡ stateAt h st es j
-  pub clock-leaves : (j t : ℕ) → j < length es → answerAt h st es j ≡ clockNow t → stateAt h st es (suc j) .table ≡ stateAt h st es j .table
+  pub clock-leaves : (j t : ℕ) → j < length es → answerAt h st es j ≡ clockNow t → stateAt h st es (suc j) ≡ withClock t (stateAt h st es j)
+  pub call-leaves : (j : ℕ) (n : Cost) → j < length es → answerAt h st es j ≡ taken n → stateAt h st es (suc j) ≡ withTable (stateAt h st es (suc j) .table) (stateAt h st es j)
   -- "busy and required cells are the start's", and between any two moments of the list they are the same
   pub fixed : Each h (λ s b. SameFixed (cell h (st .table) s b) (cell h (runOf h st es .after .table) s b))
   pub fixed-between : Between es (λ i j. Each h (λ s b. SameFixed (cellsAt h st es i s b) (cellsAt h st es j s b)))

@@ -30,8 +30,8 @@ use Rattle.station.specs.Limits.{leastRecords}
 abbrev pub LetPass : record-of-head.Head → List record-of-preset.Preset → State → Type 0
 LetPass head ps st = firstOf (try tooShort (ltb (length ps) leastRecords) ∷ frameCausesOf head ps st) ≡ none
 
--- A list of events handed over: each premise is what the entry promises of one call of it, each call meets "the table and clock that the last one left" and the order of ties, and "nobody else writes
--- these, the head or the preset list meanwhile". Then the events, their answers and the last table, clock and order are these.
+-- A list of events handed over: each premise is what the entry promises of one call of it, each call meets "the table and clock that the last one left" and the order of ties, and
+-- "nobody else writes these, the head or the preset list meanwhile". Then the events, their answers and the last table, clock and order are these.
 pub data Handed (head : record-of-head.Head) (ps : List record-of-preset.Preset) : State → List Event → List Answer → State → Type 0 where
   no-more : {st : State} → Handed head ps st [] [] st
   -- a line to `event`, which left the table u

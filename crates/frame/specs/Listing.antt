@@ -1,4 +1,4 @@
--- The listing: what the program writes. Document 01, "One listing, whole".
+-- The listing: what the program writes. Document 01, "One listing, whole"; document 02, 2026-02.
 -- Assumes nothing.
 use Prim.Native.Nat.{ℕ, zero, suc}
 use mathlib.Core.List.{List, [], _∷_}

@@ -1,5 +1,5 @@
 -- What running a whole text is held to: the answer, the head, and every lent cell and byte afterwards, for all texts, tables and outputs. Document 01,
--- "Causes" and "One listing, whole".
+-- "Causes" and "One listing, whole"; document 02, 2026-02.
 --
 -- In order: what a text comes to beside a lent output; what is answered and left of each lent thing; the promise `TextDone`, and what is claimed of a text
 -- that runs (`TextClaim`).

@@ -12,12 +12,12 @@ use mathlib.Core.List.{List, [], _∷_}
 use lib.ListN.{length}
 use lib.Dec.{ltb}
 use Rattle.station.specs.Limits.{mostBytes, leastRecords}
-use Rattle.station.specs.Refusal.{tooShort, textTooLong, try, firstOf}
+use Rattle.station.specs.Refusal.{Refusal, tooShort, textTooLong, try, firstOf}
 use Rattle.station.specs.declared.types.Preset as record-of-preset
 use Rattle.station.specs.declared.types.Head as record-of-head
 use Rattle.frame.specs.Text.{Whole, notRead}
 use Rattle.frame.specs.declared.text.TextRun as run
-use Rattle.frame.specs.TextDone.{wholeWithOutput, Leaves, TextClaim}
+use Rattle.frame.specs.TextDone.{wholeWithOutput, refusedAt, endIn, Leaves, TextClaim}
 use Rattle.frame.specs.declared.text.TextAnswer as answer
 
 -- What a text comes to where the list has so many records: "Tried in the order 10, 8, ..", both at line 0, and then as beside a lent output.
@@ -49,4 +49,6 @@ pub record SliceClaim (records : ℕ) (text t out : List ℕ) : Type 0 where
 pub record TextEntry (text : List ℕ) (head : record-of-head.Head) (ps : List record-of-preset.Preset) (t : List ℕ) (clock : ℕ) (hold : Bool) (out : List ℕ)
     (ps₁ : List record-of-preset.Preset) (t₁ out₁ : List ℕ) (r : answer.TextAnswer) : Type 0 where
   pub done : TextOnSlice (length ps) text head ps t clock hold out t₁ out₁ (textLeft r ps₁)
+  -- a refusal leaves table, clock, order of ties and output, also where "the head is the one read"
+  pub unchanged : (n : ℕ) (c : Refusal) → endIn (r .ended) ≡ refusedAt n c → (t₁ ≡ t) × (r .clock ≡ clock) × (r .hold ≡ hold) × (out₁ ≡ out)
   pub claim : SliceClaim (length ps) text t out

@@ -43,7 +43,7 @@ abbrev pub grantWritten : ℕ → ℕ → List ℕ → WriteOutcome
 grantWritten n g out = lineWritten (outputShort out ∷ []) (grantedLine n g) out
 
 -- The causes of a slot's line where the list has n records: 8 for the output, for the list and for the table, 2 for the head record, 11 for the table, and 2 for "a value ..
--- outside its limits", the slot's number. A slot's line asks for no clock, so 11 is tried with the first clock, which every frame passes, and so is either order of ties.
+-- outside its limits", the slot's number. A slot's line asks for no clock and no order of ties: 11 is tried with those of the start, which every frame passes.
 abbrev pub slotCauses : ℕ → record-of-head.Head → List record-of-preset.Preset → List ℕ → ℕ → List ℕ → List (Option Refusal)
 slotCauses n head ps t s out = outputShort out ∷ try tooShort (ltb n leastRecords) ∷ (frameCausesOf head ps (startOf (headIn head ps) t) ++ (try outOfLimits (not (within 1 (head .slots) s)) ∷ []))
 

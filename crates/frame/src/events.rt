@@ -27,9 +27,10 @@ pub struct EventsAnswer {
     pub hold: bool,
 }
 
-// Runs a text whose every line is an event, the first one being line 1: 10 for more than 32,768 bytes, 8 for fewer than 32 preset records, an output below 8,192 bytes or a
-// table below 512 cells, 2 of the head record, 11, each at line 0 and changing nothing; else every line is answered, and the answers stand at the start of the output, as far as
-// it has room for them. No line of a slot is written. A frame that 11 lets pass is such a frame afterwards, and all of demand 3 holds of the list of lines.
+// Runs a text whose every line is an event, the first one being line 1, on the table, the clock and the order of ties (`hold`) that are handed in: 10 for more than 32,768
+// bytes, 8 for fewer than 32 preset records, an output below 8,192 bytes or a table below 512 cells, 2 of the head record, 11, each at line 0 and changing nothing; else every
+// line is answered, and the answers stand at the start of the output, as far as it has room for them. No line of a slot is written. A frame that 11 lets pass is such a frame
+// afterwards, and all of demand 3 holds of the list of lines.
 pub fn run_events(
     head: Head,
     presets: &[Preset],
@@ -79,8 +80,9 @@ fn events_counted(
     run_events_by_value(head, copied, table, clock, hold, text, out)
 }
 
-// Runs a text whose every line is an event, the first one being line 1: 10 for more than 32,768 bytes, 8 for an output below 8,192 bytes or a table below 512 cells, 2 of the
-// head record, 11, each at line 0 and changing nothing; else every line is answered, and the answers stand at the start of the output, as far as it has room for them.
+// Runs a text whose every line is an event, the first one being line 1, on the table, the clock and the order of ties (`hold`) that are handed in: 10 for more than 32,768
+// bytes, 8 for an output below 8,192 bytes or a table below 512 cells, 2 of the head record, 11, each at line 0 and changing nothing; else every line is answered, and the
+// answers stand at the start of the output, as far as it has room for them.
 pub fn run_events_by_value(
     head: Head,
     presets: [Preset; MOST_PRESETS],

@@ -1,8 +1,8 @@
 -- Laws of counts: how many of the numbers below a bound pass a test.
 --
 -- In order: a test as a number (`bit`), a comparison in terms that omega reads (`bit-ltb`); counts of tests that are equal, imply one another, hold nowhere or everywhere, and what
--- a count that is not 0 has found; a count split by a second test, and of one or the other; a test passed at most once, and the one selected term; one number for each that passes.
--- One number more is in Loops, the count of what comes before in an order in Order.
+-- a count that is not 0 has found; a count split by a second test, of one or the other, and of the smaller numbers; a test passed at most once, and the one selected term; one number
+-- for each that passes. One number more is in Loops, the count of what comes before in an order in Order.
 -- Assumes nothing.
 use Prim.Native.Nat.{ℕ, zero, suc, _+_, _-_, _*_, _≤_, _<_, min, zero-le}
 use native.Mathlib.Nat.{le-refl, add-zero, zero-mul, suc-mul}
@@ -14,15 +14,19 @@ use mathlib.Core.Bool.{Bool, true, false, not, _&&_, _||_, and-comm}
 use lib.Dec.{ltb, eqb}
 use Rattle.laws.specs.Sums.{bit, only, sum, count}
 use Rattle.laws.proofs.Tests.{Is, is, is-true, is-false, clash, not-true, never-both, fails-right, and-true}
-use Rattle.laws.proofs.Comparisons.{lt-of, ge-of, eq-of}
+use Rattle.laws.proofs.Comparisons.{lt-of, ge-of, eq-of, ltb-yes, ltb-no}
 use Rattle.laws.proofs.Every.{either}
-use Rattle.laws.proofs.Sums.{sum-ext, sum-le, sum-zero, term-le, sum-lt, sum-pos, sum-add, sum-or-and, sum-point, sum-two}
+use Rattle.laws.proofs.Sums.{sum-ext, sum-le, sum-zero, term-le, sum-lt, sum-pos, sum-add, sum-or-and, sum-below, sum-point, sum-two}
 
 -- ---- a test as a number
 
 pub bit-le : (b : Bool) → bit b ≤ 1
 bit-le true = le-refl 1
 bit-le false = zero-le
+
+pub bit-positive : (b : Bool) → ltb 0 (bit b) ≡ b
+bit-positive true = refl
+bit-positive false = refl
 
 -- beside a test that is known
 pub bit-and-true : (a b : Bool) → b ≡ true → bit (a && b) ≡ bit a
@@ -106,6 +110,12 @@ count-split n p q =
 pub count-or : (n : ℕ) (p q : ℕ → Bool) → ((i : ℕ) → i < n → p i ≡ true → q i ≡ false) → count n (λ i. p i || q i) ≡ count n p + count n q
 count-or n p q apart =
     omega (arith, sum-or-and n (λ i b. bit b) p q, count-none n (λ i. p i && q i) (λ i l. never-both (p i) (q i) (apart i l)))
+
+-- those below i among those below n
+pub count-smaller : (n : ℕ) (p : ℕ → Bool) (i : ℕ) → i ≤ n → count n (λ j. p j && ltb j i) ≡ count i p
+count-smaller n p i h =
+    sym (sum-below i n (λ j. bit (p j && ltb j i)) h (λ j l m. bit-and-false (p j) (ltb j i) (ltb-no j i l)))
+    ∙ count-ext i (λ j. p j && ltb j i) p (λ j l. and-true (p j) (ltb j i) (ltb-yes j i l))
 
 -- ---- at most one
 

@@ -1,5 +1,6 @@
 -- The laws, by subject. Of numbers and lists: tests, comparisons, tests of every number, sums, counts, lists element by element, stores into them, what a loop over numbers keeps,
--- positions in an order. Of jobs and slots: capacities, placements (T1, T2), the two orders of ties computed, the sums of the largest needs, the excess, cells of a slot, eviction (T4), grants (T3), the highest need of a job.
+-- positions in an order. Of jobs and slots: capacities, placements (T1, T2), the two orders of ties computed, the sums of the largest needs, the excess, cells of a slot, eviction
+-- (T4), grants (T3), the highest need of a job.
 pub mod Tests
 pub mod Comparisons
 pub mod Every

@@ -1,6 +1,6 @@
 -- Placements: a placement exists exactly if every selection of jobs obeys the capacity, and then largest remaining time first finds one.
 --
--- In order: the criterion for more free cells and lower needs; a placement obeys the criterion; the r largest needs; the criterion and the excess; one slot for any
+-- In order: the criterion for lower needs; a placement obeys the criterion; the r largest needs; the criterion and the excess; one slot for any
 -- choice of the largest needs, by the dual of the criterion; any way of breaking ties (T2); the choice of LRTF; the needs that are left, and
 -- who has a cell in the slot just before; the rule as a table shows it (`shown-rule`); LRTF places, whatever the order of ties.
 -- Laws of the capacity alone are in Capacities.
@@ -8,7 +8,7 @@
 use Prim.Native.Nat.{ℕ, zero, suc, _+_, _-_, _*_, _≤_, _<_, min}
 use native.Mathlib.Nat.{le-refl, mul-comm}
 use native.Mathlib.Omega.{arith}
-use mathlib.Core.Path.{_≡_, refl, sym, _∙_, ap, subst}
+use mathlib.Core.Path.{_≡_, refl, sym, _∙_, ap, ap₂, subst, fun-ext}
 use mathlib.Core.Logic.{_⊎_, inl, inr}
 use mathlib.Core.Bool.{Bool, true, false, not, _&&_, _||_}
 use mathlib.Core.List.{List}
@@ -16,24 +16,19 @@ use lib.ListN.{length}
 use lib.Dec.{ltb}
 use Rattle.laws.specs.Sums.{bit, only, sum, count, position, Total}
 use Rattle.laws.specs.Lists.{at}
-use Rattle.laws.specs.Placement.{Placed, everywhere, capacity, Criterion, Ties, TotalTies, tiePlace, tieHold, holders, nobody, goesFirst, chosen, SlotRule}
-use Rattle.laws.specs.Placement.{AtSlot, holds, choice, served, atSlot, left, lrtf, before, largest, excess}
+use Rattle.laws.specs.Placement.{Placed, everywhere, capacity, Criterion, Ties, TotalTies, holders, nobody, goesFirst, chosen, SlotRule}
+use Rattle.laws.specs.Placement.{AtSlot, holds, chosenAt, served, atSlot, left, lrtf, before, largest, excess}
 use Rattle.laws.proofs.Tests.{Is, is, is-true, is-false, clash, both, left-of, right-of}
 use Rattle.laws.proofs.Comparisons.{lt-of, ge-of, ltb-yes}
 use Rattle.laws.proofs.Every.{either}
 use Rattle.laws.proofs.Sums.{only-le, sum-ext, sum-le, sum-zero, term-le, sum-add, sum-first, sum-swap, greatest-bounds, greatest-attained}
-use Rattle.laws.proofs.Counts.{count-ext, count-le, count-imp, sum-only-const}
+use Rattle.laws.proofs.Counts.{bit-positive, count-ext, count-le, count-imp, sum-only-const}
 use Rattle.laws.proofs.Lists.{length-tabulate, at-tabulate, at-past}
 use Rattle.laws.proofs.Order.{position-order, order-of-position, position-count, at-position, goes-total, place-total, before-total}
-use Rattle.laws.proofs.Capacities.{capacity-mono}
 
--- ---- more free cells, lower needs
+-- ---- lower needs
 
--- more free cells keep the criterion
-pub criterion-mono : (k : ℕ) (c : ℕ → ℕ) (n : ℕ) (x y : ℕ → ℕ) → ((s : ℕ) → s < n → x s ≤ y s) → Criterion k c n x → Criterion k c n y
-criterion-mono k c n x y h f p = omega (arith, f p, capacity-mono n x y (count k p) h)
-
--- and so do smaller needs
+-- smaller needs keep the criterion
 pub criterion-less : (k : ℕ) (c d : ℕ → ℕ) (n : ℕ) (x : ℕ → ℕ) → ((i : ℕ) → i < k → c i ≤ d i) → Criterion k d n x → Criterion k c n x
 criterion-less k c d n x less f p =
     omega (arith, f p, sum-le k (λ i. only (p i) (c i)) (λ i. only (p i) (d i)) (λ i l. only-le (p i) (less i l)))
@@ -271,11 +266,11 @@ steps-end (suc n) k l D x step next dual i h =
     )) i h
 
 -- what is left of a need and what the job has got make the need
-steps-got : (k : ℕ) (l : ℕ → ℕ → ℕ) (D : ℕ → ℕ → Bool) (i n : ℕ) → ((s : ℕ) → s < n → l (suc s) i + bit (D s i) ≡ l s i) →
+steps-got : (l : ℕ → ℕ → ℕ) (D : ℕ → ℕ → Bool) (i n : ℕ) → ((s : ℕ) → s < n → l (suc s) i + bit (D s i) ≡ l s i) →
     l n i + count n (λ s. D s i) ≡ l 0 i
 unfolding sum
-steps-got k l D i zero next = omega arith
-steps-got k l D i (suc n) next = omega (arith, steps-got k l D i n (λ s m. next s (omega arith)), next n (omega arith))
+steps-got l D i zero next = omega arith
+steps-got l D i (suc n) next = omega (arith, steps-got l D i n (λ s m. next s (omega arith)), next n (omega arith))
 
 -- T2, whatever breaks ties: where every selection obeys, choosing the largest remaining needs slot by slot makes a placement.
 pub largest-first-places : (k n : ℕ) (x : ℕ → ℕ) (l : ℕ → ℕ → ℕ) (D : ℕ → ℕ → Bool) → ((s : ℕ) → s < n → Step k (l s) (x s) (D s)) →
@@ -285,7 +280,7 @@ largest-first-places k n x l D step next h =
       exact = λ i m.
           omega (
             arith,
-            steps-got k l D i n (λ s z. whole s i z m (is (D s i))),
+            steps-got l D i n (λ s z. whole s i z m (is (D s i))),
             steps-end n k l D x step next (dual-of-criterion k (l 0) n x h) i m,
           );
       within = λ s z. step s z .fits;
@@ -386,32 +381,32 @@ module _ {r : ℕ → ℕ → Bool} (o : Total r) where
 
 -- ---- the needs that are left, and who has a cell in the slot just before
 
-some-bit : (b : Bool) → ltb 0 (bit b) ≡ b
-some-bit true = refl
-some-bit false = refl
-
 module _ (ties : Ties) (standing : ℕ → ℕ → Bool) where
   pub served-length : (d s : ℕ) (r : AtSlot) → length (served ties standing d s r .needs) ≡ length (r .needs)
   unfolding served
-  served-length d s r = length-tabulate (length (r .needs)) (λ i. at (r .needs) i - bit (choice ties d s r i))
+  served-length d s r = length-tabulate (length (r .needs)) (λ i. at (r .needs) i - bit (chosenAt ties d s r i))
 
-  pub at-served : (d s : ℕ) (r : AtSlot) (i : ℕ) → at (served ties standing d s r .needs) i ≡ at (r .needs) i - bit (choice ties d s r i)
+  pub at-served : (d s : ℕ) (r : AtSlot) (i : ℕ) → at (served ties standing d s r .needs) i ≡ at (r .needs) i - bit (chosenAt ties d s r i)
   unfolding served
   at-served d s r i = go (is (ltb i (length (r .needs))))
     where
-      go : Is (ltb i (length (r .needs))) → at (served ties standing d s r .needs) i ≡ at (r .needs) i - bit (choice ties d s r i)
+      go : Is (ltb i (length (r .needs))) → at (served ties standing d s r .needs) i ≡ at (r .needs) i - bit (chosenAt ties d s r i)
       go (is-true e) =
-          at-tabulate (length (r .needs)) (λ j. at (r .needs) j - bit (choice ties d s r j)) i (lt-of i (length (r .needs)) e)
+          at-tabulate (length (r .needs)) (λ j. at (r .needs) j - bit (chosenAt ties d s r j)) i (lt-of i (length (r .needs)) e)
       go (is-false e) =
           let past : length (r .needs) ≤ i = ge-of i (length (r .needs)) e in
           omega (arith, at-past (r .needs) i past, at-past (served ties standing d s r .needs) i (omega (arith, served-length d s r)))
 
   pub served-holds : (d s : ℕ) (r : AtSlot) (i : ℕ) → i < length (r .needs) →
-      holds (served ties standing d s r) i ≡ (standing i s || choice ties d s r i)
+      holds (served ties standing d s r) i ≡ (standing i s || chosenAt ties d s r i)
   unfolding served
   served-holds d s r i l =
-      ap (ltb 0) (at-tabulate (length (r .needs)) (λ j. bit (standing j s || choice ties d s r j)) i l)
-      ∙ some-bit (standing i s || choice ties d s r i)
+      ap (ltb 0) (at-tabulate (length (r .needs)) (λ j. bit (standing j s || chosenAt ties d s r j)) i l)
+      ∙ bit-positive (standing i s || chosenAt ties d s r i)
+
+  served-past : (d s : ℕ) (r : AtSlot) (i : ℕ) → length (r .needs) ≤ i → holds (served ties standing d s r) i ≡ false
+  unfolding served
+  served-past d s r i h = ap (ltb 0) (at-past (served ties standing d s r .held) i (omega (arith, length-tabulate (length (r .needs)) (λ j. bit (standing j s || chosenAt ties d s r j)), h)))
 
   module _ (c : List ℕ) (x : ℕ → ℕ) where
     pub left-length : (s : ℕ) → length (left ties standing c x s) ≡ length c
@@ -438,9 +433,8 @@ module _ (ties : Ties) (standing : ℕ → ℕ → Bool) where
 
     -- what is left of a need and what the job has got make the need
     pub left-got : (i s : ℕ) → at (left ties standing c x s) i + count s (λ t. lrtf ties standing c x i t) ≡ at c i
-    unfolding atSlot sum
-    left-got i zero = omega arith
-    left-got i (suc s) = omega (arith, left-got i s, left-step i s)
+    unfolding atSlot
+    left-got i s = steps-got (λ t. at (left ties standing c x t)) (λ t j. lrtf ties standing c x j t) i s (λ t m. left-step i t)
 
     -- after a slot those have a cell in it who stood there or were chosen
     pub held-step : (i s : ℕ) → i < length c → holds (atSlot ties standing c x (suc s)) i ≡ (standing i s || lrtf ties standing c x i s)
@@ -448,14 +442,31 @@ module _ (ties : Ties) (standing : ℕ → ℕ → Bool) where
     held-step i s l = served-holds (x s) s (atSlot ties standing c x s) i (omega (arith, left-length s))
 
     -- so before a slot it is who stood or was chosen in the slot just before
-    pub held-by : (s i : ℕ) → i < length c → holds (atSlot ties standing c x s) i ≡ holders (λ j t. standing j t || lrtf ties standing c x j t) s i
+    pub held-by : (s : ℕ) → holds (atSlot ties standing c x s) ≡ holders (length c) (λ j t. standing j t || lrtf ties standing c x j t) s
     unfolding atSlot
-    held-by zero i l = refl
-    held-by (suc s) i l = held-step i s l
+    held-by zero = refl
+    held-by (suc s) = fun-ext (λ i. go i (is (ltb i (length c))))
+      where
+        before-it : AtSlot
+        before-it = atSlot ties standing c x s
+
+        go : (i : ℕ) → Is (ltb i (length c))
+            → holds (served ties standing (x s) s before-it) i ≡ (ltb i (length c) && (standing i s || lrtf ties standing c x i s))
+        go i (is-true e) = rw e (held-step i s (lt-of i (length c) e))
+        go i (is-false e) = rw e (served-past (x s) s before-it i (omega (arith, left-length s, ge-of i (length c) e)))
+
+-- the rule goes by the free cells of the slots up to the one that it places
+module _ (ties : Ties) (standing : ℕ → ℕ → Bool) (c : List ℕ) (n : ℕ) (x y : ℕ → ℕ) (same : (s : ℕ) → s < n → x s ≡ y s) where
+  pub atSlot-ext : (s : ℕ) → s ≤ n → atSlot ties standing c x s ≡ atSlot ties standing c y s
+  unfolding atSlot
+  atSlot-ext zero l = refl
+  atSlot-ext (suc s) l = ap₂ (λ (r : AtSlot) (d : ℕ). served ties standing d s r) (atSlot-ext s (omega arith)) (same s l)
+
+  pub lrtf-ext : (i s : ℕ) → s < n → lrtf ties standing c x i s ≡ lrtf ties standing c y i s
+  lrtf-ext i s l = ap₂ (λ (r : AtSlot) (d : ℕ). chosenAt ties d s r i) (atSlot-ext s (omega arith)) (same s l)
 
 -- where nobody stands, it is whom the rule chose
-pub held-is : (ties : Ties) (c : List ℕ) (x : ℕ → ℕ) (s i : ℕ) → i < length c →
-    holds (atSlot ties nobody c x s) i ≡ holders (λ j t. lrtf ties nobody c x j t) s i
+pub held-is : (ties : Ties) (c : List ℕ) (x : ℕ → ℕ) (s : ℕ) → holds (atSlot ties nobody c x s) ≡ holders (length c) (λ j t. lrtf ties nobody c x j t) s
 held-is ties c x = held-by ties nobody c x
 
 -- the rule's choice in a slot, for the number of jobs that there were at the start
@@ -467,25 +478,19 @@ lrtf-step ties o standing c x s =
 
 -- ---- the rule as a table shows it
 
--- an order of ties in slot s that asks of no job from k on whether it has a cell
-abbrev pub BySet : Ties → ℕ → ℕ → Type 0
-BySet ties s k = (p q : ℕ → Bool) → ((i : ℕ) → i < k → p i ≡ q i) → (i j : ℕ) → i < k → j < k → ties s p j i ≡ ties s q j i
-
-pub place-set : (s k : ℕ) → BySet tiePlace s k
-place-set s k p q same i j l m = refl
-
-pub hold-set : (s k : ℕ) → BySet tieHold s k
-hold-set s k p q same i j l m = rw (same i l, same j m)
-
-holders-ext : (a b : ℕ → ℕ → Bool) (s i : ℕ) → ((r : ℕ) → r ≤ s → a i r ≡ b i r) → holders a s i ≡ holders b s i
-holders-ext a b zero i h = refl
-holders-ext a b (suc s) i h = h s (omega arith)
+holders-ext : (k : ℕ) (a b : ℕ → ℕ → Bool) (s : ℕ) → ((i : ℕ) → i < k → (r : ℕ) → r ≤ s → a i r ≡ b i r) → holders k a s ≡ holders k b s
+holders-ext k a b zero h = refl
+holders-ext k a b (suc s) h = fun-ext (λ i. go i (is (ltb i k)))
+  where
+    go : (i : ℕ) → Is (ltb i k) → (ltb i k && a i s) ≡ (ltb i k && b i s)
+    go i (is-true e) = rw e (h i (lt-of i k e) s (omega arith))
+    go i (is-false e) = rw e
 
 -- Job i has `got i r` cells in slot r: one where LRTF places it, and none elsewhere.
-pub shown-rule : (ties : Ties) → TotalTies ties → (c : List ℕ) (x : ℕ → ℕ) (s k : ℕ) → BySet ties s k → (need : ℕ → ℕ) (got : ℕ → ℕ → ℕ) (d : ℕ) → length c ≡ k
+pub shown-rule : (ties : Ties) → TotalTies ties → (c : List ℕ) (x : ℕ → ℕ) (s k : ℕ) (need : ℕ → ℕ) (got : ℕ → ℕ → ℕ) (d : ℕ) → length c ≡ k
     → ((i : ℕ) → i < k → at c i ≡ need i) → x s ≡ d → ((i : ℕ) → i < k → (r : ℕ) → r ≤ s → got i r ≡ bit (lrtf ties nobody c x i r))
-    → SlotRule (ties s (holders (λ i r. ltb 0 (got i r)) s)) k (λ i. need i - sum s (λ r. got i r)) d (λ i. ltb 0 (got i s))
-shown-rule ties o c x s k by-set need got d long is-need free shown = record {
+    → SlotRule (ties s (holders k (λ i r. ltb 0 (got i r)) s)) k (λ i. need i - sum s (λ r. got i r)) d (λ i. ltb 0 (got i s))
+shown-rule ties o c x s k need got d long is-need free shown = record {
   many = omega (
     arith,
     rule .many,
@@ -508,7 +513,7 @@ shown-rule ties o c x s k by-set need got d long is-need free shown = record {
     by-rule = ties s (holds (atSlot ties nobody c x s))
 
     as-shown : ℕ → ℕ → Bool
-    as-shown = ties s (holders (λ i r. ltb 0 (got i r)) s)
+    as-shown = ties s (holders k (λ i r. ltb 0 (got i r)) s)
 
     rule : SlotRule by-rule k (at rest) (x s) (λ i. lrtf ties nobody c x i s)
     rule = subst (λ (n : ℕ). SlotRule by-rule n (at rest) (x s) (λ i. lrtf ties nobody c x i s)) (left-length ties nobody c x s ∙ long)
@@ -524,18 +529,19 @@ shown-rule ties o c x s k by-set need got d long is-need free shown = record {
         )
 
     placed : (i : ℕ) → i < k → (r : ℕ) → r ≤ s → lrtf ties nobody c x i r ≡ ltb 0 (got i r)
-    placed i l r m = sym (some-bit (lrtf ties nobody c x i r)) ∙ ap (ltb 0) (sym (shown i l r m))
+    placed i l r m = sym (bit-positive (lrtf ties nobody c x i r)) ∙ ap (ltb 0) (sym (shown i l r m))
 
-    who : (i : ℕ) → i < k → holds (atSlot ties nobody c x s) i ≡ holders (λ j r. ltb 0 (got j r)) s i
-    who i l =
-        held-is ties c x s i (omega (arith, long))
-        ∙ holders-ext (λ j r. lrtf ties nobody c x j r) (λ j r. ltb 0 (got j r)) s i (λ r m. placed i l r m)
+    who : holds (atSlot ties nobody c x s) ≡ holders k (λ j r. ltb 0 (got j r)) s
+    who =
+        held-is ties c x s
+        ∙ ap (λ (n : ℕ). holders n (λ j r. lrtf ties nobody c x j r) s) long
+        ∙ holders-ext k (λ j r. lrtf ties nobody c x j r) (λ j r. ltb 0 (got j r)) s placed
 
     same : (i j : ℕ) → i < k → j < k → (at rest i < at rest j) ⊎ ((at rest i ≡ at rest j) × (by-rule j i ≡ true))
         → (to-get i < to-get j) ⊎ ((to-get i ≡ to-get j) × (as-shown j i ≡ true))
     same i j l m (inl p) = inl (omega (arith, p, is-left i l, is-left j m))
     same i j l m (inr p) =
-        inr (omega (arith, p .0, is-left i l, is-left j m), sym (by-set (holds (atSlot ties nobody c x s)) (holders (λ n r. ltb 0 (got n r)) s) who i j l m) ∙ p .1)
+        inr (omega (arith, p .0, is-left i l, is-left j m), ap (λ (q : ℕ → Bool). ties s q j i) (sym who) ∙ p .1)
 
 -- ---- LRTF places
 
@@ -545,7 +551,7 @@ pub any-tie-places : (ties : Ties) → TotalTies ties → (standing : ℕ → �
 unfolding atSlot
 any-tie-places ties o standing c n x h =
     largest-first-places (length c) n x (λ s. at (left ties standing c x s)) (λ s i. lrtf ties standing c x i s)
-    (λ s z. lrtf-step ties o standing c x s) (λ s i z m. omega (arith, left-step ties standing c x i s)) h
+    (λ s z. lrtf-step ties o standing c x s) (λ s i z m. at-served ties standing (x s) s (atSlot ties standing c x s) i) h
 
 -- needs without excess are placed by LRTF
 pub fits-placed : (ties : Ties) → TotalTies ties → (standing : ℕ → ℕ → Bool) (c : List ℕ) (n : ℕ) (x : ℕ → ℕ) → excess (length c) (at c) n x ≡ 0 →

@@ -1,6 +1,6 @@
 -- Jobs and slots as numbers: job i of k needs `c i` different slots, slot s of n has `x s` free cells, and `w i s` says that job i may use slot s.
 -- The meaning is `Placed`: which job stands in which slot. `Criterion`, `excess` and `chosen` are the methods; proofs/ shows
--- that they compute the meaning. Nothing here knows of tables or of text.
+-- that they compute the meaning. The order of ties is document 02's, 2026-02. Nothing here knows of tables or of text.
 -- Assumes nothing.
 use Prim.Native.Nat.{ℕ, zero, suc, _+_, _-_, _≤_, _<_, min}
 use mathlib.Core.Path.{_≡_}
@@ -37,7 +37,8 @@ Criterion k c n x = (p : ℕ → Bool) → sum k (λ i. only (p i) (c i)) ≤ ca
 abbrev pub Ties : Type 0
 Ties = ℕ → (ℕ → Bool) → ℕ → ℕ → Bool
 
--- "Optimality is shown for every order of ties": for each slot and set it is a strict total order.
+-- "Optimality is shown for every order of ties": for each slot and set it is a strict total order. An order of the jobs at hand alone is one of these, with all other numbers put
+-- behind; and since the slot is asked too, so is one that goes by what was chosen in earlier slots.
 abbrev pub TotalTies : Ties → Type 0
 TotalTies ties = (s : ℕ) (p : ℕ → Bool) → Total (ties s p)
 
@@ -49,10 +50,10 @@ tiePlace s p j i = ltb j i
 abbrev pub tieHold : Ties
 tieHold s p j i = ltb (bit (p i)) (bit (p j) + bit (ltb j i))
 
--- those with a cell in the slot just before slot s, where `a i s` says that job i has one in slot s: in slot s - 1 exactly, and before the first slot nobody
-abbrev pub holders : (ℕ → ℕ → Bool) → ℕ → ℕ → Bool
-holders a zero i = false
-holders a (suc s) i = a i s
+-- those of the first k jobs with a cell in the slot just before slot s, where `a i s` says that job i has one in slot s: in slot s - 1 exactly, and before the first slot nobody
+abbrev pub holders : ℕ → (ℕ → ℕ → Bool) → ℕ → ℕ → Bool
+holders k a zero i = false
+holders k a (suc s) i = ltb i k && a i s
 
 -- nobody stands anywhere before the rule begins
 abbrev pub nobody : ℕ → ℕ → Bool
@@ -88,14 +89,14 @@ abbrev pub holds : AtSlot → ℕ → Bool
 holds r i = ltb 0 (at (r .held) i)
 
 -- whom the rule chooses in slot s with d free cells
-abbrev pub choice : Ties → ℕ → ℕ → AtSlot → ℕ → Bool
-choice ties d s r i = chosen (ties s (holds r)) (length (r .needs)) (at (r .needs)) d i
+abbrev pub chosenAt : Ties → ℕ → ℕ → AtSlot → ℕ → Bool
+chosenAt ties d s r i = chosen (ties s (holds r)) (length (r .needs)) (at (r .needs)) d i
 
 -- Slot s went by: each chosen job needs one slot less; those chosen, or standing there already, have a cell in it.
 unfoldable pub served : Ties → (ℕ → ℕ → Bool) → ℕ → ℕ → AtSlot → AtSlot
 served ties standing d s r = record {
-  needs = tabulate (length (r .needs)) (λ i. at (r .needs) i - bit (choice ties d s r i));
-  held = tabulate (length (r .needs)) (λ i. bit (standing i s || choice ties d s r i));
+  needs = tabulate (length (r .needs)) (λ i. at (r .needs) i - bit (chosenAt ties d s r i));
+  held = tabulate (length (r .needs)) (λ i. bit (standing i s || chosenAt ties d s r i));
 }
 
 -- What the rule has before slot s where each slot before it went by the rule (largest remaining time first, LRTF), for jobs with the needs c, x s free cells in slot s, and
@@ -110,7 +111,7 @@ left ties standing c x s = atSlot ties standing c x s .needs
 
 -- the placement that LRTF makes
 abbrev pub lrtf : Ties → (ℕ → ℕ → Bool) → List ℕ → (ℕ → ℕ) → ℕ → ℕ → Bool
-lrtf ties standing c x i s = choice ties (x s) s (atSlot ties standing c x s) i
+lrtf ties standing c x i s = chosenAt ties (x s) s (atSlot ties standing c x s) i
 
 -- ---- the r largest needs
 

@@ -1,5 +1,5 @@
--- The room for r as a fact about placements: a valid plan, and a valid placement of a call, exists exactly if for every r the r largest needs do not exceed the capacity for r; and what a call loses
--- is the greatest excess over the capacity of the empty cells.
+-- The room for r as a fact about placements: a valid plan, and a valid placement of a call, exists exactly if for every r the r largest needs do not exceed the capacity for r; and
+-- what a call loses is the greatest excess over the capacity of the empty cells.
 --
 -- In order: plans (`plan-by-capacity`); the excess of a call is the greatest (`greatest-excess`); calls (`call-by-capacity`).
 -- Premises: of a plan that some text yields the head; of a call also that the table before it is well-formed and that its jobs have passed 2, 4 and 9 (`Good`).

@@ -1,7 +1,8 @@
 -- The shortage of a call, `callShort`: by how many cells its jobs exceed the free cells x. What is here is all that the proofs about tables use of it; what it is made of is for the code's
 -- proofs and for counting (ByCapacity).
 --
--- In order: it is a shortage (`call-shortage`); where nothing is short the rule's matrix is a placement, whatever the order of ties (`rule-placed`); nothing is short exactly if the jobs fit (`short-fits`).
+-- In order: it is a shortage (`call-shortage`); where nothing is short the rule's matrix is a placement, whatever the order of ties (`rule-placed`); nothing is short exactly if the
+-- jobs fit (`short-fits`).
 -- Assumes nothing.
 use Prim.Native.Nat.{ℕ}
 use mathlib.Core.Path.{_≡_}

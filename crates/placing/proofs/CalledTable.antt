@@ -5,7 +5,7 @@
 -- `changed-optional-count`), call cells (`changed-call`, `changed-new-call`, `changed-other-calls`, `changed-jobCount`), and that it is
 -- well-formed (`changed-wellFormed`). Then the table of the rule, `called`, whatever the order of ties: its changes (`called-changes`), the free cells
 -- (`callFree-count`) and that the jobs are placed there (`called-placed`), the cells of a job (`called-in-slot`, `called-above`), the cells it loses (`called-lost`,
--- `called-count`, `called-upto`), and that it is well-formed and valid (`called-wellFormed`, `called-exact`, `called-valid`); by the order in force, the rule of each slot (`called-rule`).
+-- `called-count`, `called-upto`), and that it is well-formed and valid (`called-wellFormed`, `called-exact`, `called-valid`); who has a cell in each slot (`called-rule`).
 -- That no valid table loses fewer cells is not here.
 -- Assumes nothing.
 use Prim.Native.Nat.{ℕ, _+_, _≤_, _<_}
@@ -31,7 +31,7 @@ use Rattle.station.specs.Head.{Head, Job, Valid}
 use Rattle.placing.specs.Table.{Cells, Each, WellFormed, cells, holding, kindOf, numberIn, mandatoryCell, optionalCell, callCell, isEmpty}
 use Rattle.placing.specs.Table.{isBusy, isMandatory, isOptional, isCall, numberAt, hasPreset, hasJob, jobCount}
 use Rattle.placing.specs.Valid.{Change, same, filled, evicted, ValidCall, usable, jobAt, lost, lostUpTo, optionalCount, priorityOf}
-use Rattle.placing.specs.Plan.{placing, tieOf}
+use Rattle.placing.specs.Plan.{placing}
 use Rattle.placing.specs.Call.{CellPlace, evictionOrder, slotsOf, inSet, emptyFree, emptyCount, lengths, callShort, evictedSet, callFits, callFree, callFreeCount, isEvictable}
 use Rattle.placing.specs.Call.{called}
 use Rattle.placing.specs.Claims.{cellsOfJob, JobsRule}
@@ -39,7 +39,7 @@ use Rattle.placing.proofs.CountedCells.{cells-pos, cells-ext, cells-imp
 use Rattle.placing.proofs.CountedCells.{lost-was, lost-now, is-lost, numberAt-lt}
 use Rattle.placing.proofs.NewJobs.{Good, Placeable, placeable-of, above, above-new, new-usable, length-lengths, at-lengths, hasJob-of}
 use Rattle.placing.proofs.CallShort.{call-shortage, rule-placed}
-use Rattle.placing.proofs.Placing.{PlacedCell, kept, unused, written, tie-total, tie-set, placing-cases, placing-job}
+use Rattle.placing.proofs.Placing.{PlacedCell, kept, unused, written, placing-cases, placing-job}
 use Rattle.placing.proofs.EvictionOrder.{in-set-evictable, set-size, set-in-slot}
 
 -- ---- one change
@@ -542,11 +542,11 @@ module _ (ties : Ties) (o : TotalTies ties) (h : Head) (clock : ℕ) (jobs : Lis
   pub called-valid : callFits h clock jobs t ≡ true → ValidCall h clock jobs t (called ties h clock jobs t)
   called-valid fits = record { wellFormed = called-wellFormed; changes = called-changes ties h clock jobs t; exact = called-exact fits }
 
--- so in a table w with the same cells, placed by the order of ties in force, the jobs of each slot are those that the rule chooses, by what the table itself shows
-pub called-rule : (hold : Bool) (h : Head) (clock : ℕ) (jobs : List Job) (t : Cells) → Valid h → WellFormed h t → Good h t jobs
-    → (w : Cells) → Each h (λ s b. called (tieOf hold) h clock jobs t s b ≡ w s b) → (s : ℕ) → s < h .slots → JobsRule h clock hold jobs t w s
-called-rule hold h clock jobs t valid wf good w equal s l =
-    shown-rule ties o (lengths jobs) (callFreeCount h clock jobs t) s (length jobs) (tie-set hold s (length jobs)) (λ i. jobAt jobs i .slots) (cellsOfJob h jobs w)
+-- so in a table w with the same cells the jobs of each slot are those that the rule chooses, by what the table itself shows
+pub called-rule : (ties : Ties) → TotalTies ties → (h : Head) (clock : ℕ) (jobs : List Job) (t : Cells) → Valid h → WellFormed h t → Good h t jobs
+    → (w : Cells) → Each h (λ s b. called ties h clock jobs t s b ≡ w s b) → (s : ℕ) → s < h .slots → JobsRule ties h clock jobs t w s
+called-rule ties o h clock jobs t valid wf good w equal s l =
+    shown-rule ties o (lengths jobs) (callFreeCount h clock jobs t) s (length jobs) (λ i. jobAt jobs i .slots) (cellsOfJob h jobs w)
     (count (h .bridges) (λ b. emptyFree clock t s b || lost t w s b)) (length-lengths jobs) (λ i k. at-lengths jobs i)
     (count-ext (h .bridges) (λ b. callFree h clock jobs t s b) (λ b. emptyFree clock t s b || lost t w s b)
     (λ b m. ap (λ (c : Bool). emptyFree clock t s b || c)
@@ -554,9 +554,3 @@ called-rule hold h clock jobs t valid wf good w equal s l =
     (λ i k r m. count-ext (h .bridges) (λ b. eqb (w r b) (callCell (jobAt jobs i .number))) (λ b. eqb (called ties h clock jobs t r b) (callCell (jobAt jobs i .number)))
     (λ b n. ap (λ (v : ℕ). eqb v (callCell (jobAt jobs i .number))) (sym (equal r b (omega arith) n)))
     ∙ called-everywhere ties o h clock jobs t valid wf good i k r (omega arith))
-  where
-    ties : Ties
-    ties = tieOf hold
-
-    o : TotalTies ties
-    o = tie-total hold

@@ -1,6 +1,6 @@
 -- The causes tried on a running frame and on a call, read off as facts: what holds where none of them does, and back.
 --
--- In order: a cause that holds (`met`); 8 and the head record's 2 (`long-and-valid`, `no-record-cause`); with 11 (`running-of`, `of-running`), whatever the order of ties (`running-any-order`); 2, 4 and 9 of a call
+-- In order: a cause that holds (`met`); 8 and the head record's 2 (`long-and-valid`, `no-record-cause`); with 11 (`running-of`, `of-running`); 2, 4 and 9 of a call
 -- (`jobs-inside`, `good-of`).
 -- Assumes nothing.
 use Prim.Native.Nat.{ℕ, _+_, _≤_, _<_}
@@ -19,7 +19,7 @@ use Rattle.station.specs.Refusal.{tooShort, outOfLimits, notWellFormed, numberU
 use Rattle.station.proofs.Theorems.{first-of-none, passed, first-none, append-none, append-left-none}
 use Rattle.station.proofs.Theorems.{within-low, within-high, valid-of, of-valid}
 use Rattle.placing.specs.Table.{Cells, isUsed, jobCount}
-use Rattle.placing.specs.State.{State, withOrder, wellFormedFrame}
+use Rattle.placing.specs.State.{State, wellFormedFrame}
 use Rattle.placing.specs.Valid.{jobAt}
 use Rattle.placing.specs.Outcomes.{frameCauses, jobCauses, jobsOutside, jobsUsed, jobsTooMany}
 use Rattle.placing.specs.Claims.{Running}
@@ -65,11 +65,6 @@ of-running h st r =
     append-none (recordCauses h (st .table)) (tryEleven h st) (no-record-cause h (st .table) (r .long) (r .valid))
     ∙ passed notWellFormed (not (wellFormedFrame h st)) [] (not-is-false _ (frame-test h st .1 (r .wellFormed)))
     ∙ first-of-none
-
--- a running frame is one under either order of ties
-pub running-any-order : (h : Head) (st : State) (hold : Bool) → Running h st → Running h (withOrder hold st)
-running-any-order h st hold run =
-    record { long = run .long; valid = run .valid; wellFormed = record { cells = run .wellFormed .cells; clock = run .wellFormed .clock } }
 
 -- ---- 2, 4 and 9 of a call
 

@@ -139,28 +139,29 @@ plan-granted h t g = go (planOf h t) (plan-is h t)
     go _ (stopped r e) q = absurd (refused-granted q)
 
 -- the rule's table with any order of ties is a best plan, that of the head's own order among them
-plan-any-order : (h : Head) (t g : List ℕ) → planOf h t .answer ≡ PlanAnswer.granted g → (ties : Ties) → TotalTies ties → BestPlan h g (planned ties h)
+plan-any-order : (h : Head) (t g : List ℕ) → planOf h t .answer ≡ PlanAnswer.granted g → (ties : Ties) → TotalTies ties → BestPlan ties h g (planned ties h)
 plan-any-order h t g q ties o =
     let p = plan-granted h t g q in
     record {
+      slots = λ s l. subst (λ (x : List ℕ). PresetsRule ties h x (planned ties h) s) (sym (p .0)) (planned-rule ties o (p .2) (p .1) (planned ties h) (λ r b k m. refl) s l);
       valid = planned-valid ties o (p .2) (p .1);
       reported = λ i l. ap (λ (x : List ℕ). at x i) (p .0) ∙ sym (planned-optional ties o (p .2) (p .1) i l);
       best = λ v w k. planned-best ties o (p .2) (p .1) w k;
     }
 
 module _ (h : Head) (t g : List ℕ) (q : planOf h t .answer ≡ PlanAnswer.granted g) where
-  own-best : BestPlan h g (ownPlan h)
+  own-best : BestPlan (tieOf (h .hold)) h g (ownPlan h)
   own-best = plan-any-order h t g q (tieOf (h .hold)) (tie-total (h .hold))
 
   plan-granted-valid : ValidPlan h (cell h (planOf h t .table))
   plan-granted-valid = let p = plan-granted h t g q in rw (p .4) (plan-valid h t (p .1) (p .2))
 
-  plan-granted-slots : (s : ℕ) → s < h .slots → PresetsRule h g (cell h (planOf h t .table)) s
+  plan-granted-slots : (s : ℕ) → s < h .slots → PresetsRule (tieOf (h .hold)) h g (cell h (planOf h t .table)) s
   plan-granted-slots s l =
       let p = plan-granted h t g q in
-      subst (λ (x : List ℕ). PresetsRule h g (cell h x) s) (sym (p .4))
-      (subst (λ (x : List ℕ). PresetsRule h x (cell h (planTable h t)) s) (sym (p .0))
-      (planned-rule (p .2) (p .1) (cell h (planTable h t)) (λ r b k m. sym (cell-written h (ownPlan h) t r b k m)) s l))
+      subst (λ (x : List ℕ). PresetsRule (tieOf (h .hold)) h g (cell h x) s) (sym (p .4))
+      (subst (λ (x : List ℕ). PresetsRule (tieOf (h .hold)) h x (cell h (planTable h t)) s) (sym (p .0))
+      (planned-rule (tieOf (h .hold)) (tie-total (h .hold)) (p .2) (p .1) (cell h (planTable h t)) (cell-planned h t) s l))
 
   plan-granted-reported : (i : ℕ) → i < presetCount h → at g i ≡ optionalOf h (cell h (planOf h t .table)) i
   plan-granted-reported i l =
@@ -400,12 +401,13 @@ module _ (h : Head) (jobs : List Job) (st : State) where
         ap (λ (c : Cost). c .count) same
 
     -- the rule's table with any order of ties leaves a valid table that loses least, that of the order in force among them
-    taken-any-order : (ties : Ties) → TotalTies ties → LeastCall h (st .clock) jobs n (cell h (st .table)) (called ties h (st .clock) jobs (cell h (st .table)))
+    taken-any-order : (ties : Ties) → TotalTies ties → LeastCall ties h (st .clock) jobs n (cell h (st .table)) (called ties h (st .clock) jobs (cell h (st .table)))
     taken-any-order ties o =
         let t = cell h (st .table) in
         let r = taken-passes .0 in
         let good = taken-passes .1 in
         record {
+          slots = called-rule ties o h (st .clock) jobs t (r .valid) (r .wellFormed .cells) good (called ties h (st .clock) jobs t) (λ s b l m. refl);
           valid = called-valid ties o h (st .clock) jobs t (r .valid) (r .wellFormed .cells) good taken-fits;
           lost-cells = called-lost ties o h (st .clock) jobs t (r .valid) (r .wellFormed .cells) good;
           reported = taken-count ∙ sym (called-count ties o h (st .clock) jobs t (r .valid) (r .wellFormed .cells) good);
@@ -417,7 +419,7 @@ module _ (h : Head) (jobs : List Job) (st : State) where
               );
         }
 
-    own-least : LeastCall h (st .clock) jobs n (cell h (st .table)) ownCall
+    own-least : LeastCall (tieOf (st .hold)) h (st .clock) jobs n (cell h (st .table)) ownCall
     own-least = taken-any-order (tieOf (st .hold)) (tie-total (st .hold))
 
     taken-valid : ValidCall h (st .clock) jobs (cell h (st .table)) (cell h (callOf h jobs st .after .table))
@@ -426,10 +428,10 @@ module _ (h : Head) (jobs : List Job) (st : State) where
     taken-rule : Each h (λ s b. cell h (callOf h jobs st .after .table) s b ≡ ownCall s b)
     taken-rule = rw taken-table (cell-written h ownCall (st .table))
 
-    taken-slots : (s : ℕ) → s < h .slots → JobsRule h (st .clock) (st .hold) jobs (cell h (st .table)) (cell h (callOf h jobs st .after .table)) s
+    taken-slots : (s : ℕ) → s < h .slots → JobsRule (tieOf (st .hold)) h (st .clock) jobs (cell h (st .table)) (cell h (callOf h jobs st .after .table)) s
     taken-slots s l =
-        subst (λ (x : List ℕ). JobsRule h (st .clock) (st .hold) jobs (cell h (st .table)) (cell h x) s) (sym taken-table)
-        (called-rule (st .hold) h (st .clock) jobs (cell h (st .table)) (taken-passes .0 .valid) (taken-passes .0 .wellFormed .cells) (taken-passes .1) cellsLeft cell-called s l)
+        subst (λ (x : List ℕ). JobsRule (tieOf (st .hold)) h (st .clock) jobs (cell h (st .table)) (cell h x) s) (sym taken-table)
+        (called-rule (tieOf (st .hold)) (tie-total (st .hold)) h (st .clock) jobs (cell h (st .table)) (taken-passes .0 .valid) (taken-passes .0 .wellFormed .cells) (taken-passes .1) cellsLeft cell-called s l)
 
     taken-order : InEvictionOrder h (st .clock) (cell h (st .table)) (evictionOrder h (st .clock) (cell h (st .table)))
     taken-order = order-is h (st .clock) (cell h (st .table)) (taken-passes .0 .valid) (taken-passes .0 .wellFormed .cells)

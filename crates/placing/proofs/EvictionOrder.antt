@@ -3,8 +3,8 @@
 -- In order: what every place of a walk has, and every two of them (`all-downward`, `pairwise-downward`); weights of places (`weight-downward`); sets
 -- of places and their weights; the set of a test (`those`, `length-those`); rank and priority of a preset's number (`rankOf-lt`,
 -- `rankOf-injective`, `priorityOf-le`).
--- Then the eviction order: a set's cells are evictable (`in-set-evictable`), and no more of a slot than the call may use (`added-usable`); each evictable cell stands in it once (`weight-order`, `order-once`); it
--- is document 01's order (`order-is`); a set as its cells (`set-weight`, `set-size`, `set-in-slot`); the set of a test (`in-those`); the marks of a
+-- Then the eviction order: a set's cells are evictable (`in-set-evictable`), and no more of a slot than the call may use (`added-usable`); each evictable cell stands in it once
+-- (`weight-order`, `order-once`); it is document 01's order (`order-is`); a set as its cells (`set-weight`, `set-size`, `set-in-slot`); the set of a test (`in-those`); the marks of a
 -- priority (`marked-cells`, `order-rising`).
 -- Assumes nothing.
 use Prim.Native.Nat.{ℕ, zero, suc, _+_, _≤_, _<_}

@@ -3,11 +3,11 @@
 --
 -- In order: what computes; a plan's ties and bridges (`three-planned`); the two orders of ties (`held-..`, `calls-by-order`); the clock's own slot (`clock-slot`); the worst priority is evicted
 -- (`worst-evicted`); what every valid placement of a call that is taken loses (`must-go`, `goes`); free 3, 1, 1, 1: no placement in the empty cells
--- (`no-empty-placement`), one cell must go and one goes (`one-must-go`, `one-goes`); the room for r at both edges (`capacity-3111`, `capacity-clock`, `longest-first`, `plan-capacity`, `no-plan-3111`, `plan-3121`). Then what holds the definitions to document 01 from two sides, each a
--- list of cases and one fact: each clause of a sound table broken alone (`sound-broken`); the limits of a call and of the lent table and clock at both edges,
--- and the causes of plan and call two at a time in the listed order (`plans-answered`, `calls-answered`); the records of a head and of a list at their edges
--- (`records-answered`, `plan-list`, `call-list`); the order of loss (`losses`).
--- (The starred frames of document 01, as texts, are in the frame crate's proofs/Starred.antt.)
+-- (`no-empty-placement`), one cell must go and one goes (`one-must-go`, `one-goes`); the room for r at both edges (`capacity-3111`, `capacity-clock`, `longest-first`,
+-- `plan-capacity`, `no-plan-3111`, `plan-3121`). Then what holds the definitions to document 01 from two sides, each a list of cases and one fact: each clause of a sound table broken
+-- alone (`sound-broken`); the limits of a call and of the lent table and clock at both edges, and the causes of plan and call two at a time in the listed order (`plans-answered`,
+-- `calls-answered`); the records of a head and of a list at their edges (`records-answered`, `plan-list`, `call-list`); the order of loss (`losses`). (The starred frames of document
+-- 01, as texts, are in the frame crate's proofs/Starred.antt.)
 -- Assumes nothing.
 use Prim.Native.Nat.{ℕ, zero, suc, _+_, _≤_}
 use native.Mathlib.Omega.{arith}

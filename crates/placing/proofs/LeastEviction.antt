@@ -1,8 +1,8 @@
 -- Necessity and least eviction: what every valid table of a call tells of the search.
 --
--- In order: the cells of a job in a valid table, how many the jobs have in a slot at the most (`jobs-in-slot`), and the placement that they are (`free-of-valid`); the lost cells of a valid table as a set of the
--- eviction order, with which the call fits (`lost-set`, `lost-set-size`, `lost-set-fits`); so a call with a valid table fits (`valid-fits`); the
--- evicted set has the fewest cells, of each priority (`fewest-upto`) and in all (`fewest`); it is document 01's (`evicted-first-smallest`).
+-- In order: the cells of a job in a valid table, how many the jobs have in a slot at the most (`jobs-in-slot`), and the placement that they are (`free-of-valid`); the lost cells of a
+-- valid table as a set of the eviction order, with which the call fits (`lost-set`, `lost-set-size`, `lost-set-fits`); so a call with a valid table fits (`valid-fits`); the evicted
+-- set has the fewest cells, of each priority (`fewest-upto`) and in all (`fewest`); it is document 01's (`evicted-first-smallest`).
 -- Assumes nothing.
 use Prim.Native.Nat.{ℕ, _+_, _≤_, _<_}
 use native.Mathlib.Omega.{arith}

@@ -1,7 +1,7 @@
 -- Laws of `placing`, the way jobs get their cells, for plans and calls alike, whoever has a cell in which slot.
 --
--- In order: the order of ties that a frame has is a total one that goes by its set alone (`tie-total`, `tie-set`); what a cell can hold (`PlacedCell`, `placing-cases`); where a slot's jobs are at most its free cells, how many cells of the slot pass a test (`placing-count`), and the
--- cells of one job (`placing-job`).
+-- In order: the order of ties that a frame has is a total one (`tie-total`); what a cell can hold (`PlacedCell`, `placing-cases`); where a slot's jobs are at most its free cells, how
+-- many cells of the slot pass a test (`placing-count`), and the cells of one job (`placing-job`).
 -- Assumes nothing.
 use Prim.Native.Nat.{ℕ, _+_, _≤_, _<_}
 use native.Mathlib.Omega.{arith}
@@ -15,7 +15,6 @@ use Rattle.laws.proofs.Tests.{Is, is-true, is-false, is, left-of, right-of, nev
 use Rattle.laws.proofs.Sums.{sum-point}
 use Rattle.laws.proofs.Counts.{bit-le, count-none, one-selected}
 use Rattle.laws.proofs.Order.{place-total, hold-total}
-use Rattle.laws.proofs.Placement.{BySet, place-set, hold-set}
 use Rattle.laws.proofs.Cells.{takes-one-job, slot-holding}
 use Rattle.placing.specs.Table.{Cells}
 use Rattle.placing.specs.Plan.{placing, freeCount, tieOf}
@@ -24,10 +23,6 @@ use Rattle.placing.specs.Plan.{placing, freeCount, tieOf}
 pub tie-total : (hold : Bool) → TotalTies (tieOf hold)
 tie-total true = hold-total
 tie-total false = place-total
-
-pub tie-set : (hold : Bool) (s k : ℕ) → BySet (tieOf hold) s k
-tie-set true = hold-set
-tie-set false = place-set
 
 -- What the cell of slot s, bridge b holds after jobs were placed: what it held where it was not free; else nothing, or what a job writes that has a cell in the slot.
 pub data PlacedCell (k : ℕ) (f a : ℕ → ℕ → Bool) (v : ℕ → ℕ → ℕ) (t : Cells) (s b w : ℕ) : Type 0 where

@@ -2,7 +2,7 @@
 -- and no valid plan gives the first presets by rank more. All this for every order of ties.
 --
 -- In order: when needs fit; the needs of a well-formed table fit (`plan-fits-of-valid`); the stages of the grants; what the planned cells hold
--- and how many a preset has (`planned-valid`, `planned-optional`), by the rule of each slot under the head's own order (`planned-rule`); best for every number of ranks (`planned-best`); document 01's rule of the
+-- and how many a preset has (`planned-valid`, `planned-optional`), who has a cell in each slot (`planned-rule`); best for every number of ranks (`planned-best`); document 01's rule of the
 -- grants (`grants-rule`), which leaves no choice (`grants-only`).
 -- Assumes nothing.
 use Prim.Native.Nat.{ℕ, zero, suc, _+_, _-_, _≤_, _<_}
@@ -35,11 +35,11 @@ use Rattle.placing.specs.Table.{Cells, Each, WellFormed, holding, kindOf
 use Rattle.placing.specs.Table.{isMandatory, isOptional, isCall, presetCount, numberAt, hasPreset, hasJob}
 use Rattle.placing.specs.Valid.{ValidPlan, optionalOf}
 use Rattle.placing.specs.Plan.{rank, mandatories, optionals, planFree, planFreeCount, planFits, PlanFeasible, needWith, needsWith, GrantRule}
-use Rattle.placing.specs.Plan.{needs, needsFrom, grants, tieOf, planCell, planned}
+use Rattle.placing.specs.Plan.{needs, needsFrom, grants, planCell, planned}
 use Rattle.placing.specs.Claims.{cellsOfPreset, PresetsRule}
 use Rattle.placing.proofs.CountedCells.{cells-none, isBusy-no, numberIn-mandatory, numberIn-optional, hasPreset-of, numberAt-low, numberAt-lt}
 use Rattle.placing.proofs.CountedCells.{index-unique}
-use Rattle.placing.proofs.Placing.{PlacedCell, kept, unused, written, tie-total, tie-set, placing-cases, placing-job}
+use Rattle.placing.proofs.Placing.{PlacedCell, kept, unused, written, placing-cases, placing-job}
 
 -- ---- when needs fit
 
@@ -445,11 +445,11 @@ pub planned-optional : (ties : Ties) → TotalTies ties → {h : Head} → Valid
 planned-optional ties o {h} valid start i l =
     omega (arith, planned-need ties o h valid start i l, at-grants h i l, at-mandatories h i)
 
--- in a table w with the same cells, placed by the head's order of ties, the presets of each slot are those that the rule chooses, by what the table itself shows
-pub planned-rule : {h : Head} → Valid h → planFits h (mandatories h) ≡ true → (w : Cells) → Each h (λ s b. planned (tieOf (h .hold)) h s b ≡ w s b)
-    → (s : ℕ) → s < h .slots → PresetsRule h (grants h) w s
-planned-rule {h} valid start w equal s l =
-    shown-rule ties o (needs h) (planFreeCount h) s (presetCount h) (tie-set (h .hold) s (presetCount h)) (λ i. presetAt h i .mandatory + at (grants h) i)
+-- in a table w with the same cells the presets of each slot are those that the rule chooses, by what the table itself shows
+pub planned-rule : (ties : Ties) → TotalTies ties → {h : Head} → Valid h → planFits h (mandatories h) ≡ true → (w : Cells) → Each h (λ s b. planned ties h s b ≡ w s b)
+    → (s : ℕ) → s < h .slots → PresetsRule ties h (grants h) w s
+planned-rule ties o {h} valid start w equal s l =
+    shown-rule ties o (needs h) (planFreeCount h) s (presetCount h) (λ i. presetAt h i .mandatory + at (grants h) i)
     (cellsOfPreset h w) (planFreeCount h s) (needs-long h valid start)
     (λ i k. omega (arith, planned-need ties o h valid start i k, planned-optional ties o valid start i k)) refl
     (λ i k r m. count-ext (h .bridges) (λ b. eqb (numberIn (w r b)) (numberAt h i)) (λ b. eqb (numberIn (planned ties h r b)) (numberAt h i))
@@ -458,12 +458,6 @@ planned-rule {h} valid start w equal s l =
     ∙ ap (λ (c : Bool). bit (had ties h i r && c))
     (eqb-yes (numberIn (presetCell h i (early ties h i r))) (numberAt h i) (presetCell-number h valid i k (early ties h i r)))
     ∙ ap bit (and-true (had ties h i r)))
-  where
-    ties : Ties
-    ties = tieOf (h .hold)
-
-    o : TotalTies ties
-    o = tie-total (h .hold)
 
 -- for every r, every other valid plan has at most as many optional cells of the first r presets by rank
 pub planned-best : (ties : Ties) → TotalTies ties → {h : Head} {u : Cells} → Valid h → planFits h (mandatories h) ≡ true → ValidPlan h u → (r : ℕ)

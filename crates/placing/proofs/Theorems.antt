@@ -7,7 +7,7 @@ pub use Rattle.placing.proofs.ClaimsHold.{plan-granted, plan-claim, pla
 pub use Rattle.placing.proofs.ByCapacity.{plan-by-capacity, call-by-capacity}
 -- the causes of a running frame and of a call
 pub use Rattle.placing.proofs.WellFormedFrame.{clock-to, clock-is, clock-late}
-pub use Rattle.placing.proofs.Causes.{met, of-running, running-any-order, jobs-inside}
+pub use Rattle.placing.proofs.Causes.{met, of-running, jobs-inside}
 pub use Rattle.placing.proofs.check.FrameCauses.{causes-none, eleven, same-frame, frame-known, frame-running, running-frame}
 pub use Rattle.placing.proofs.counts.causes.CallCauses.{call-jobs}
 -- the counts where the clock moves

@@ -1,4 +1,4 @@
--- A call: which refinement cells it evicts and where its jobs go. Document 01, "What is granted, and where it goes".
+-- A call: which refinement cells it evicts and where its jobs go. Document 01, "What is granted, and where it goes"; document 02, 2026-02.
 -- Assumes nothing.
 use Prim.Native.Nat.{ℕ, zero, suc, _+_, _<_}
 use mathlib.Core.Path.{_≡_}

@@ -44,15 +44,17 @@ abbrev pub cellsOfPreset : Head → Cells → ℕ → ℕ → ℕ
 cellsOfPreset h u i s = count (h .bridges) (λ b. eqb (numberIn (u s b)) (numberAt h i))
 
 -- "as many presets as there are free bridges, those with the most slots still to get, never one with none left": slot s of the table u of a plan with the grants g. A preset has its
--- required slots and its grant still to get, less its cells in the slots before. Of equal ones those go first whom the head's order of ties puts first: "the earlier line first", or by
--- `(tie hold)` "those with a cell in the slot just before .., then file .. order".
-abbrev pub PresetsRule : Head → List ℕ → Cells → ℕ → Type 0
-PresetsRule h g u s =
-    SlotRule (tieOf (h .hold) s (holders (λ i r. ltb 0 (cellsOfPreset h u i r)) s)) (presetCount h) (λ i. presetAt h i .mandatory + at g i - sum s (λ r. cellsOfPreset h u i r)) (planFreeCount h s)
-    (λ i. ltb 0 (cellsOfPreset h u i s))
+-- required slots and its grant still to get, less its cells in the slots before. Of equal ones those go first whom the order of ties puts first, by who has a cell in the slot just before: by
+-- `(tie place)` "the earlier line first", by `(tie hold)` "those with a cell in the slot just before .., then file .. order".
+abbrev pub PresetsRule : Ties → Head → List ℕ → Cells → ℕ → Type 0
+PresetsRule ties h g u s =
+    SlotRule (ties s (holders (presetCount h) (λ i r. ltb 0 (cellsOfPreset h u i r)) s)) (presetCount h)
+    (λ i. presetAt h i .mandatory + at g i - sum s (λ r. cellsOfPreset h u i r)) (planFreeCount h s) (λ i. ltb 0 (cellsOfPreset h u i s))
 
--- "Optimality is shown for every order of ties": the table u of a plan with the grants g is valid, shows these grants, and no valid plan grants the first k presets by rank more.
-pub record BestPlan (h : Head) (g : List ℕ) (u : Cells) : Type 0 where
+-- "Optimality is shown for every order of ties": the table u of a plan with the grants g, placed by the rule under an order of ties, is valid, shows these grants, and no valid plan grants
+-- the first k presets by rank more.
+pub record BestPlan (ties : Ties) (h : Head) (g : List ℕ) (u : Cells) : Type 0 where
+  pub slots : (s : ℕ) → s < h .slots → PresetsRule ties h g u s
   pub valid : ValidPlan h u
   pub reported : (i : ℕ) → i < presetCount h → at g i ≡ optionalOf h u i
   pub best : (v : List ℕ) → ValidPlan h (cell h v) → (k : ℕ) → optionalOfFirst h (cell h v) k ≤ optionalOfFirst h u k
@@ -63,8 +65,8 @@ pub record PlanClaim (h : Head) (t : List ℕ) : Type 0 where
       ↔ ((leastCells ≤ length t) × Valid h × ((u : List ℕ) → ValidPlan h (cell h u) → ⊥))
   -- a plan is a valid one
   pub valid : (g : List ℕ) → planOf h t .answer ≡ PlanAnswer.granted g → ValidPlan h (cell h (planOf h t .table))
-  -- the presets that have a cell in a slot of it are those that the rule chooses there
-  pub slots : (g : List ℕ) → planOf h t .answer ≡ PlanAnswer.granted g → (s : ℕ) → s < h .slots → PresetsRule h g (cell h (planOf h t .table)) s
+  -- the presets that have a cell in a slot of it are those that the rule chooses there, by the head's order of ties
+  pub slots : (g : List ℕ) → planOf h t .answer ≡ PlanAnswer.granted g → (s : ℕ) → s < h .slots → PresetsRule (tieOf (h .hold)) h g (cell h (planOf h t .table)) s
   -- "A plan reports as each preset's grant the number of its refinement cells."
   pub reported : (g : List ℕ) → planOf h t .answer ≡ PlanAnswer.granted g
       → (i : ℕ) → i < presetCount h → at g i ≡ optionalOf h (cell h (planOf h t .table)) i
@@ -74,7 +76,7 @@ pub record PlanClaim (h : Head) (t : List ℕ) : Type 0 where
   -- "Needs fit exactly if, for every r, the r largest needs together do not exceed" the room for r: a valid plan of the head exists exactly then
   pub capacity : Valid h → PlanByCapacity h
   -- all this of the table that the rule makes with any order of ties; and 5 and the grants do not depend on the order
-  pub any-order : (g : List ℕ) → planOf h t .answer ≡ PlanAnswer.granted g → (ties : Ties) → TotalTies ties → BestPlan h g (planned ties h)
+  pub any-order : (g : List ℕ) → planOf h t .answer ≡ PlanAnswer.granted g → (ties : Ties) → TotalTies ties → BestPlan ties h g (planned ties h)
   pub any-answer : (hold : Bool) → planOf (withTie h hold) t .answer ≡ planOf h t .answer
   pub past : SamePast h t (planOf h t .table)
 
@@ -87,20 +89,21 @@ abbrev pub cellsOfJob : Head → List Job → Cells → ℕ → ℕ → ℕ
 cellsOfJob h jobs u i s = count (h .bridges) (λ b. eqb (u s b) (callCell (jobAt jobs i .number)))
 
 -- "Jobs are then placed by the rule above over the empty and lost cells, in the call's order": slot s of the table u that a call leaves of t. A job has its length still
--- to get less its cells in the slots before. Of equal jobs those go first whom the order of ties puts first that is in force: the earlier in the call, or by `(tie hold)` "those with a cell in
+-- to get less its cells in the slots before. Of equal jobs those go first whom the order of ties puts first: by `(tie place)` the earlier in the call, by `(tie hold)` "those with a cell in
 -- the slot just before .., then .. call order".
-abbrev pub JobsRule : Head → ℕ → Bool → List Job → Cells → Cells → ℕ → Type 0
-JobsRule h clock hold jobs t u s =
-    SlotRule (tieOf hold s (holders (λ i r. ltb 0 (cellsOfJob h jobs u i r)) s)) (length jobs) (λ i. jobAt jobs i .slots - sum s (λ r. cellsOfJob h jobs u i r))
+abbrev pub JobsRule : Ties → Head → ℕ → List Job → Cells → Cells → ℕ → Type 0
+JobsRule ties h clock jobs t u s =
+    SlotRule (ties s (holders (length jobs) (λ i r. ltb 0 (cellsOfJob h jobs u i r)) s)) (length jobs) (λ i. jobAt jobs i .slots - sum s (λ r. cellsOfJob h jobs u i r))
     (count (h .bridges) (λ b. emptyFree clock t s b || lost t u s b)) (λ i. ltb 0 (cellsOfJob h jobs u i s))
 
 -- the causes tried before 7
 abbrev pub beforeSeven : Head → List Job → State → List (Option Refusal)
 beforeSeven h jobs st = frameCauses h st ++ jobCauses h jobs (cell h (st .table))
 
--- "Optimality is shown for every order of ties": the table u that a call of cost n leaves of t is valid, has lost the first smallest set and no other cell, n counts these, and no valid placement
--- loses less, in all or for any priority and better.
-pub record LeastCall (h : Head) (clock : ℕ) (jobs : List Job) (n : Cost) (t u : Cells) : Type 0 where
+-- "Optimality is shown for every order of ties": the table u that a call of cost n leaves of t, placed by the rule under an order of ties, is valid, has lost the first smallest set and no other
+-- cell, n counts these, and no valid placement loses less, in all or for any priority and better.
+pub record LeastCall (ties : Ties) (h : Head) (clock : ℕ) (jobs : List Job) (n : Cost) (t u : Cells) : Type 0 where
+  pub slots : (s : ℕ) → s < h .slots → JobsRule ties h clock jobs t u s
   pub valid : ValidCall h clock jobs t u
   pub lost-cells : Each h (λ s b. lost t u s b ≡ inSet (evictionOrder h clock t) (evictedSet h clock jobs t) s b)
   pub reported : n .count ≡ cells h (λ s b. lost t u s b)
@@ -114,9 +117,9 @@ pub record CallClaim (h : Head) (jobs : List Job) (st : State) : Type 0 where
   pub valid : (n : Cost) → callOf h jobs st .answer ≡ CallAnswer.taken n → ValidCall h (st .clock) (joining h st jobs) (cell h (st .table)) (cell h (callOf h jobs st .after .table))
   pub rule : (n : Cost) → callOf h jobs st .answer ≡ CallAnswer.taken n
       → Each h (λ s b. cell h (callOf h jobs st .after .table) s b ≡ called (tieOf (st .hold)) h (st .clock) (joining h st jobs) (cell h (st .table)) s b)
-  -- the jobs that have a cell in a slot of it are those that the rule chooses there
+  -- the jobs that have a cell in a slot of it are those that the rule chooses there, by the order of ties in force
   pub slots : (n : Cost) → callOf h jobs st .answer ≡ CallAnswer.taken n
-      → (s : ℕ) → s < h .slots → JobsRule h (st .clock) (st .hold) (joining h st jobs) (cell h (st .table)) (cell h (callOf h jobs st .after .table)) s
+      → (s : ℕ) → s < h .slots → JobsRule (tieOf (st .hold)) h (st .clock) (joining h st jobs) (cell h (st .table)) (cell h (callOf h jobs st .after .table)) s
   -- "The order of loss: worst rank first; for one preset the latest slot first."
   pub order : (n : Cost) → callOf h jobs st .answer ≡ CallAnswer.taken n → InEvictionOrder h (st .clock) (cell h (st .table)) (evictionOrder h (st .clock) (cell h (st .table)))
   -- "The lost cells: of the smallest sets with which the call fits, each written as a list in the order of loss, the one whose list comes first."
@@ -142,6 +145,6 @@ pub record CallClaim (h : Head) (jobs : List Job) (st : State) : Type 0 where
   pub excess : (n : Cost) → callOf h jobs st .answer ≡ CallAnswer.taken n → GreatestExcess (longestJobs jobs) (emptyCapacity h (st .clock) (cell h (st .table))) (n .count)
   -- all this of the table that the rule makes with any order of ties; and 7 and the cost do not depend on the order
   pub any-order : (n : Cost) → callOf h jobs st .answer ≡ CallAnswer.taken n → (ties : Ties) → TotalTies ties
-      → LeastCall h (st .clock) (joining h st jobs) n (cell h (st .table)) (called ties h (st .clock) (joining h st jobs) (cell h (st .table)))
+      → LeastCall ties h (st .clock) (joining h st jobs) n (cell h (st .table)) (called ties h (st .clock) (joining h st jobs) (cell h (st .table)))
   pub any-answer : (hold : Bool) → callOf h jobs (withOrder hold st) .answer ≡ callOf h jobs st .answer
   pub past : SamePast h (st .table) (callOf h jobs st .after .table)

@@ -1,4 +1,4 @@
--- The two entries of this layer, plan and call: the answer and every lent cell afterwards, for all inputs. Document 01, "Causes".
+-- The two entries of this layer, plan and call: the answer and every lent cell afterwards, for all inputs. Document 01, "Causes"; document 02, 2026-02.
 -- Assumes nothing.
 use Prim.Native.Nat.{ℕ, _+_, _*_, _/_, _%_}
 use mathlib.Core.Bool.{Bool, not, _&&_}

@@ -111,9 +111,9 @@ fn carry_out(
     CallAnswer::Taken(count)
 }
 
-// Takes a call of the first n jobs on a running frame whose clock is at `clock` and whose order of ties is `hold`, by the counts of its table and clock: the causes 2, 4, 9 of its jobs, then 7 where it
-// does not fit. A refusal changes nothing; a call that is taken brings the counts up to the table that it leaves. Who keeps them between calls need not have the table
-// counted for each. They are lent in their parts: the numbers that are used, how many of them the call cells have, and the capacities.
+// Takes a call of the first n jobs on a running frame whose clock is at `clock` and whose order of ties is `hold`, by the counts of its table and clock: the causes 2, 4, 9 of its
+// jobs, then 7 where it does not fit. A refusal changes nothing; a call that is taken brings the counts up to the table that it leaves. Who keeps them between calls need not have the
+// table counted for each. They are lent in their parts: the numbers that are used, how many of them the call cells have, and the capacities.
 pub fn call_by_counts(
     head: Head,
     presets: [Preset; MOST_PRESETS],
@@ -141,8 +141,8 @@ pub fn call_by_counts(
     answer
 }
 
-// Takes a call of the first n jobs on the frame whose clock is at `clock` and whose order of ties is `hold`: the causes 8, 2, 11, then 2, 4, 9 of its jobs, then 7 where it does not fit. A refusal
-// changes nothing. A frame that 11 lets pass is such a frame afterwards.
+// Takes a call of the first n jobs on the frame whose clock is at `clock` and whose order of ties is `hold`: the causes 8, 2, 11, then 2, 4, 9 of its jobs, then 7 where it does not
+// fit. A refusal changes nothing. A frame that 11 lets pass is such a frame afterwards.
 pub fn call_by_value(
     head: Head,
     presets: [Preset; MOST_PRESETS],

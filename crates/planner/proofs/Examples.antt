@@ -1,8 +1,8 @@
 -- The layout of what is lent by worked examples, read and written, and the lengths at both edges. Each is by computing.
 --
 -- In order: the bytes of two preset records (`records-laid-out`); the sixteen numbers of a frame (`frame-laid-out`, `ties-laid-out`); 8 for what is too short, and 10 before it
--- (`lengths-tried`); what is returned of a refusal and of what is accepted (`numbers-returned`); the orders of ties after a text and after an event (`texts-tied`, `events-tied`); rows read into a
--- frame (`rows-tried`), and the causes of writing them (`write-tried`).
+-- (`lengths-tried`); what is returned of a refusal and of what is accepted (`numbers-returned`); the orders of ties after a text and after an event (`texts-tied`, `events-tied`);
+-- rows read into a frame (`rows-tried`), and the causes of writing them (`write-tried`).
 -- Assumes nothing.
 use Prim.Native.Nat.{ℕ}
 use Prim.Native.String.{String}
@@ -94,7 +94,8 @@ pub lengths-tried : (eventOn (take 15 late) (replicate 128 0) (replicate 512 0) 
 unfolding eventOn planOn textOn firstOf
 lengths-tried = (refl, refl, refl, refl, refl, refl, refl, refl)
 
--- number 11 with line 0 of an event, number 10 with line 0 of a text and 7 bytes of a listing; 0 with the clock 3, with either order of ties and with 2 cells evicted; 12 with row 3, and 0 with 5 rows
+-- number 11 with line 0 of an event, number 10 with line 0 of a text and 7 bytes of a listing; 0 with the clock 3, with either order of ties and with 2 cells evicted; 12 with row 3,
+-- and 0 with 5 rows
 pub numbers-returned : (answerReturned (event.refused 0 notWellFormed) ≡ record { number = 11; values = 0 ∷ [] })
     × (endReturned (refusedAt 5 textTooLong) ≡ record { number = 10; values = 5 ∷ [] })
     × (endReturned (listed 7) ≡ record { number = 0; values = 7 ∷ [] })

@@ -2,7 +2,7 @@
 --
 -- In order: one line (`line-meant`, `line-answer`, `line-frame`, `line-state`); the list (`lines-run`), and the claim (`handed-on`); a text that ran leaves such a start (`ran-lets-pass`).
 -- Assumes nothing.
-use Prim.Native.Nat.{ℕ, _≤_}
+use Prim.Native.Nat.{ℕ, zero, suc, _≤_}
 use native.Mathlib.Omega.{arith}
 use mathlib.Core.Path.{_≡_, refl, sym, _∙_, ap}
 use mathlib.Core.Bool.{Bool, true}
@@ -26,8 +26,8 @@ use Rattle.frame.specs.Event.{line, Outcome, eventOf, Run, runOf}
 use Rattle.frame.specs.Text.{Whole, notRead, notPlanned, ran}
 use Rattle.frame.specs.TextDone.{endOf}
 use Rattle.frame.proofs.Theorems.{demand-3, meant-event}
-use Rattle.planner.specs.Layout.{recordsIn, bytesOf, frameNumbers, tieInForce, headOfNumbers, clockOfNumbers, holdOfNumbers, headOver, tieOver, numbersOver, clockOver}
-use Rattle.planner.proofs.RoundTrip.{head-back, run-others, run-length, run-head, run-clock, run-hold}
+use Rattle.planner.specs.Layout.{recordsIn, bytesOf, frameNumbers, clockPlace, tieInForce, saysHold, headOfNumbers, clockOfNumbers, holdOfNumbers, headOver, tieOver, numbersOver, clockOver}
+use Rattle.planner.proofs.RoundTrip.{head-back, run-others, run-length, run-head, run-clock, run-small, run-hold}
 use Rattle.planner.proofs.RunText.{on-ran}
 use Rattle.planner.proofs.EventLine.{on-enough}
 use Rattle.planner.specs.Exports.{headOn, stateOn, RunningOn, textOn, endReturned, frameAfter, recordsAfter, TextLeaves, TextPromise, eventOn, EventLeaves}
@@ -64,8 +64,11 @@ module _ (p : List ℕ) (s : 128 ≤ length p) where
       same-length : length f₁ ≡ length f
       same-length = ap length line-frame ∙ run-length (o .after .clock) (o .after .hold) f
 
-      same-others : (i : ℕ) → (i ≡ 3 → ⊥) → (i ≡ tieInForce → ⊥) → getD f₁ i 0 ≡ getD f i 0
+      same-others : (i : ℕ) → (i ≡ clockPlace → ⊥) → (i ≡ tieInForce → ⊥) → getD f₁ i 0 ≡ getD f i 0
       same-others i a b = ap (λ (m : List ℕ). getD m i 0) line-frame ∙ run-others (o .after .clock) (o .after .hold) f i a b
+
+      small-order : getD f tieInForce 0 ≤ 1 → getD f₁ tieInForce 0 ≤ 1
+      small-order h = omega (arith, ap (λ (m : List ℕ). getD m tieInForce 0) line-frame, run-small (o .after .clock) (o .after .hold) f h)
 
       line-state : stateOn f₁ t₁ ≡ o .after
       line-state =
@@ -93,11 +96,12 @@ module _ (p : List ℕ) (s : 128 ≤ length p) where
       (answers ≡ map answeredBy (runOn f p t ls .answers))
       × (stateOn last end ≡ runOn f p t ls .after)
       × (length last ≡ length f)
-      × ((i : ℕ) → (i ≡ 3 → ⊥) → (i ≡ tieInForce → ⊥) → getD last i 0 ≡ getD f i 0)
+      × ((i : ℕ) → (i ≡ clockPlace → ⊥) → (i ≡ tieInForce → ⊥) → getD last i 0 ≡ getD f i 0)
+      × (getD f tieInForce 0 ≤ 1 → getD last tieInForce 0 ≤ 1)
 
   lines-run : {f t last end : List ℕ} {ls : List (List ℕ)} {answers : List Answered} → Ready f t → HandedOn p f t ls answers last end → Comes f t ls answers last end
   unfolding runOf
-  lines-run ready no-more = (refl, refl, refl, λ i a b. refl)
+  lines-run ready no-more = (refl, refl, refl, λ i a b. refl, λ h. h)
   lines-run ready (by-event {frame} {t} {l} {ls = ls} {answers} d promise after) =
       let next = lines-run (line-ready frame t l ready d (promise .kept (ready .2))) after in
       let same = rest-run frame t l ready d ls in
@@ -108,19 +112,33 @@ module _ (p : List ℕ) (s : 128 ≤ length p) where
         next .1 ∙ ap (λ (y : Run). y .after) same,
         next .2 ∙ same-length frame t l ready d,
         λ i a b. next .3 i a b ∙ same-others frame t l ready d i a b,
+        λ h. next .4 (small-order frame t l ready d h),
       )
+
+-- a number that is 0 or 1 is what it says as a bit
+small-bit : (n : ℕ) → n ≤ 1 → n ≡ bit (saysHold n)
+small-bit zero h = refl
+small-bit (suc zero) h = refl
+small-bit (suc (suc n)) h = absurd (omega arith)
 
 -- The claim, for every list of lines handed over from a start that 11 lets pass.
 pub handed-on : (frame presets t : List ℕ) {last end : List ℕ} {ls : List (List ℕ)} {answers : List Answered} → LetPassOn frame presets t
     → HandedOn presets frame t ls answers last end → HandedOnClaim frame presets t ls answers last end
-handed-on frame presets t {ls = ls} start handed =
+handed-on frame presets t {last = last} {ls = ls} start handed =
     let head = headOfNumbers frame in
     let own = frameCausesOf head (recordsIn presets) (stateOn frame t) in
     let first = first-none tooShort (ltb (length frame) frameNumbers) _ start in
     let second = first-none tooShort (ltb (length presets) 128) own (first .1) in
     let passes = frame-running head (recordsIn presets) (stateOn frame t) (second .1) in
     let comes = lines-run presets (ge-of (length presets) 128 (second .0)) (ge-of (length frame) frameNumbers (first .0), passes .0, passes .1) handed in
-    record { answered = comes .0; left = comes .1; numbers = comes .2; others = comes .3; demand3 = demand-3 (headOn frame presets) (stateOn frame t) (map line ls) (passes .1) }
+    record {
+      answered = comes .0;
+      left = comes .1;
+      numbers = comes .2;
+      others = comes .3;
+      in-force = λ h. small-bit (getD last tieInForce 0) (comes .4 h) ∙ ap (λ (st : State). bit (st .hold)) (comes .1);
+      demand3 = demand-3 (headOn frame presets) (stateOn frame t) (map line ls) (passes .1);
+    }
 
 -- writing a frame leaves its length
 frame-size : (hd : record-of-head.Head) (c : ℕ) (hold : Bool) (f : List ℕ) → length (numbersOver hd c hold f) ≡ length f

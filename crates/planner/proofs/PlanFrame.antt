@@ -20,6 +20,8 @@ use Rattle.station.specs.declared.types.Preset as record-of-preset
 use Rattle.station.specs.declared.types.Head as record-of-head
 use Rattle.station.specs.declared.types.Refusal as cause
 use Rattle.station.proofs.Theorems.{number-some}
+use Rattle.placing.specs.Valid.{firstClock}
+use Rattle.placing.specs.State.{stateOf}
 use Rattle.placing.specs.Claims.{Running}
 use Rattle.placing.specs.Outcomes.{PlanAnswer, PlanOutcome, planCauses, planOf}
 use Rattle.placing.proofs.Theorems.{plan-claim}
@@ -29,8 +31,9 @@ use Rattle.placing.specs.declared.plan.PlanAnswer.the-variants.{Granted, Refuse
 use Rattle.placing.specs.PlanDone.{planMeant, repliedIn, grantsIn, PlanDone}
 use Rattle.frame.specs.Text.{startOf}
 use Rattle.frame.proofs.Theorems.{planned-running}
-use Rattle.planner.specs.Layout.{recordsIn, frameNumbers, headOfNumbers}
-use Rattle.planner.specs.Exports.{headOn, planOn, planReturned, grantsAfter, PlanLeaves, PlanPromise}
+use Rattle.planner.specs.Layout.{recordsIn, frameNumbers, headOfNumbers, holdOfNumbers, started}
+use Rattle.planner.proofs.RoundTrip.{started-head, started-clock, started-hold}
+use Rattle.planner.specs.Exports.{headOn, stateOn, planOn, planReturned, grantsAfter, PlanLeaves, PlanPromise}
 use Rattle.placing.specs.Types.{filled}
 
 -- a refused plan leaves the table
@@ -89,7 +92,7 @@ module _ (f p t g : List ℕ) where
   unfolding grantsAfter
   plan-stopped e = (
     subst (λ (o : PlanOutcome). PlanLeaves o g t g 8) (sym e) (record { answer = refl; grants = refl; table = refl }),
-    record { unchanged = λ z. refl; claim = plan-claim (headOn f p) t; running = λ z. absurd (number-some tooShort z) },
+    record { unchanged = λ z. refl; claim = plan-claim (headOn f p) t; starts = λ z. absurd (number-some tooShort z); running = λ z. absurd (number-some tooShort z) },
   )
 
   pub plan-short-frame : length f < frameNumbers → Done t g 8
@@ -105,13 +108,22 @@ module _ (f p t g : List ℕ) where
     abbrev meant : PlanOutcome
     meant = planMeant (headOfNumbers f) (recordsIn p) t
 
+    started-on : (headOn (started f) p ≡ headOn f p) × (stateOn (started f) t₁ ≡ startOf (headOn f p) t₁)
+    started-on = (
+      ap (λ (h : record-of-head.Head). headIn h (recordsIn p)) (started-head f),
+      ap (λ (c : ℕ). stateOf t₁ c (holdOfNumbers (started f))) (started-clock f k) ∙ ap (stateOf t₁ firstClock) (started-hold f k),
+    )
+
     plan-done : {g₁ : List ℕ} {r : ℕ} → r ≡ planReturned (meant .answer) .number → g₁ ≡ grantsAfter (meant .answer) g → Done t₁ g₁ r
     plan-done {g₁} {r} e b = (
       subst (λ (o : PlanOutcome). PlanLeaves o g t₁ g₁ r) (sym (on-enough k m s)) (record { answer = e; grants = b; table = d .table }),
       record {
         unchanged = λ z. d .table ∙ plan-keeps (headOfNumbers f) (recordsIn p) t (omega (arith, z, e));
         claim = plan-claim (headOn f p) t;
-        running = λ z. subst (λ (u : List ℕ). Running (headOn f p) (startOf (headOn f p) u)) (sym (d .table)) (plan-runs (headOfNumbers f) (recordsIn p) t (sym e ∙ z));
+        starts = λ z. started-on;
+        running = λ z.
+            rw (started-on .0, started-on .1)
+            (subst (λ (u : List ℕ). Running (headOn f p) (startOf (headOn f p) u)) (sym (d .table)) (plan-runs (headOfNumbers f) (recordsIn p) t (sym e ∙ z)));
       },
     )
 

@@ -2,10 +2,11 @@
 --
 -- In order: a run of stores (`sets-cons`, `sets-four`, `sets-short`, `sets-past`); preset records: what was written is read back (`records-back`), what was read and is
 -- written changes nothing (`bytes-back`), nor does what was read behind other records (`bytes-over-rest`), and bytes past them stay (`bytes-past`); a frame: the places of its head
--- (`head-agrees`, `head-equal`), its reserved places are not looked at (`reserved-head`, `reserved-clock`, `reserved-hold`), what was written is read back (`head-back`, `clock-back`, `hold-back`),
--- numbers past it stay (`head-past`, `numbers-past`), the head and the clock that were read and are written change nothing (`head-same`), nor does a whole frame exactly if it stands as it is
--- written (`AsWritten`, `as-written`, `numbers-back`, `back-written`); an order of ties alone, which stands already or is written (`Ordered`, `ordered`, `tie-same`),
--- and the head that was read, with its own (`read-same`); a clock and the order of ties in force, as an event leaves them (`run-others`, `run-length`, `run-head`, `run-clock`, `run-hold`, `run-same`); its masks alone (`masks-head`, `masks-same`).
+-- (`head-agrees`, `head-equal`), its reserved places are not looked at (`reserved-head`, `reserved-clock`, `reserved-hold`), what was written is read back (`head-back`, `clock-back`,
+-- `hold-back`), numbers past it stay (`numbers-past`), the head and the clock that were read and are written change nothing (`head-same`), nor does a whole frame exactly if it stands
+-- as it is written (`AsWritten`, `as-written`, `numbers-back`, `back-written`); an order of ties alone, which stands already or is written (`TiePut`, `tie-put`, `tie-same`), and the
+-- head that was read, with its own (`read-same`); a clock and the order of ties in force, as an event leaves them (`run-others`, `run-length`, `run-head`, `run-clock`, `run-small`,
+-- `run-hold`, `run-same`), and those of the start (`started-head`, `started-clock`, `started-hold`); its masks alone (`masks-head`, `masks-same`).
 -- Assumes nothing.
 use Prim.Native.Nat.{ℕ, zero, suc, _+_, _*_, _≤_, _<_}
 use native.Mathlib.Omega.{arith}
@@ -17,11 +18,13 @@ use lib.Seq.{sets, length-sets, sets-eq, drop-set-lt, getD-set-same, getD-set-ot
 use Rattle.laws.specs.Sums.{bit}
 use Rattle.laws.specs.Lists.{tabulate}
 use Rattle.laws.proofs.Tests.{Is, is, is-true, is-false, clash}
+use Rattle.laws.proofs.Counts.{bit-le, bit-positive}
 use Rattle.laws.proofs.Stores.{sets-out}
 use Rattle.station.specs.declared.types.Preset.{Preset}
 use Rattle.station.specs.declared.types.Head.{Head}
 use Rattle.station.specs.Types.{withHold, withMasks}
-use Rattle.planner.specs.Layout.{firstRecords, bytesOf, bytesOver, frameNumbers, headTie, tieInForce, saysHold, headOfNumbers, clockOfNumbers, holdOfNumbers, headOver, tieOver, numbersOver, clockOver, masksOver}
+use Rattle.placing.specs.Valid.{firstClock}
+use Rattle.planner.specs.Layout.{firstRecords, bytesOf, bytesOver, frameNumbers, clockPlace, headTie, tieInForce, saysHold, headOfNumbers, clockOfNumbers, holdOfNumbers, headOver, tieOver, numbersOver, clockOver, started, masksOver}
 
 -- ---- a run of stores
 
@@ -118,7 +121,7 @@ past-sets l k [] i h = refl
 past-sets l k (v ∷ vs) i h = past-sets (set l k v) (suc k) vs i (omega arith) ∙ getD-set-other l k i v 0 (omega arith)
 
 -- The head is made of the numbers at its places: a frame that agrees there with another has the same head but for its order of ties.
-module _ (l m : List ℕ) (at : (i : ℕ) → i < 12 → (i ≡ 3 → ⊥) → getD m i 0 ≡ getD l i 0) where
+module _ (l m : List ℕ) (at : (i : ℕ) → i < 12 → (i ≡ clockPlace → ⊥) → getD m i 0 ≡ getD l i 0) where
   head-agrees : (hold : Bool) → saysHold (getD m headTie 0) ≡ hold → headOfNumbers m ≡ withHold (headOfNumbers l) hold
   unfolding tabulate
   head-agrees hold tie =
@@ -145,10 +148,6 @@ module _ (l : List ℕ) (supply jobs : ℕ) where
   reserved-hold = ap saysHold (reserved-at tieInForce (λ e. omega arith) (λ e. omega arith))
 
 -- both orders of ties, with 0 in the reserved places beside them
-says-bit : (hold : Bool) → saysHold (bit hold) ≡ hold
-says-bit true = refl
-says-bit false = refl
-
 module _ (l : List ℕ) (kept hold : Bool) where
   abbrev both-orders : List ℕ
   both-orders = sets l 12 (0 ∷ bit kept ∷ bit hold ∷ 0 ∷ [])
@@ -166,14 +165,14 @@ module _ (l : List ℕ) (kept hold : Bool) where
   orders-head h =
       let read : getD both-orders headTie 0 ≡ bit kept =
       below-sets to-thirteen 14 (bit hold ∷ 0 ∷ []) 13 (omega arith) ∙ getD-set-same to-twelve 13 (bit kept) 0 (omega (arith, h, length-set l 12 0)) in
-      head-agrees l both-orders (λ i k n. orders-below i k) kept (ap saysHold read ∙ says-bit kept)
+      head-agrees l both-orders (λ i k n. orders-below i k) kept (ap saysHold read ∙ bit-positive kept)
 
   orders-hold : frameNumbers ≤ length l → holdOfNumbers both-orders ≡ hold
   orders-hold h =
       let read : getD both-orders tieInForce 0 ≡ bit hold =
       below-sets (set to-thirteen 14 (bit hold)) 15 (0 ∷ []) 14 (omega arith)
       ∙ getD-set-same to-thirteen 14 (bit hold) 0 (omega (arith, h, length-set to-twelve 13 (bit kept), length-set l 12 0)) in
-      ap saysHold read ∙ says-bit hold
+      ap saysHold read ∙ bit-positive hold
 
 -- what was written is read back
 module _ (head : Head) (clock : ℕ) (hold : Bool) (l : List ℕ) (eight : length (head .busy) ≡ 8) where
@@ -195,10 +194,7 @@ module _ (head : Head) (clock : ℕ) (hold : Bool) (l : List ℕ) (eight : lengt
   pub hold-back : frameNumbers ≤ length l → holdOfNumbers (numbersOver head clock hold l) ≡ hold
   hold-back h = orders-hold (headOver head clock l) (head .hold) hold (head-long h)
 
-  -- numbers past those written never change: past the twelfth with the head and the clock alone, past the sixteenth with a whole frame
-  pub head-past : drop 12 (headOver head clock l) ≡ drop 12 l
-  head-past = sets-past 12 l 0 (head .slots ∷ head .bridges ∷ head .count ∷ clock ∷ head .busy) (omega (arith, eight))
-
+  -- numbers past a whole frame never change
   pub numbers-past : drop frameNumbers (numbersOver head clock hold l) ≡ drop frameNumbers l
   numbers-past =
       sets-past frameNumbers (headOver head clock l) 12 (0 ∷ bit (head .hold) ∷ bit hold ∷ 0 ∷ []) (omega arith)
@@ -226,7 +222,7 @@ zero-at (x ∷ l) (suc i) = zero-at l i
 
 bit-at : (l : List ℕ) (i : ℕ) (b : Bool) → getD (set l i (bit b)) i 0 ≡ bit (saysHold (getD (set l i (bit b)) i 0))
 bit-at [] i b = refl
-bit-at (x ∷ l) zero b = ap bit (sym (says-bit b))
+bit-at (x ∷ l) zero b = ap bit (sym (bit-positive b))
 bit-at (x ∷ l) (suc i) b = bit-at l i b
 
 put-same : (l : List ℕ) (i v : ℕ) → getD l i 0 ≡ v → set l i v ≡ l
@@ -260,39 +256,43 @@ back-written l e = subst AsWritten e (as-written (headOver (headOfNumbers l) (cl
 -- ---- an order of ties alone
 
 -- it stands at its place already, in whatever number, or it is written there
-data Ordered (place : ℕ) (hold : Bool) (l : List ℕ) : List ℕ → Type 0 where
-  stands : saysHold (getD l place 0) ≡ hold → Ordered place hold l l
-  written : (saysHold (getD l place 0) ≡ hold → ⊥) → Ordered place hold l (set l place (bit hold))
+data TiePut (place : ℕ) (hold : Bool) (l : List ℕ) : List ℕ → Type 0 where
+  stands : saysHold (getD l place 0) ≡ hold → TiePut place hold l l
+  written : (saysHold (getD l place 0) ≡ hold → ⊥) → TiePut place hold l (set l place (bit hold))
 
-ordered : (place : ℕ) (hold : Bool) (l : List ℕ) → Ordered place hold l (tieOver place hold l)
-ordered place hold l = go (is (saysHold (getD l place 0))) hold
+tie-put : (place : ℕ) (hold : Bool) (l : List ℕ) → TiePut place hold l (tieOver place hold l)
+tie-put place hold l = go (is (saysHold (getD l place 0))) hold
   where
-    go : Is (saysHold (getD l place 0)) → (hold : Bool) → Ordered place hold l (tieOver place hold l)
+    go : Is (saysHold (getD l place 0)) → (hold : Bool) → TiePut place hold l (tieOver place hold l)
     go (is-true e) true = rw e (stands e)
     go (is-true e) false = rw e (written (λ q. clash (sym e ∙ q)))
     go (is-false e) true = rw e (written (λ q. clash (sym q ∙ e)))
     go (is-false e) false = rw e (stands e)
 
 module _ {place : ℕ} {hold : Bool} {l : List ℕ} where
-  ordered-length : {m : List ℕ} → Ordered place hold l m → length m ≡ length l
-  ordered-length (stands e) = refl
-  ordered-length (written k) = length-set l place (bit hold)
+  put-length : {m : List ℕ} → TiePut place hold l m → length m ≡ length l
+  put-length (stands e) = refl
+  put-length (written k) = length-set l place (bit hold)
 
-  ordered-other : {m : List ℕ} (i : ℕ) → (i ≡ place → ⊥) → Ordered place hold l m → getD m i 0 ≡ getD l i 0
-  ordered-other i d (stands e) = refl
-  ordered-other i d (written k) = getD-set-other l place i (bit hold) 0 d
+  put-other : {m : List ℕ} (i : ℕ) → (i ≡ place → ⊥) → TiePut place hold l m → getD m i 0 ≡ getD l i 0
+  put-other i d (stands e) = refl
+  put-other i d (written k) = getD-set-other l place i (bit hold) 0 d
 
-  ordered-says : {m : List ℕ} → place < length l → Ordered place hold l m → saysHold (getD m place 0) ≡ hold
-  ordered-says h (stands e) = e
-  ordered-says h (written k) = ap saysHold (getD-set-same l place (bit hold) 0 h) ∙ says-bit hold
+  put-says : {m : List ℕ} → place < length l → TiePut place hold l m → saysHold (getD m place 0) ≡ hold
+  put-says h (stands e) = e
+  put-says h (written k) = ap saysHold (getD-set-same l place (bit hold) 0 h) ∙ bit-positive hold
 
-  ordered-same : {m : List ℕ} → saysHold (getD l place 0) ≡ hold → Ordered place hold l m → m ≡ l
-  ordered-same q (stands e) = refl
-  ordered-same q (written k) = absurd (k q)
+  put-small : {m : List ℕ} → getD l place 0 ≤ 1 → TiePut place hold l m → getD m place 0 ≤ 1
+  put-small h (stands e) = h
+  put-small h (written k) = omega (arith, bit-at l place hold, bit-le (saysHold (getD (set l place (bit hold)) place 0)))
+
+  stood : {m : List ℕ} → saysHold (getD l place 0) ≡ hold → TiePut place hold l m → m ≡ l
+  stood q (stands e) = refl
+  stood q (written k) = absurd (k q)
 
 -- an order that stands changes nothing, whatever number says it
 tie-same : (place : ℕ) (l : List ℕ) → tieOver place (saysHold (getD l place 0)) l ≡ l
-tie-same place l = ordered-same refl (ordered place (saysHold (getD l place 0)) l)
+tie-same place l = stood refl (tie-put place (saysHold (getD l place 0)) l)
 
 -- writing the head and the clock that were read changes nothing
 pub read-same : (l : List ℕ) → tieOver headTie (headOfNumbers l .hold) (headOver (headOfNumbers l) (clockOfNumbers l) l) ≡ l
@@ -304,23 +304,42 @@ module _ (c : ℕ) (hold : Bool) (l : List ℕ) where
   abbrev run-on : List ℕ
   run-on = tieOver tieInForce hold (clockOver c l)
 
-  pub run-others : (i : ℕ) → (i ≡ 3 → ⊥) → (i ≡ tieInForce → ⊥) → getD run-on i 0 ≡ getD l i 0
-  run-others i a b = ordered-other i b (ordered tieInForce hold (clockOver c l)) ∙ getD-set-other l 3 i c 0 a
+  pub run-others : (i : ℕ) → (i ≡ clockPlace → ⊥) → (i ≡ tieInForce → ⊥) → getD run-on i 0 ≡ getD l i 0
+  run-others i a b = put-other i b (tie-put tieInForce hold (clockOver c l)) ∙ getD-set-other l clockPlace i c 0 a
 
   pub run-length : length run-on ≡ length l
-  run-length = ordered-length (ordered tieInForce hold (clockOver c l)) ∙ length-set l 3 c
+  run-length = put-length (tie-put tieInForce hold (clockOver c l)) ∙ length-set l clockPlace c
 
   pub run-head : headOfNumbers run-on ≡ headOfNumbers l
   run-head = head-equal l run-on (λ i h k. run-others i k (λ e. omega arith)) (run-others headTie (λ e. omega arith) (λ e. omega arith))
 
   pub run-clock : frameNumbers ≤ length l → clockOfNumbers run-on ≡ c
-  run-clock h = ordered-other 3 (λ e. omega arith) (ordered tieInForce hold (clockOver c l)) ∙ getD-set-same l 3 c 0 (omega arith)
+  run-clock h = put-other clockPlace (λ e. omega arith) (tie-put tieInForce hold (clockOver c l)) ∙ getD-set-same l clockPlace c 0 (omega arith)
+
+  -- an order that is 0 or 1 stays one of these
+  pub run-small : getD l tieInForce 0 ≤ 1 → getD run-on tieInForce 0 ≤ 1
+  run-small h = put-small (omega (arith, h, getD-set-other l clockPlace tieInForce c 0 (λ e. omega arith))) (tie-put tieInForce hold (clockOver c l))
 
   pub run-hold : frameNumbers ≤ length l → holdOfNumbers run-on ≡ hold
-  run-hold h = ordered-says (omega (arith, h, length-set l 3 c)) (ordered tieInForce hold (clockOver c l))
+  run-hold h = put-says (omega (arith, h, length-set l clockPlace c)) (tie-put tieInForce hold (clockOver c l))
 
 pub run-same : (l : List ℕ) → tieOver tieInForce (holdOfNumbers l) (clockOver (clockOfNumbers l) l) ≡ l
-run-same l = ap (tieOver tieInForce (holdOfNumbers l)) (set-getD l 3 0) ∙ tie-same tieInForce l
+run-same l = ap (tieOver tieInForce (holdOfNumbers l)) (set-getD l clockPlace 0) ∙ tie-same tieInForce l
+
+-- ---- its clock and its order of ties in force, those of the start
+
+module _ (l : List ℕ) where
+  started-others : (i : ℕ) → (i ≡ clockPlace → ⊥) → (i ≡ tieInForce → ⊥) → getD (started l) i 0 ≡ getD l i 0
+  started-others i a b = getD-set-other (clockOver firstClock l) tieInForce i (getD l headTie 0) 0 b ∙ getD-set-other l clockPlace i firstClock 0 a
+
+  pub started-head : headOfNumbers (started l) ≡ headOfNumbers l
+  started-head = head-equal l (started l) (λ i h k. started-others i k (λ e. omega arith)) (started-others headTie (λ e. omega arith) (λ e. omega arith))
+
+  pub started-clock : frameNumbers ≤ length l → clockOfNumbers (started l) ≡ firstClock
+  started-clock h = getD-set-other (clockOver firstClock l) tieInForce clockPlace (getD l headTie 0) 0 (λ e. omega arith) ∙ getD-set-same l clockPlace firstClock 0 (omega arith)
+
+  pub started-hold : frameNumbers ≤ length l → holdOfNumbers (started l) ≡ headOfNumbers l .hold
+  started-hold h = ap saysHold (getD-set-same (clockOver firstClock l) tieInForce (getD l headTie 0) 0 (omega (arith, h, length-set l clockPlace firstClock)))
 
 -- ---- its masks alone
 

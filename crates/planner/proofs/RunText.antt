@@ -1,8 +1,8 @@
 -- What `planner_run_text` answers and leaves, law by law.
 --
--- In order: what a text comes to by the causes 10 and 8 of the frame and of the presets (`on-..`), and that one that ran met none of them (`on-ran`); a text that is refused by these (`text-long`, `text-short-frame`,
--- `text-short-presets`); what is left of the head and of the records by value, written back (`frame-left`, `presets-left`) and read again (`head-again`); a text that
--- is run (`text-run`, `text-handed`).
+-- In order: what a text comes to by the causes 10 and 8 of the frame and of the presets (`on-..`), and that one that ran met none of them (`on-ran`); a text that is refused by these
+-- (`text-long`, `text-short-frame`, `text-short-presets`); what is left of the head and of the records by value, written back (`frame-left`, `presets-left`) and read again
+-- (`head-again`, `ran-left`); a text that is run (`text-run`, `text-handed`).
 -- Assumes nothing.
 use Prim.Native.Nat.{ℕ, _≤_, _<_}
 use native.Mathlib.Omega.{arith}
@@ -29,7 +29,10 @@ use Rattle.frame.specs.TextDone.{wholeWithOutput, End, endIn, endOf, headAfter,
 use Rattle.frame.proofs.Theorems.{beside-long, text-claim}
 use Rattle.planner.specs.Layout.{recordsIn, bytesOver, frameNumbers, headOfNumbers, clockOfNumbers, holdOfNumbers, numbersOver}
 use Rattle.planner.proofs.RoundTrip.{records-back, bytes-back, bytes-over-rest, length-records, head-back, clock-back, hold-back, read-same}
-use Rattle.planner.specs.Exports.{RunningOn, textOn, endReturned, value, frameLeft, frameAfter, recordsAfter, TextLeaves, TextPromise}
+use Rattle.planner.specs.Exports.{headOn, stateOn, RunningOn, textOn, endReturned, value, frameLeft, frameAfter, recordsAfter, TextLeaves, TextPromise}
+
+unread : {c : Refusal} {h : Head} {m : ℕ} {g : List ℕ} {x : Run} → notRead 0 c ≡ ran h m g x → ⊥
+unread q = let z : _≡_ {A = ℕ} 0 1 = cc in omega arith
 
 module _ (text f p t out : List ℕ) where
   on-long : 32768 < length text → textOn text f p t out ≡ notRead 0 textTooLong
@@ -59,9 +62,6 @@ module _ (text f p t out : List ℕ) where
   pub on-ran : (h : Head) (m : ℕ) (g : List ℕ) (x : Run) → textOn text f p t out ≡ ran h m g x → (frameNumbers ≤ length f) × (128 ≤ length p)
   on-ran h m g x e = go (is (ltb 32768 (length text))) (is (ltb (length f) frameNumbers)) (is (ltb (length p) 128))
     where
-      unread : {c : Refusal} → notRead 0 c ≡ ran h m g x → ⊥
-      unread q = let z : _≡_ {A = ℕ} 0 1 = cc in omega arith
-
       go : Is (ltb 32768 (length text)) → Is (ltb (length f) frameNumbers) → Is (ltb (length p) 128) → (frameNumbers ≤ length f) × (128 ≤ length p)
       go (is-true l) k s = absurd (unread (sym (on-long (lt-of 32768 (length text) l)) ∙ e))
       go (is-false l) (is-true k) s = absurd (unread (sym (on-short-frame (ge-of 32768 (length text) l) (lt-of (length f) frameNumbers k)) ∙ e))
@@ -77,7 +77,7 @@ module _ (text f p t out : List ℕ) where
   text-stopped c e = (
     subst (λ (w : Whole). TextLeaves w f p t out f p t out 0 (numberOf c)) (sym e)
         (record { answer = refl; end = refl; frame = refl; presets = refl; table = refl; output = refl }),
-    record { long = on-enough; claim = text-claim text t out; running = λ z. absurd (number-some c z) },
+    record { long = on-enough; claim = text-claim text t out; left = λ h m g x q. absurd (unread (sym e ∙ q)); running = λ z. absurd (number-some c z) },
   )
 
   pub text-long : 32768 < length text → Done f p t out 0 10
@@ -123,13 +123,14 @@ module _ (text f p t out : List ℕ) where
 
   module _ {f₁ p₁ t₁ out₁ : List ℕ} {x : run.TextRun} (k : frameNumbers ≤ length f) (s : 128 ≤ length p) (d : TextDone text (headOfNumbers f) (recordsIn p) t (clockOfNumbers f) (holdOfNumbers f) out t₁ out₁ x)
       (a : f₁ ≡ frameLeft (endIn (x .ended)) (x .head) (x .clock) (x .hold) f) (b : p₁ ≡ bytesOver (x .presets) p) where
-    ran-left : (w : Whole) → wholeWithOutput text t out ≡ w → endReturned (endOf w out) .number ≡ 0 → RunningOn f₁ p₁ t₁
+    ran-runs : (h : Head) (n : ℕ) (g : List ℕ) (r : Run) → wholeWithOutput text t out ≡ ran h n g r → Running h (r .after)
+    ran-runs h n g r e = subst (λ (y : Run). Running h (y .after)) (sym (text-claim text t out .events h n g r e)) (text-claim text t out .demand3 h n g r e .running)
+
+    -- the head and the last state of a text that ran
+    ran-left : (h : Head) (n : ℕ) (g : List ℕ) (r : Run) → wholeWithOutput text t out ≡ ran h n g r → (headOn f₁ p₁ ≡ h) × (stateOn f₁ t₁ ≡ r .after)
     unfolding endOf headAfter presetsAfter tableAfter clockAfter holdAfter
-    ran-left (notRead n r) e z = absurd (number-some r z)
-    ran-left (notPlanned h n r) e z = absurd (number-some r z)
-    ran-left (ran h n g r) e z =
-        let after : Running h (r .after) =
-        subst (λ (y : Run). Running h (y .after)) (sym (text-claim text t out .events h n g r e)) (text-claim text t out .demand3 h n g r e .running) in
+    ran-left h n g r e =
+        let after = ran-runs h n g r e in
         let end : endIn (x .ended) ≡ endOf (ran h n g r) out = d .ended ∙ ap (λ (w : Whole). endOf w out) e in
         let head : x .head ≡ headRecord h = d .head ∙ ap (λ (w : Whole). headAfter w (headOfNumbers f)) e in
         let clock : x .clock ≡ r .after .clock = d .clock ∙ ap (λ (w : Whole). clockAfter w (clockOfNumbers f)) e in
@@ -143,7 +144,13 @@ module _ (text f p t out : List ℕ) where
         ∙ ap (λ (c : ℕ). numbersOver (headRecord h) c (x .hold) f) clock
         ∙ ap (λ (b : Bool). numbersOver (headRecord h) (r .after .clock) b f) hold)
         (b ∙ ap (λ (l : List record-of-preset.Preset). bytesOver l p) records) in
-        rw (again .0, again .1, again .2, table) after
+        (again .0, rw (again .1, again .2, table) refl)
+
+    ran-running : (w : Whole) → wholeWithOutput text t out ≡ w → endReturned (endOf w out) .number ≡ 0 → RunningOn f₁ p₁ t₁
+    unfolding endOf
+    ran-running (notRead n r) e z = absurd (number-some r z)
+    ran-running (notPlanned h n r) e z = absurd (number-some r z)
+    ran-running (ran h n g r) e z = let same = ran-left h n g r e in rw (same .0, same .1) (ran-runs h n g r e)
 
     abbrev whole : Whole
     whole = wholeWithOutput text t out
@@ -167,7 +174,8 @@ module _ (text f p t out : List ℕ) where
       record {
         long = on-enough;
         claim = text-claim text t out;
-        running = λ z. ran-left whole refl (sym (ap (λ (x : End). endReturned x .number) (d .ended)) ∙ sym e₂ ∙ z);
+        left = λ h m g y q. ran-left h m g y (sym (on-enough k s) ∙ q);
+        running = λ z. ran-running whole refl (sym (ap (λ (x : End). endReturned x .number) (d .ended)) ∙ sym e₂ ∙ z);
       },
     )
 

@@ -32,14 +32,14 @@ use Rattle.placing.specs.State.{State, stateOf}
 use Rattle.placing.specs.Claims.{Running, PlanClaim}
 use Rattle.placing.specs.Outcomes.{PlanAnswer, PlanOutcome}
 use Rattle.placing.specs.PlanDone.{planMeant}
-use Rattle.frame.specs.Event.{Event, Answer, clockNow, tieNow, taken, refused, Outcome}
+use Rattle.frame.specs.Event.{Event, Answer, clockNow, tieNow, taken, refused, Outcome, Run}
 use Rattle.frame.specs.Text.{Whole, notRead, notPlanned, ran, startOf, wholeOf}
 use Rattle.frame.specs.Listing.{listingOf}
 use Rattle.frame.specs.Demands.{Demand3}
 use Rattle.frame.specs.EventDone.{eventMeant}
 use Rattle.frame.specs.TextDone.{wholeWithOutput, End, listed, refusedAt, endOf, tableAfter, outputAfter, TextClaim}
 use Rattle.frame.specs.WriteListing.{listingCause, listingMeant}
-use Rattle.planner.specs.Layout.{presetBytes, recordsIn, bytesOver, frameNumbers, headTie, tieInForce, headOfNumbers, clockOfNumbers, holdOfNumbers, headOver, tieOver, numbersOver, clockOver, masksOver}
+use Rattle.planner.specs.Layout.{presetBytes, recordsIn, bytesOver, frameNumbers, headTie, tieInForce, headOfNumbers, clockOfNumbers, holdOfNumbers, headOver, tieOver, numbersOver, clockOver, started, masksOver}
 use Rattle.placing.specs.Types.{filled}
 
 -- ---- the running frame
@@ -158,7 +158,9 @@ pub record TextPromise (text frame presets t out frame₁ presets₁ t₁ : List
   pub long : frameNumbers ≤ length frame → presetBytes ≤ length presets → textOn text frame presets t out ≡ wholeWithOutput text t out
   -- demands 1 to 3 and what is claimed of the plan
   pub claim : TextClaim text t out
-  -- "Each event gets the table and clock that the last one left", and the order of ties: a text that ran leaves a running frame for `planner_event`
+  -- "Each event gets the table and clock that the last one left", and the order of ties: a text that ran leaves its head and its last state, a running frame for `planner_event`, so that lines
+  -- handed over after it go on with its list of events
+  pub left : (h : Head) (n : ℕ) (g : List ℕ) (x : Run) → textOn text frame presets t out ≡ ran h n g x → (headOn frame₁ presets₁ ≡ h) × (stateOn frame₁ t₁ ≡ x .after)
   pub running : r ≡ 0 → RunningOn frame₁ presets₁ t₁
 
 -- ---- planner_event
@@ -212,8 +214,10 @@ pub record PlanPromise (frame presets t t₁ : List ℕ) (r : ℕ) : Type 0 wher
   pub unchanged : 0 < r → t₁ ≡ t
   -- 5 exactly when no valid plan exists, best for every k
   pub claim : PlanClaim (headOn frame presets) t
-  -- "It starts from an accepted head with its plan and the first clock": with the clock 1 and the head's order of ties the table is one of a running frame
-  pub running : r ≡ 0 → Running (headOn frame presets) (startOf (headOn frame presets) t₁)
+  -- "It starts from an accepted head with its plan and the first clock": with this clock and the head's order of ties put in force, the frame has its head and the state that a text
+  -- starts from, a running one
+  pub starts : r ≡ 0 → (headOn (started frame) presets ≡ headOn frame presets) × (stateOn (started frame) t₁ ≡ startOf (headOn frame presets) t₁)
+  pub running : r ≡ 0 → RunningOn (started frame) presets t₁
 
 -- ---- planner_listing
 

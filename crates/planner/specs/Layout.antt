@@ -2,7 +2,7 @@
 -- writing are inverse is proved in proofs/RoundTrip.antt.
 --
 -- In order: the bytes of preset records, read (`recordsIn`) and written (`bytesOver`); the numbers of a frame, read (`headOfNumbers`, `clockOfNumbers`, `holdOfNumbers`) and
--- written (`headOver`, `tieOver`, `numbersOver`, `clockOver`, `masksOver`).
+-- written (`headOver`, `tieOver`, `numbersOver`, `clockOver`, `started`, `masksOver`).
 -- Assumes nothing.
 use Prim.Native.Nat.{ℕ, zero, suc, _+_, _*_}
 use mathlib.Core.Bool.{Bool, cond, Bool·beq}
@@ -15,6 +15,7 @@ use Rattle.laws.specs.Lists.{tabulate}
 use Rattle.station.specs.Limits.{mostBridges, mostPresets, leastRecords}
 use Rattle.station.specs.declared.types.Preset.{Preset}
 use Rattle.station.specs.declared.types.Head.{Head}
+use Rattle.placing.specs.Valid.{firstClock}
 
 -- ---- "Presets stand in a lent list of records, in file order."
 
@@ -51,13 +52,16 @@ bytesOver ps l = sets l 0 (bytesOf ps)
 
 -- ---- the running frame: its head, "the clock", and the order of ties in force
 
--- A frame is sixteen numbers: slots, bridges, how many presets, the clock, the busy slots of bridges 1 to 8, one mask each with slot 1 as the lowest bit, at 13 the head's order of ties, at 14 the
--- one in force, and two that are reserved for requests to come: at 12 the supply (2026-03), at 15 how many jobs were admitted (2026-06).
--- Until then these two are not looked at. A text that ran leaves 0 there, so that a later version can tell a frame stored by this one; nothing else writes there.
+-- A frame is sixteen numbers: slots, bridges, how many presets, the clock, the busy slots of bridges 1 to 8, one mask each with slot 1 as the lowest bit, at 13 the head's order of
+-- ties, at 14 the one in force, and two that are reserved for requests to come: at 12 the supply (2026-03), at 15 how many jobs were admitted (2026-06). Until then these two are not
+-- looked at. A text that ran leaves 0 there, so that a later version can tell a frame stored by this one; nothing else writes there.
 abbrev pub frameNumbers : ℕ
 frameNumbers = 16
 
--- the places of the two orders of ties
+-- the places of the clock and of the two orders of ties
+abbrev pub clockPlace : ℕ
+clockPlace = 3
+
 abbrev pub headTie : ℕ
 headTie = 13
 
@@ -73,12 +77,12 @@ abbrev pub headOfNumbers : List ℕ → Head
 headOfNumbers l = record { slots = getD l 0 0; bridges = getD l 1 0; hold = saysHold (getD l headTie 0); busy = tabulate mostBridges (λ b. getD l (4 + b) 0); count = getD l 2 0 }
 
 abbrev pub clockOfNumbers : List ℕ → ℕ
-clockOfNumbers l = getD l 3 0
+clockOfNumbers l = getD l clockPlace 0
 
 abbrev pub holdOfNumbers : List ℕ → Bool
 holdOfNumbers l = saysHold (getD l tieInForce 0)
 
--- A list of numbers with a head but for its order of ties and a clock written over its start: every number past the twelfth is as it was.
+-- A list of numbers with a head, all but its order of ties, and a clock written over its start: every number past the twelfth is as it was.
 abbrev pub headOver : Head → ℕ → List ℕ → List ℕ
 headOver head clock l = sets l 0 (head .slots ∷ head .bridges ∷ head .count ∷ clock ∷ head .busy)
 
@@ -92,7 +96,11 @@ numbersOver head clock hold l = sets (headOver head clock l) 12 (0 ∷ bit (head
 
 -- and with a clock alone
 abbrev pub clockOver : ℕ → List ℕ → List ℕ
-clockOver clock l = set l 3 clock
+clockOver clock l = set l clockPlace clock
+
+-- with the first clock, and the head's order of ties put in force: "It starts from an accepted head with its plan and the first clock"
+abbrev pub started : List ℕ → List ℕ
+started l = set (clockOver firstClock l) tieInForce (getD l headTie 0)
 
 -- or with the masks of the busy slots alone
 abbrev pub masksOver : List ℕ → List ℕ → List ℕ

@@ -32,7 +32,9 @@ fn set_number(numbers: &mut [u64], i: usize, given: u64)
     }
 }
 
-// The places of the head's order of ties and of the one in force.
+// The places of the clock, of the head's order of ties and of the one in force.
+const CLOCK: usize = 3;
+
 const HEAD_TIE: usize = 13;
 
 const TIE_IN_FORCE: usize = 14;
@@ -81,7 +83,7 @@ pub(crate) fn head_of(frame: &[u64]) -> Head
 pub(crate) fn clock_of(frame: &[u64]) -> usize
     ensures { λ r. ⌜ r ≡ clockOfNumbers (now (frame .entry)) ⌝ }
 {
-    number_at(frame, 3) as usize
+    number_at(frame, CLOCK) as usize
 }
 
 // The order of ties in force of a frame.
@@ -112,7 +114,7 @@ pub(crate) fn save_tie(frame: &mut [u64], hold: bool)
 pub(crate) fn save_clock(frame: &mut [u64], clock: usize)
     ensures { λ _. ⌜ now (frame .exit) ≡ clockOver clock (now (frame .entry)) ⌝ }
 {
-    set_number(frame, 3, clock as u64);
+    set_number(frame, CLOCK, clock as u64);
 }
 
 // Writes the masks of the busy slots to their places, and nothing else.
@@ -126,7 +128,7 @@ pub(crate) fn save_masks(frame: &mut [u64], busy: [u64; MOST_BRIDGES])
     }
 }
 
-// Writes a head but for its order of ties and a clock over the first twelve numbers.
+// Writes a head, all but its order of ties, and a clock over the first twelve numbers.
 fn save_head(frame: &mut [u64], head: Head, clock: usize)
     ensures { λ _. ⌜ now (frame .exit) ≡ headOver head clock (now (frame .entry)) ⌝ }
 {
@@ -134,7 +136,7 @@ fn save_head(frame: &mut [u64], head: Head, clock: usize)
     set_number(frame, 0, head.slots as u64);
     set_number(frame, 1, head.bridges as u64);
     set_number(frame, 2, head.count as u64);
-    set_number(frame, 3, clock as u64);
+    set_number(frame, CLOCK, clock as u64);
     save_masks(frame, busy);
 }
 

@@ -4,8 +4,8 @@
 -- (`cases-read`); the head of the listing, written (`listing-written`) and tested (`listing-valid`); the 33rd preset (`presets-32`,
 -- `presets-33`); a number above 2 ^ 64 (`long-number`); the longest text (`too-long`, `longest`). Then what holds the definitions to document 01 from two
 -- sides, each a list of cases and one fact: the causes' numbers (`cause-numbers`); the limits of a head's lines at both edges, and the causes of a line two at
--- a time in the listed order (`edges-read`, `used-before-33`, `outside-before-33`), with the tie line among them (`ties-read`, `ties-written`); head records at the edges (`edges-valid`, `record-32`, `record-33`); what
--- the entries over a list of records try (`entries-read`, `entries-written`).
+-- a time in the listed order (`edges-read`), the tie line and its places (`ties-read`, `ties-written`), the causes of a 33rd preset (`used-before-33`, `outside-before-33`); head
+-- records at the edges (`edges-valid`, `record-32`, `record-33`); what the entries over a list of records try (`entries-read`, `entries-written`).
 -- Assumes nothing.
 use Prim.Native.Nat.{ℕ, zero, suc}
 use Prim.Native.String.{String}

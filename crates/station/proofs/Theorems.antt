@@ -6,6 +6,8 @@ pub use Rattle.station.proofs.Refusal.{number-small, number-some, first
 -- the lines of a text
 pub use Rattle.station.proofs.Text.{lines-join}
 pub use Rattle.station.proofs.lines.FirstLine.{line-front, lines-first, line-some, line-within, lines-at, lines-past}
+-- the forms: a line that has one is the form printed
+pub use Rattle.station.proofs.Form.{form-had}
 -- decimals
 pub use Rattle.station.proofs.Decimal.{digits-length}
 -- a head record that some text yields

@@ -60,9 +60,9 @@ distinct-unused (x ∷ done) p ps e =
 zeros : List ℕ → List ℕ
 zeros ms = replicate (length ms) 0
 
--- one mask more is done: that many
-count : (m : ℕ) (done : List ℕ) → length (done ++ (m ∷ [])) ≡ suc (length done)
-count m done = omega (arith, length-append done (m ∷ []))
+-- one more at the end
+length-snoc : (m : ℕ) (done : List ℕ) → length (done ++ (m ∷ [])) ≡ suc (length done)
+length-snoc m done = omega (arith, length-append done (m ∷ []))
 
 -- a stage at which the busy lines may go on with bridge n
 record Open (n : ℕ) (stage : Stage) : Type 0 where
@@ -154,7 +154,7 @@ module _ (s b : ℕ) (hold : Bool) where
       → Reaches (under to (done ++ (m ∷ []) ++ zeros ms) []) (busyLines (suc (length (done ++ (m ∷ [])))) ms ++ rest) h
       → Reaches (under to (done ++ (m ∷ zeros ms)) []) (busyLines (suc (suc (length done))) ms ++ rest) h
   busy-moved m to ms done rest h w =
-      subst (λ (k : ℕ). Reaches (under to (done ++ (m ∷ zeros ms)) []) (busyLines (suc k) ms ++ rest) h) (count m done)
+      subst (λ (k : ℕ). Reaches (under to (done ++ (m ∷ zeros ms)) []) (busyLines (suc k) ms ++ rest) h) (length-snoc m done)
       (subst (λ (k : List ℕ). Reaches (under to k []) (busyLines (suc (length (done ++ (m ∷ [])))) ms ++ rest) h) (append-snoc done m (zeros ms)) w)
 
   busy-reach : (ms done : List ℕ) (from : Stage) (rest : List Form) (h : Head) → s ≤ 64 → Open (suc (length done)) from
@@ -165,7 +165,7 @@ module _ (s b : ℕ) (hold : Bool) where
   busy-reach (m ∷ ms) done from rest h top low f g k =
       busy-cons m ms done from rest h top low (f 0) (λ q. g 0 (omega arith))
       (λ to l. busy-moved m to ms done rest h
-      (busy-reach ms (done ++ (m ∷ [])) to rest h top (rw (count m done) l) (λ i. f (suc i))
+      (busy-reach ms (done ++ (m ∷ [])) to rest h top (rw (length-snoc m done) l) (λ i. f (suc i))
       (λ i q. g (suc i) (omega (arith, length-append done (m ∷ []))))
       (λ x o. subst (λ (k : List ℕ). Reaches (under x k []) rest h) (sym (append-snoc done m ms)) (k x o))))
 

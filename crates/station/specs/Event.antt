@@ -1,4 +1,5 @@
--- What the code makes of an event line by itself, before the table and the clock are looked at. Document 01, "The station text" and "Causes".
+-- What the code makes of an event line by itself, before the table and the clock are looked at. Document 01, "The station text" and "Causes"; document 02,
+-- 2026-02.
 -- Assumes nothing.
 use mathlib.Core.Bool.{Bool, true, false, _&&_}
 use mathlib.Core.Option.{Option, none, some}

@@ -1,4 +1,4 @@
--- The head of a station text as a record, and when a record is one that a text yields. Document 01, "The frame and its parts".
+-- The head of a station text as a record, and when a record is one that a text yields. Document 01, "The frame and its parts"; document 02, 2026-02.
 -- Slots and bridges are counted from 0 here: slot s is the paper's slot s + 1, bridge b its bridge b + 1.
 -- Assumes nothing.
 use Prim.Native.Nat.{ℕ, zero, suc, _≤_, _<_, _/_, _%_, _^_}
@@ -16,8 +16,8 @@ pub record Preset : Type 0 where
   pub mandatory : ℕ
   pub optional : ℕ
 
--- "A frame has S slots .. and B bridges"; whether `(tie hold)` stands directly after the frame line; the busy cells, one mask of 64 bits for each of eight bridges, slot s being the bit of worth 2 ^ s;
--- the presets in file order.
+-- "A frame has S slots .. and B bridges"; whether `(tie hold)` stands directly after the frame line; the busy cells, one mask of 64 bits for each of eight bridges, slot s being the
+-- bit of worth 2 ^ s; the presets in file order.
 pub record Head : Type 0 where
   pub slots : ℕ
   pub bridges : ℕ

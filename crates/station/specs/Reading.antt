@@ -158,7 +158,7 @@ pub data Stops (n : ℕ) (q : SoFar) : List (List ℕ) → Reading → Type 0 wh
   at-end : begun (q .stage) ≡ true → Stops n q [] (accepted (q .head) n)
   -- "The head ends before the first line that has an event's form"
   at-event : {l : List ℕ} {ls : List (List ℕ)} {f : Form} → form l ≡ some f → ends q f ≡ true → Stops n q (l ∷ ls) (accepted (q .head) n)
-  -- "a line that is not one of the five forms, or lacks its end"
+  -- "a line that is not one of the five forms, or lacks its end", which are six since 2026-02
   at-no-form : {l : List ℕ} {ls : List (List ℕ)} → form l ≡ none → Stops n q (l ∷ ls) (refused (suc n) noForm)
   -- "In a head, the first line at fault decides", by the first of its causes in the listed order
   at-fault : {l : List ℕ} {ls : List (List ℕ)} {f : Form} {c : Refusal}

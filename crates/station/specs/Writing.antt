@@ -1,4 +1,4 @@
--- Writing a head: "The head has one text only, and the writer makes it." Document 01, "The station text".
+-- Writing a head: "The head has one text only, and the writer makes it." Document 01, "The station text"; document 02, 2026-02.
 -- The busy cells of a bridge are a mask; its stretches are the runs of ones, slot 1 being the lowest bit.
 -- Assumes nothing.
 use Prim.Native.Nat.{ℕ, zero, suc, _+_, _-_, _/_, _%_, _^_}

@@ -1,5 +1,5 @@
-// A text with ties through the entries over a lent list of preset records, under both orders of ties: two presets and then two jobs share one bridge, and each time the first
-// slot makes their remaining times equal. What each entry answers is written, the order that is in force afterwards, and the cells.
+// A text with ties through the entries over a lent list of preset records, the plan by hold and the calls under both orders of ties: two presets and then two jobs share one
+// bridge, and each time the first slot makes their remaining times equal. What each entry answers is written, the order that is in force afterwards, and the cells.
 use crate::lent::lent_call;
 use crate::lent::lent_event;
 use crate::lent::lent_plan;

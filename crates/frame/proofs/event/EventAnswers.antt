@@ -1,11 +1,11 @@
 -- The entries on the running frame, law by law.
 --
--- In order: what is asked for on a frame that meets no cause (`asked-stopped`, `asked-carried`); a clock, a law for each answer, and the counts that it leaves (`clock-counts`); an event line as it was read,
--- a law for what each asks (`line-clock`, `line-place`, `line-tie`, `line-fault`), and that it is what the line asks for (`asked-read`); the causes of the frame
--- (`frame-passes`); where none is met, a line and a clock come to what the event does (`line-event`, `line-done`, `clock-done`); a law for
--- each answer of an entry; the frame afterwards (`done-running`).
+-- In order: what is asked for on a frame that meets no cause (`asked-stopped`, `asked-carried`); a clock, a law for each answer, and the counts that it leaves (`clock-counts`); an
+-- event line as it was read, a law for what each asks (`line-clock`, `line-place`, `line-tie`, `line-fault`), and that it is what the line asks for (`asked-read`); the causes of the
+-- frame (`frame-passes`); where none is met, a line and a clock come to what the event does (`line-event`, `line-done`, `clock-done`); a law for each answer of an entry; the frame
+-- afterwards (`done-running`).
 -- Assumes nothing.
-use Prim.Native.Nat.{ℕ, zero, suc, _+_, _≤_, _<_}
+use Prim.Native.Nat.{ℕ, zero, suc, _≤_, _<_}
 use native.Mathlib.Omega.{arith}
 use mathlib.Core.Path.{_≡_, refl, sym, _∙_, ap}
 use mathlib.Core.Bool.{Bool, true, false, not}

@@ -1,12 +1,12 @@
 -- An event where the preset records stand in a list, law by law.
 --
 -- In order: fewer than 32 records (`event-few`) and enough of them (`event-enough`); an event on the first 32 records by value is one on the list (`event-list`);
--- the frame afterwards (`event-running`); the entries `set_clock` and `event` (`event-entry`).
+-- a refusal leaves what there was (`meant-refused`, `event-unchanged`), and the frame afterwards (`event-running`); the entries `set_clock` and `event` (`event-entry`).
 -- Assumes nothing.
 use Prim.Native.Nat.{ℕ, _≤_, _<_}
 use mathlib.Core.Path.{_≡_, refl, sym, _∙_, ap, subst}
 use mathlib.Core.Bool.{false, not, _&&_}
-use mathlib.Core.Option.{none, some}
+use mathlib.Core.Option.{Option, none, some}
 use mathlib.Core.List.{List, [], _∷_}
 use lib.ListN.{length}
 use lib.Dec.{ltb, leb}
@@ -14,7 +14,7 @@ use lib.Seq.{take-take}
 use Rattle.laws.proofs.Tests.{Is, is, is-true, is-false}
 use Rattle.laws.proofs.Comparisons.{le-of, lt-of, ge-of, ltb-yes, ltb-no}
 use Rattle.station.specs.Head as meant
-use Rattle.station.specs.Refusal.{outOfLimits, tooShort, try, firstOf}
+use Rattle.station.specs.Refusal.{Refusal, outOfLimits, tooShort, try, firstOf}
 use Rattle.station.specs.Types.{headIn}
 use Rattle.station.specs.declared.types.Preset as record-of-preset
 use Rattle.station.specs.declared.types.Head as record-of-head
@@ -22,11 +22,14 @@ use Rattle.station.specs.declared.types.Refusal.the-variants.{TooShort}
 use Rattle.station.specs.Records.{loaded}
 use Rattle.station.proofs.Theorems.{loaded-whole}
 use Rattle.placing.specs.State.{State, stateOf}
+use Rattle.placing.specs.Causes.{causesOf}
 use Rattle.placing.specs.Claims.{Running}
 use Rattle.frame.specs.declared.types.Answer.the-variants.{Refused}
 use Rattle.frame.specs.declared.types.Outcome as result
 use Rattle.frame.specs.Event.{Event, refused, Outcome, eventOf}
+use Rattle.frame.specs.Types.{answerIn}
 use Rattle.frame.specs.EventDone.{eventMeant, Yields, EventDone}
+use Rattle.frame.proofs.OneEvent.{refused-leaves}
 use Rattle.frame.proofs.Demands.{demand-3}
 use Rattle.frame.proofs.event.EventAnswers.{done-running}
 use Rattle.frame.specs.EventEntry.{eventOnSlice, EventOnSlice, EventEntry}
@@ -83,6 +86,15 @@ module _ (head : record-of-head.Head) (st : State) (e : Event) where
       go (is-true few) = meant-head (loaded ps) ps (head-list head ps (le-of (head .count) 32 few) long)
       go (is-false many) = meant-many (loaded ps) ps many
 
+  -- a refusal of the head record, or of the event, leaves what there was
+  meant-refused : (ps : List record-of-preset.Preset) (n : ℕ) (c : Refusal) → eventMeant head ps st e .answer ≡ refused n c → eventMeant head ps st e .after ≡ st
+  unfolding eventMeant
+  meant-refused ps n c = go (firstOf (causesOf head ps (st .table))) refl
+    where
+      go : (o : Option Refusal) → firstOf (causesOf head ps (st .table)) ≡ o → eventMeant head ps st e .answer ≡ refused n c → eventMeant head ps st e .after ≡ st
+      go none q = rw (q, eventMeant) (refused-leaves (headIn head ps) st e n c)
+      go (some x) q = rw (q, eventMeant) (λ p. refl)
+
 module _ (head : record-of-head.Head) (ps : List record-of-preset.Preset) (st : State) (e : Event) where
   listed-list : eventOnSlice (length ps) head (loaded ps) st e ≡ eventOnSlice (length ps) head ps st e
   listed-list = go (is (ltb (length ps) 32))
@@ -96,6 +108,14 @@ module _ (head : record-of-head.Head) (ps : List record-of-preset.Preset) (st : 
           listed-enough (length ps) head (loaded ps) st e long
           ∙ meant-list head st e ps long
           ∙ sym (listed-enough (length ps) head ps st e long)
+
+  listed-refused : (n : ℕ) (c : Refusal) → eventOnSlice (length ps) head ps st e .answer ≡ refused n c → eventOnSlice (length ps) head ps st e .after ≡ st
+  listed-refused n c = go (is (ltb (length ps) 32))
+    where
+      go : Is (ltb (length ps) 32) → eventOnSlice (length ps) head ps st e .answer ≡ refused n c → eventOnSlice (length ps) head ps st e .after ≡ st
+      go (is-true l) = subst (λ (o : Outcome). o .answer ≡ refused n c → o .after ≡ st) (sym (listed-few (length ps) head ps st e (lt-of (length ps) 32 l))) (λ q. refl)
+      go (is-false l) =
+          subst (λ (o : Outcome). o .answer ≡ refused n c → o .after ≡ st) (sym (listed-enough (length ps) head ps st e (ge-of (length ps) 32 l))) (meant-refused head st e ps n c)
 
   module _ {u : List ℕ} {r : result.Outcome} where
     event-list : EventOnSlice (length ps) head (loaded ps) st e u r → EventOnSlice (length ps) head ps st e u r
@@ -113,5 +133,13 @@ module _ (head : record-of-head.Head) (ps : List record-of-preset.Preset) (st : 
         go (is-false l) =
             done-running head ps st e (subst (λ (o : Outcome). Yields o u r) (listed-enough (length ps) head ps st e (ge-of (length ps) 32 l)) d) run
 
+    -- and a refusal leaves what there was
+    event-unchanged : EventOnSlice (length ps) head ps st e u r → (n : ℕ) (c : Refusal) → answerIn (r .answer) ≡ refused n c → stateOf u (r .clock) (r .hold) ≡ st
+    event-unchanged d n c q =
+        let same = listed-refused n c (sym (d .answer) ∙ q) in
+        rw (d .table, d .clock, d .hold) (ap (λ (x : State). stateOf (x .table) (x .clock) (x .hold)) same)
+
     pub event-entry : EventOnSlice (length ps) head (loaded ps) st e u r → EventEntry head ps st e u r
-    event-entry d = let done = event-list d in record { done = done; kept = event-running done; claim = demand-3 (headIn head ps) st (e ∷ []) }
+    event-entry d =
+        let done = event-list d in
+        record { done = done; unchanged = event-unchanged done; kept = event-running done; claim = demand-3 (headIn head ps) st (e ∷ []) }

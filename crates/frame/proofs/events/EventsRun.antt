@@ -1,7 +1,8 @@
 -- The lines of a text without a head as events on a lent frame, law by law.
 --
 -- In order: a refusal, a law for each cause (`events-long`, `events-few`, `events-short`, `events-stopped`), and no cause: what the loop over the lines starts from (`events-start`) and
--- leaves (`events-ran`); the frame afterwards and the claim (`events-claim`); a list of 32 records or more (`events-enough`), and the first 32 by value are those of the list (`events-entry`).
+-- leaves (`events-ran`); the frame afterwards, a refusal that changes nothing, and the claim (`events-claim`); a list of 32 records or more (`events-enough`), and the first 32 by
+-- value are those of the list (`events-entry`).
 -- Assumes nothing.
 use Prim.Native.Nat.{ℕ, _≤_, _<_}
 use native.Mathlib.Omega.{arith}
@@ -32,7 +33,7 @@ use Rattle.frame.specs.declared.text.Ended.the-variants as ends
 use Rattle.frame.specs.declared.text.lines.Lines as lines-result
 use Rattle.frame.specs.Event.{runOf}
 use Rattle.frame.specs.Demands.{stateAt, eventAt, EventIs}
-use Rattle.frame.specs.TextDone.{listed, refusedAt}
+use Rattle.frame.specs.TextDone.{listed, refusedAt, endIn}
 use Rattle.frame.specs.EventsDone.{allEvents, eventsCauses, EventsOutcome, answersWritten, eventsMeant, EventsLeft, EventsClaim, EventsEntry}
 use Rattle.frame.specs.method.EventsParts.{refusedEvents}
 use Rattle.frame.specs.method.TextLines.{LinesStart, RanLines}
@@ -125,8 +126,22 @@ module _ (n : ℕ) (head : record-of-head.Head) (ps : List record-of-preset.Pres
         go none e = by-outcome (answersWritten (runOf h st (allEvents text)) out) (meant-ran e) (demand-3 h st (allEvents text) run .running)
         go (some c) e = by-outcome (stoppedBy c st out) (meant-stopped c e) run
 
+    left-unchanged : (k : ℕ) (c : Refusal) → endIn (r .ended) ≡ refusedAt k c → stateOf t₁ (r .clock) (r .hold) ≡ st
+    left-unchanged k c q = go (firstOf (eventsCauses n head ps st text out)) refl
+      where
+        by-outcome : (o : EventsOutcome) → eventsMeant n head ps st text out ≡ o → (o .ended ≡ refusedAt k c → o .after ≡ st) → stateOf t₁ (r .clock) (r .hold) ≡ st
+        by-outcome o e same =
+            let whole : EventsLeft o t₁ out₁ r = subst (λ (x : EventsOutcome). EventsLeft x t₁ out₁ r) e d in
+            rw (whole .table, whole .clock, whole .hold)
+            (ap (λ (x : State). stateOf (x .table) (x .clock) (x .hold)) (same (sym (whole .ended) ∙ q)))
+
+        go : (x : Option Refusal) → firstOf (eventsCauses n head ps st text out) ≡ x → stateOf t₁ (r .clock) (r .hold) ≡ st
+        go none e = by-outcome (answersWritten (runOf h st (allEvents text)) out) (meant-ran e) (λ p. cc)
+        go (some x) e = by-outcome (stoppedBy x st out) (meant-stopped x e) (λ p. refl)
+
     pub events-claim : EventsClaim n head ps st text out t₁ r
     events-claim = record {
+      unchanged = left-unchanged;
       runs = λ short long room free. runs short long room free;
       later = λ j l.
           subst (EventIs h (stateAt h st (allEvents text) j) (eventAt (allEvents text) j)) (sym (outcome-at h st (allEvents text) j l))

@@ -1,7 +1,7 @@
 -- A whole text where the preset records stand in a list, law by law.
 --
 -- In order: a text that is too long, fewer than 32 records, and enough of them (`text-long`, `text-few`, `text-enough`), and the claim (`list-claim`); the first 32
--- records as a text leaves them, written back to the list (`text-list`), and the entry `run_text` (`text-entry`).
+-- records as a text leaves them, written back to the list (`text-list`); what a refusal leaves (`refused-same`), and the entry `run_text` (`text-entry`).
 -- Assumes nothing.
 use Prim.Native.Nat.{ℕ, _≤_, _<_}
 use native.Mathlib.Omega.{arith}
@@ -13,7 +13,7 @@ use lib.Dec.{ltb}
 use Rattle.laws.proofs.Tests.{Is, is, is-true, is-false}
 use Rattle.laws.proofs.Comparisons.{lt-of, ge-of, ltb-yes, ltb-no}
 use Rattle.station.specs.Head.{Head}
-use Rattle.station.specs.Refusal.{tooShort, textTooLong, firstOf}
+use Rattle.station.specs.Refusal.{Refusal, tooShort, textTooLong, firstOf}
 use Rattle.station.proofs.Theorems.{means-headOf, read-valid, saved-loaded, saved-over}
 use Rattle.station.specs.declared.types.Preset as record-of-preset
 use Rattle.station.specs.declared.types.Head as record-of-head
@@ -24,7 +24,7 @@ use Rattle.frame.specs.Text.{Whole, notRead, notPlanned, ran, wholeOf}
 use Rattle.frame.specs.Demands.{Ends, too-long, too-short, head-refused, is-not-planned, is-planned}
 use Rattle.frame.proofs.Demands.{demand-1}
 use Rattle.frame.specs.declared.text.TextRun as run
-use Rattle.frame.specs.TextDone.{wholeWithOutput, presetsAfter, Leaves, TextDone}
+use Rattle.frame.specs.TextDone.{wholeWithOutput, refusedAt, endOf, presetsAfter, tableAfter, clockAfter, holdAfter, outputAfter, Leaves, TextDone}
 use Rattle.frame.specs.method.TextParts.{refusedRun}
 use Rattle.frame.proofs.text.WholeText.{beside-long, beside-short, beside-whole, text-claim, leaves-refused}
 use Rattle.frame.specs.declared.text.TextAnswer as answer
@@ -96,6 +96,14 @@ listed-fits n text t out = go (is (ltb 32768 (length text))) (is (ltb n 32)) (is
         subst (Fits n) (sym (listed-enough n text t out short (ge-of n 32 a) ∙ beside-whole text t out short (ge-of (length out) 8192 b)))
         (ends-fits n text t (wholeOf text t) (demand-1 text t .ends) (ge-of n 32 a))
 
+-- a refusal leaves table, clock, order of ties and output
+refused-same : (w : Whole) (t out : List ℕ) (clock : ℕ) (hold : Bool) (n : ℕ) (c : Refusal) → endOf w out ≡ refusedAt n c
+    → (tableAfter w t ≡ t) × (clockAfter w clock ≡ clock) × (holdAfter w hold ≡ hold) × (outputAfter w out ≡ out)
+unfolding endOf tableAfter clockAfter holdAfter outputAfter
+refused-same (notRead k r) t out clock hold n c q = (refl, refl, refl, refl)
+refused-same (notPlanned h k r) t out clock hold n c q = (refl, refl, refl, refl)
+refused-same (ran h k g r) t out clock hold n c q = absurd (let z : _≡_ {A = ℕ} 0 1 = cc in omega arith)
+
 module _ (ps : List record-of-preset.Preset) where
   -- the presets of a head over the first records
   over-list : (h : Head) → (length (h .presets) ≤ 32) × (32 ≤ length ps) → saved ps (recordsOver (h .presets) (loaded ps)) 32 ≡ recordsOver (h .presets) ps
@@ -129,6 +137,12 @@ module _ (ps : List record-of-preset.Preset) where
   pub text-entry : (text t out : List ℕ) (head : record-of-head.Head) (clock : ℕ) (hold : Bool) {t₁ out₁ : List ℕ} {zs : List record-of-preset.Preset} {r : run.TextRun} {y : answer.TextAnswer}
       → TextOnSlice (length ps) text head (loaded ps) t clock hold out t₁ out₁ r → zs ≡ saved ps (r .presets) 32 → y ≡ answerOf r → TextEntry text head ps t clock hold out zs t₁ out₁ y
   text-entry text t out head clock hold {t₁} {out₁} {zs} {r} {y} x e a = record {
-    done = subst (λ (b : answer.TextAnswer). TextOnSlice (length ps) text head ps t clock hold out t₁ out₁ (textLeft b zs)) (sym a) (text-list text t out head clock hold x e);
+    done = done;
+    unchanged = λ n c q.
+        let same = refused-same (wholeOnSlice (length ps) text t out) t out clock hold n c (sym (done .ended) ∙ q) in
+        (done .table ∙ same .0, done .clock ∙ same .1, done .hold ∙ same .2, done .output ∙ same .3);
     claim = list-claim (length ps) text t out;
   }
+    where
+      done : TextOnSlice (length ps) text head ps t clock hold out t₁ out₁ (textLeft y zs)
+      done = subst (λ (b : answer.TextAnswer). TextOnSlice (length ps) text head ps t clock hold out t₁ out₁ (textLeft b zs)) (sym a) (text-list text t out head clock hold x e)

@@ -22,7 +22,7 @@ use Rattle.placing.specs.State.{State}
 use Rattle.placing.specs.Causes.{callJobs}
 use Rattle.placing.specs.CallDone.{callMeant}
 use Rattle.frame.specs.declared.types.Outcome as result
-use Rattle.frame.specs.Event.{Event, Asked, setClock, setTie, placeJobs, fault, Answer, clockNow, tieNow, refused, answerOf, Outcome, clockState, tieState}
+use Rattle.frame.specs.Event.{Asked, setClock, setTie, placeJobs, fault, Answer, clockNow, tieNow, refused, answerOf, Outcome, clockState, tieState}
 use Rattle.frame.specs.Types.{answerIn}
 
 -- The causes of a clock itself, on a frame of so many slots at the clock c: "t below 1 or above S + 1" and "a clock below the present one".

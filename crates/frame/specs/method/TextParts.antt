@@ -8,8 +8,6 @@ use mathlib.Core.Bool.{Bool}
 use mathlib.Core.List.{List}
 use lib.ListN.{length}
 use Rattle.station.specs.Limits.{leastCells}
-use Rattle.station.specs.Head.{Head}
-use Rattle.station.specs.Refusal.{Refusal}
 use Rattle.station.specs.Types.{headIn}
 use Rattle.station.specs.Writing.{textOf}
 use Rattle.station.specs.Reading.{Reading, headOf}

@@ -26,29 +26,28 @@ ghost use Rattle.frame.specs.Event.{answerOf};
 ghost use Rattle.frame.specs.EventDone.{Yields};
 ghost use Rattle.frame.specs.method.EventParts.{ClockDone, lineMeant};
 
+// An answer, with the clock and the order of ties that it leaves.
+fn answered(answer: Answer, clock: usize, hold: bool) -> Outcome
+    ensures { λ r. ⌜ r ≡ (record { answer = answer; clock = clock; hold = hold }) ⌝ }
+{
+    Outcome {
+        answer,
+        clock,
+        hold,
+    }
+}
+
 // A clock that is asked for on a frame of so many slots: 2 where it is outside 1 to S + 1, 6 where it is below the present one, else it is the new clock.
 pub(crate) fn asked_clock(slots: usize, clock: usize, hold: bool, to: usize) -> Outcome
     ensures { λ r. ⌜ ClockDone slots clock hold to r ⌝ }
 {
     if !clock_in(slots, to) {
-        return Outcome {
-            answer: Answer::Refused(0, Refusal::OutOfLimits),
-            clock,
-            hold,
-        };
+        return answered(Answer::Refused(0, Refusal::OutOfLimits), clock, hold);
     }
     if to < clock {
-        return Outcome {
-            answer: Answer::Refused(0, Refusal::ClockBack),
-            clock,
-            hold,
-        };
+        return answered(Answer::Refused(0, Refusal::ClockBack), clock, hold);
     }
-    Outcome {
-        answer: Answer::Now(to),
-        clock: to,
-        hold,
-    }
+    answered(Answer::Now(to), to, hold)
 }
 
 // The outcome of a call: its answer, and the clock and the order of ties as they are.
@@ -56,16 +55,8 @@ fn call_outcome(answer: CallAnswer, clock: usize, hold: bool) -> Outcome
     ensures { λ r. ⌜ (answerIn (r .answer) ≡ answerOf (callAnswerIn answer)) × (r .clock ≡ clock) × (r .hold ≡ hold) ⌝ }
 {
     match answer {
-        CallAnswer::Taken(n) => Outcome {
-            answer: Answer::Taken(n),
-            clock,
-            hold,
-        },
-        CallAnswer::Refused(line, r) => Outcome {
-            answer: Answer::Refused(line, r),
-            clock,
-            hold,
-        },
+        CallAnswer::Taken(n) => answered(Answer::Taken(n), clock, hold),
+        CallAnswer::Refused(line, r) => answered(Answer::Refused(line, r), clock, hold),
     }
 }
 
@@ -119,15 +110,7 @@ pub(crate) fn event_by_counts(
             );
             call_outcome(answer, clock, hold)
         }
-        Event::SetTie(next) => Outcome {
-            answer: Answer::Tie(next),
-            clock,
-            hold: next,
-        },
-        Event::Fault(cause) => Outcome {
-            answer: Answer::Refused(0, cause),
-            clock,
-            hold,
-        },
+        Event::SetTie(next) => answered(Answer::Tie(next), clock, next),
+        Event::Fault(cause) => answered(Answer::Refused(0, cause), clock, hold),
     }
 }

@@ -18,8 +18,8 @@ pub(crate) struct Lines {
     pub position: usize,
 }
 
-// Runs the lines of a text from byte `from` on, `first` lines having gone before: each is an event on what the last one left, and its answer is written at once. The frame meets none of its own causes at the start and so at no line: they are not tried again. What a call's causes are decided by is counted
-// once, and each event brings it up to what it leaves.
+// Runs the lines of a text from byte `from` on, `first` lines having gone before: each is an event on what the last one left, and its answer is written at once. The frame meets none
+// of its own causes at the start and so at no line: they are not tried again. What a call's causes are decided by is counted once, and each event brings it up to what it leaves.
 pub(crate) fn run_lines(
     text: &[u8],
     from: usize,

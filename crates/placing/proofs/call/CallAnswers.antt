@@ -1,7 +1,8 @@
 -- `call_by_value` and `call_by_counts`, law by law.
 --
 -- In order: the cells of a call's jobs (`cells-are`); the carrying out; the outcome where a cause of the frame is met (`frame-refused`), and on a running frame
--- a law for each answer (`counted-refused`, `counted-done`); the counts afterwards (`counted-after`); the frame afterwards (`call-running`, `done-running`). The causes of the frame are in check/FrameCauses.antt, those of the call in counts/causes/CallCauses.antt.
+-- a law for each answer (`counted-refused`, `counted-done`); the counts afterwards (`counted-after`); the frame afterwards (`call-running`, `done-running`). The causes of the frame
+-- are in check/FrameCauses.antt, those of the call in counts/causes/CallCauses.antt.
 -- Assumes nothing.
 use Prim.Native.Nat.{ℕ, _+_, _%_, _≤_, _<_}
 use native.Mathlib.Omega.{arith}

@@ -1,9 +1,9 @@
 -- What `placedIn` says of a head's frame: with the masks of the free bridges it is the table that `written` and `placing` define.
 --
--- In order, for every order of ties: how far the rule has come, whom it chooses and the table that `placing` gives go only by the slots and bridges of the frame (`..-ext`); a
+-- In order, for every order of ties: the table that `placing` gives goes only by the slots and bridges of the frame (`placing-ext`); a
 -- table of masks (`placed-written`), of a plan and of a call (`placed-planned`, `placed-called`).
 -- Assumes nothing.
-use Prim.Native.Nat.{ℕ, zero, suc, _-_, _*_, _/_, _%_, _≤_, _<_, zero-le}
+use Prim.Native.Nat.{ℕ, _-_, _*_, _/_, _%_, _<_, zero-le}
 use native.Mathlib.Omega.{arith}
 use mathlib.Core.Path.{_≡_, refl, _∙_, ap, ap₂}
 use mathlib.Core.Bool.{Bool, false, _&&_, cond}
@@ -12,13 +12,14 @@ use lib.ListN.{length, drop, length-map}
 use lib.Dec.{eqb}
 use Rattle.laws.specs.Sums.{only, sum}
 use Rattle.laws.specs.Lists.{at}
-use Rattle.laws.specs.Placement.{Ties, nobody, AtSlot, choice, served, atSlot, left, lrtf}
+use Rattle.laws.specs.Placement.{Ties, nobody, AtSlot, left, lrtf}
 use Rattle.laws.specs.Cells.{takes}
 use Rattle.laws.proofs.Tests.{Is, is-true, is-false, is}
 use Rattle.laws.proofs.Comparisons.{ltb-no}
 use Rattle.laws.proofs.Sums.{sum-ext}
 use Rattle.laws.proofs.Counts.{count-ext}
 use Rattle.laws.proofs.Lists.{tabulate-ext}
+use Rattle.laws.proofs.Placement.{atSlot-ext, lrtf-ext}
 use Rattle.station.specs.Head.{Head, Job, presetAt, hasBit}
 use Rattle.placing.specs.Table.{Cells, Each, cell, presetCount, numberAt, mandatoryCell, optionalCell, busyCell, callCell}
 use Rattle.placing.specs.Valid.{jobAt}
@@ -29,16 +30,6 @@ use Rattle.placing.specs.method.Mask.{bridgeMask}
 use Rattle.placing.specs.method.Rule.{jobCell, freeIn, cellIn, placedIn}
 use Rattle.placing.proofs.MaskBits.{hasBit-mask}
 use Rattle.placing.proofs.rule.SlotsPlaced.{place-of}
-
--- LRTF goes by the free cells of the slots up to the one that it places
-module _ (ties : Ties) (c : List ℕ) (n : ℕ) (x y : ℕ → ℕ) (same : (s : ℕ) → s < n → x s ≡ y s) where
-  atSlot-ext : (s : ℕ) → s ≤ n → atSlot ties nobody c x s ≡ atSlot ties nobody c y s
-  unfolding atSlot
-  atSlot-ext zero l = refl
-  atSlot-ext (suc s) l = ap₂ (λ (r : AtSlot) (d : ℕ). served ties nobody d s r) (atSlot-ext s (omega arith)) (same s l)
-
-  lrtf-ext : (i s : ℕ) → s < n → lrtf ties nobody c x i s ≡ lrtf ties nobody c y i s
-  lrtf-ext i s l = ap₂ (λ (r : AtSlot) (d : ℕ). choice ties d s r i) (atSlot-ext s (omega arith)) (same s l)
 
 -- Of n slots and B bridges: free bridges, who has a cell in which slot, what the jobs write, and what the bridges that are not free hold.
 module _ (n B k : ℕ) (f g a a′ : ℕ → ℕ → Bool) (v w : ℕ → ℕ → ℕ) (t u : Cells)
@@ -92,7 +83,7 @@ placed-written ties h masks c first early late t f v u masked writes holds =
     wrote : (i s : ℕ) → i < length c → s < h .slots → cellIn ties c (freeCount B (freeIn masks)) first early late i s ≡ v i s
     wrote i s j l =
         ap (λ (r : AtSlot). jobCell (at c i) (at (r .needs) i) (at first i) (at early i) (at late i))
-        (atSlot-ext ties c (h .slots) (freeCount B (freeIn masks)) (freeCount B f) counts s (omega arith))
+        (atSlot-ext ties nobody c (h .slots) (freeCount B (freeIn masks)) (freeCount B f) counts s (omega arith))
         ∙ writes i s j l
 
     one : (i : ℕ) → i < h .slots * B
@@ -102,7 +93,7 @@ placed-written ties h masks c first early late t f v u masked writes holds =
         let p = place-of (h .slots) B i l in
         placing-ext (h .slots) B (length c) (freeIn masks) f (λ j s. lrtf ties nobody c (freeCount B (freeIn masks)) j s) (λ j s. lrtf ties nobody c (freeCount B f) j s)
         (cellIn ties c (freeCount B (freeIn masks)) first early late) v (cell h t) u free
-        (lrtf-ext ties c (h .slots) (freeCount B (freeIn masks)) (freeCount B f) counts) wrote holds
+        (lrtf-ext ties nobody c (h .slots) (freeCount B (freeIn masks)) (freeCount B f) counts) wrote holds
         (i / B) (i % B) (p .0) (p .1)
 
 -- the table of a plan, where busy cells stand in the lent table already

@@ -20,10 +20,10 @@ use Rattle.laws.specs.Cells.{takes, slotCell}
 use Rattle.laws.proofs.Tests.{Is, is-true, is-false, is, both, left-of, right-of, fails-left, fails-right}
 use Rattle.laws.proofs.Comparisons.{lt-of, le-of, ge-of, eq-of, ne-of, leb-yes, leb-no, ltb-no}
 use Rattle.laws.proofs.Every.{every-all, all-every}
-use Rattle.laws.proofs.Sums.{sum-zero}
-use Rattle.laws.proofs.Counts.{count-none}
+use Rattle.laws.proofs.Sums.{sum-zero, sum-below}
+use Rattle.laws.proofs.Counts.{bit-positive, count-none}
 use Rattle.laws.proofs.Lists.{length-tabulate, at-tabulate, at-past}
-use Rattle.laws.proofs.Placement.{hold-set, left-length, left-step, left-got, held-step}
+use Rattle.laws.proofs.Placement.{left-length, left-step, left-got, held-step}
 use Rattle.station.specs.Head.{hasBit}
 use Rattle.placing.specs.Plan.{placing, freeCount, tieOf}
 use Rattle.placing.specs.method.Limits.{sizesInLimits}
@@ -31,7 +31,7 @@ use Rattle.placing.specs.method.Rule.{dueCells, RowWritten, EmptyRow, Le
 use Rattle.placing.proofs.limits.Within.{in-limits, limits-of}
 use Rattle.placing.proofs.WrittenTable.{place-below}
 use Rattle.placing.proofs.MaskBits.{hasBit-zero}
-use Rattle.placing.proofs.rule.levels.Choice.{sum-past, chosen-past}
+use Rattle.placing.proofs.rule.levels.Choice.{chosen-past}
 use Rattle.placing.proofs.rule.row.RowWritten.{due-cell, row-as-it-was, slotCell-ext, takes-not-chosen}
 
 -- ---- the table, slot by slot
@@ -115,8 +115,8 @@ pub row-rule : (ties : Ties) (B : ℕ) (masks c first early late t u : List ℕ)
 unfolding placing
 row-rule ties B masks c first early late t u s a v few p q done b l =
     ap (λ (n : ℕ). cond (freeIn masks s b) n (at u (s * B + b)))
-    (sum-past (length c) 64 (λ i. only (takes a (λ d. freeIn masks s d) i b) (v i)) few (λ i h m.
-    ap (λ (x : Bool). only x (v i)) (takes-not-chosen a (λ d. freeIn masks s d) i b (p i m ∙ past i h))))
+    (sym (sum-below (length c) 64 (λ i. only (takes a (λ d. freeIn masks s d) i b) (v i)) few (λ i h m.
+    ap (λ (x : Bool). only x (v i)) (takes-not-chosen a (λ d. freeIn masks s d) i b (p i m ∙ past i h)))))
     ∙ slotCell-ext (length c) a (λ d. freeIn masks s d) v (λ d. at u (s * B + d)) b
     (λ i. lrtf ties nobody c x i s)
     (λ i. cellIn ties c x first early late i s)
@@ -155,12 +155,10 @@ pub record Progress (hold : Bool) (B : ℕ) (masks c first early late t : List �
 -- Who goes first among equal ones, by a mask: where it has those who hold under `hold`, and nobody else, it is the order in force.
 tie-agrees : (hold : Bool) (s k : ℕ) (p q : ℕ → Bool) → ((i : ℕ) → i < k → p i ≡ (hold && q i))
     → (j i : ℕ) → j < k → i < k → tieHold 0 p j i ≡ tieOf hold s q j i
-tie-agrees true s k p q same j i l m = hold-set 0 k p q same i j m l
-tie-agrees false s k p q same j i l m = rw (same j l, same i m) (place (ltb j i))
-  where
-    place : (b : Bool) → ltb 0 (0 + bit b) ≡ b
-    place true = refl
-    place false = refl
+tie-agrees true s k p q same j i l m = rw (same j l, same i m)
+tie-agrees false s k p q same j i l m =
+    let none : 0 + bit (ltb j i) ≡ bit (ltb j i) = omega arith in
+    rw (same j l, same i m) (ap (ltb 0) none ∙ bit-positive (ltb j i))
 
 held-bit : (hold : Bool) (m i : ℕ) → hasBit (cond hold m 0) i ≡ (hold && hasBit m i)
 held-bit true m i = refl

@@ -2,7 +2,7 @@
 -- read. Document 01, "The station text" and "Causes".
 --
 -- In order: the answers (`acceptedRead`, `refusedRead`); the state between two lines and what it stands for (`noState`, `stageIn`, `soFarIn`); one line more, by
--- its form (`frameStep`, `tieStep`, `busyStep`, `presetStep`), on line 1 (`firstStep`), after it (`nextStep`), and anywhere (`stepOf`). That a step is what
+-- its form (`frameStep`, `headTieStep`, `tieStep`, `busyStep`, `presetStep`), on line 1 (`firstStep`), after it (`nextStep`), and anywhere (`stepOf`). That a step is what
 -- `readFrom` makes of the line is shown in proofs/heads/StepMeaning.antt.
 -- Assumes nothing.
 use Prim.Native.Nat.{ℕ, _+_, _-_}

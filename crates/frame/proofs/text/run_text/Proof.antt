@@ -1,5 +1,5 @@
--- `text::run_text` meets its contract: a walk of its MIR, by hand, a straight line of six calls. The list is reborrowed as a `&` for `record_count` and `load`, and comes back as it was; `save` has it
--- at its own lifetime, and so has `text_counted` the text, the table and the output, which are not needed afterwards.
+-- `text::run_text` meets its contract: a walk of its MIR, by hand, a straight line of six calls. The list is reborrowed as a `&` for `record_count` and `load`, and comes back as it
+-- was; `save` has it at its own lifetime, and so has `text_counted` the text, the table and the output, which are not needed afterwards.
 -- Assumes nothing.
 use mathlib.Core.Path.{_≡_, refl, _∙_, ap, subst}
 use Prim.Native.Nat.{ℕ, _<_, _^_}

@@ -1,7 +1,7 @@
 -- Laws of the jobs by levels: those that need most come first, and of those that need the same whom the order of ties puts first.
 --
 -- In order: a job's position by levels (`position-levels`), and whether it is chosen, by its level (`chosen-level`, `chosen-below`); the jobs put into
--- their levels one by one (`standing-..`); levels in which nobody stands (`nobody`, `most-of`, `empty-more`); jobs that move to the level below
+-- their levels one by one (`standing-..`); levels in which nobody stands (`none-at-level`, `most-of`, `empty-more`); jobs that move to the level below
 -- (`levelled-moved`).
 -- Assumes nothing.
 use Prim.Native.Nat.{ℕ, _+_, _-_, _^_, _≤_, _<_}
@@ -127,8 +127,8 @@ standing-all c t k all l i some high m = all l i ∙ go (is (ltb i k))
         rw (e, none) (sym (eqb-no 0 l (λ z. omega (arith, z, some))))
 
 -- nobody but the jobs r needs as many slots as a level says that is empty without them
-pub nobody : (t : List ℕ) (c : ℕ → ℕ) → Levelled t c → (l i r : ℕ) → 0 < l → l < 65 → i < 64 → without (at t l) r ≡ 0 → hasBit r i ≡ false → c i ≡ l → ⊥
-nobody t c h l i r some high m empty other e =
+pub none-at-level : (t : List ℕ) (c : ℕ → ℕ) → Levelled t c → (l i r : ℕ) → 0 < l → l < 65 → i < 64 → without (at t l) r ≡ 0 → hasBit r i ≡ false → c i ≡ l → ⊥
+none-at-level t c h l i r some high m empty other e =
     clash (sym (both (hasBit (at t l) i) (not (hasBit r i)) (h l i some high m ∙ eqb-yes (c i) l e) (ap not other))
     ∙ sym (hasBit-without (at t l) r i)
     ∙ ap (λ (n : ℕ). hasBit n i) empty
@@ -142,7 +142,7 @@ most-of t c top r h high most empty i m = go (is (ltb r (c i)))
     go : Is (ltb r (c i)) → c i ≤ r
     go (is-true e) =
         let l : r < c i = lt-of r (c i) e in
-        absurd (nobody t c h (c i) i 0 (omega (arith, l)) (omega (arith, high, most i m)) m (empty (c i) l (most i m)) (hasBit-zero i) refl)
+        absurd (none-at-level t c h (c i) i 0 (omega (arith, l)) (omega (arith, high, most i m)) m (empty (c i) l (most i m)) (hasBit-zero i) refl)
     go (is-false e) = ge-of r (c i) e
 
 -- nobody but the jobs r stands above l, nor in it

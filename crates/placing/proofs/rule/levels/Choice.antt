@@ -1,35 +1,17 @@
--- Laws of the choice in one slot: one more job counted, the case of a job that needs something, and jobs past the last one, which need nothing.
+-- Laws of the choice in one slot: the case of a job that needs something, and jobs past the last one, which need nothing.
 -- Assumes nothing.
-use Prim.Native.Nat.{ℕ, zero, suc, _+_, _≤_, _<_}
-use native.Mathlib.Numerals.{add-one}
+use Prim.Native.Nat.{ℕ, _+_, _≤_, _<_}
 use native.Mathlib.Omega.{arith}
-use mathlib.Core.Path.{_≡_, refl, _∙_, ap}
+use mathlib.Core.Path.{_≡_, refl, sym, _∙_, ap}
 use mathlib.Core.Bool.{Bool, _&&_}
-use lib.Dec.{ltb, eqb}
-use Rattle.laws.specs.Sums.{bit, sum, count, position}
+use lib.Dec.{ltb}
+use Rattle.laws.specs.Sums.{bit, position}
 use Rattle.laws.specs.Placement.{goesFirst, chosen}
 use Rattle.laws.proofs.Tests.{Is, is-true, is-false, is}
-use Rattle.laws.proofs.Comparisons.{eq-of, ne-of, lt-of, ge-of, ltb-yes, ltb-no}
+use Rattle.laws.proofs.Comparisons.{lt-of, ge-of, ltb-yes, ltb-no}
+use Rattle.laws.proofs.Sums.{sum-below}
 use Rattle.laws.proofs.Counts.{bit-le}
 use Rattle.laws.proofs.Placement.{chosen-ext}
-
--- one more is counted, at the code's n + 1
-pub count-more : (n : ℕ) (p : ℕ → Bool) → count (n + 1) p ≡ count n p + bit (p n)
-unfolding sum
-count-more n p = rw (add-one n) refl
-
--- a sum whose terms past the first k are 0
-pub sum-past : (k n : ℕ) (f : ℕ → ℕ) → k ≤ n → ((j : ℕ) → k ≤ j → j < n → f j ≡ 0) → sum n f ≡ sum k f
-unfolding sum
-sum-past k zero f h none = let same : k ≡ 0 = omega arith in rw same refl
-sum-past k (suc n) f h none = go (λ m. sum-past k n f m (λ j l r. none j l (omega arith))) (is (eqb k (suc n)))
-  where
-    go : (k ≤ n → sum n f ≡ sum k f) → Is (eqb k (suc n)) → sum n f + f n ≡ sum k f
-    go ih (is-true e) = rw (eq-of k (suc n) e) refl
-    go ih (is-false e) =
-        let ne : k ≡ suc n → ⊥ = ne-of k (suc n) e in
-        let l : k ≤ n = omega arith in
-        omega (arith, ih l, none n l (omega arith))
 
 -- a job that needs something is chosen by its position alone
 pub chosen-by-position : (r : ℕ → ℕ → Bool) (k : ℕ) (c : ℕ → ℕ) (d i : ℕ) → (c i ≡ 0 → ⊥) → ltb (position k (goesFirst r c) i) d ≡ chosen r k c d i
@@ -43,8 +25,8 @@ chosen-past r q k n c h none agree d i = go (is (ltb 0 (c i))) (is (ltb i k))
     go : Is (ltb 0 (c i)) → Is (ltb i k) → chosen r n c d i ≡ chosen q k c d i
     go (is-true e) (is-true l) =
         ap (λ (m : ℕ). ltb 0 (c i) && ltb m d)
-        (sum-past k n (λ j. bit (goesFirst r c j i)) h (λ j m p.
-        ap bit (ltb-no (c i) (c j + bit (r j i)) (omega (arith, none j m, bit-le (r j i), lt-of 0 (c i) e)))))
+        (sym (sum-below k n (λ j. bit (goesFirst r c j i)) h (λ j m p.
+        ap bit (ltb-no (c i) (c j + bit (r j i)) (omega (arith, none j m, bit-le (r j i), lt-of 0 (c i) e))))))
         ∙ chosen-ext r q k c d agree i (lt-of i k l)
     go (is-true e) (is-false l) = absurd (omega (arith, none i (ge-of i k l), lt-of 0 (c i) e))
     go (is-false e) l = rw e refl

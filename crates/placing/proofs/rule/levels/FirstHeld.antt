@@ -3,33 +3,21 @@
 -- In order: who goes before one of them (`held-before`); the two parts of the first d (`first-parts`); the same of masks (`held-first`), and how many more are
 -- asked for after both (`held-count`).
 -- Assumes nothing.
-use Prim.Native.Nat.{ℕ, zero, suc, _+_, _-_, _≤_, _<_}
+use Prim.Native.Nat.{ℕ, _+_, _-_, _<_}
 use native.Mathlib.Omega.{arith}
 use mathlib.Core.Path.{_≡_, refl, sym, _∙_, ap, ap₂}
-use mathlib.Core.Bool.{Bool, true, false, not, _&&_, _||_, cond, and-assoc, and-true, and-false, or-false}
+use mathlib.Core.Bool.{Bool, true, false, not, _&&_, _||_, cond, and-assoc, or-false}
 use lib.Bits.{bitAnd}
 use lib.Dec.{ltb}
-use Rattle.laws.specs.Sums.{bit, sum, count}
+use Rattle.laws.specs.Sums.{bit, count}
 use Rattle.laws.specs.Placement.{tieHold}
 use Rattle.laws.proofs.Tests.{Is, is-true, is-false, is}
-use Rattle.laws.proofs.Comparisons.{lt-of, ge-of, ltb-yes, ltb-iff}
+use Rattle.laws.proofs.Comparisons.{ltb-iff}
 use Rattle.laws.proofs.Sums.{sum-ext, sum-add}
-use Rattle.laws.proofs.Counts.{count-ext, count-split}
+use Rattle.laws.proofs.Counts.{count-ext, count-split, count-smaller}
 use Rattle.station.specs.Head.{hasBit}
 use Rattle.placing.specs.method.Rule.{without, firstFew, firstHeld}
 use Rattle.placing.proofs.rule.masks.Sets.{hasBit-and, hasBit-without}
-
--- those below i among those below n
-count-part : (n : ℕ) (p : ℕ → Bool) (i : ℕ) → i ≤ n → count n (λ j. p j && ltb j i) ≡ count i p
-unfolding sum
-count-part zero p i h = let z : i ≡ 0 = omega arith in rw z refl
-count-part (suc n) p i h = go (count-part n p i) (is (ltb n i))
-  where
-    go : (i ≤ n → count n (λ j. p j && ltb j i) ≡ count i p) → Is (ltb n i) → count (suc n) (λ j. p j && ltb j i) ≡ count i p
-    go ih (is-true e) =
-        let same : i ≡ suc n = omega (arith, lt-of n i e) in
-        rw same (count-ext (suc n) (λ j. p j && ltb j (suc n)) p (λ j l. rw (ltb-yes j (suc n) l) (and-true (p j))))
-    go ih (is-false e) = rw (e, and-false (p n)) (omega (arith, ih (omega (arith, ge-of n i e))))
 
 module _ (p f : ℕ → Bool) where
   -- who of f goes before i: where i is of p the earlier ones of p, and else all of p and the earlier others
@@ -55,14 +43,14 @@ module _ (p f : ℕ → Bool) where
           rw e
           (count-ext 64 (λ j. f j && ltb 1 (bit (p j) + bit (ltb j i))) (λ j. (f j && p j) && ltb j i)
           (λ j m. ap (λ (b : Bool). f j && b) (within (p j) (ltb j i)) ∙ sym (and-assoc (f j) (p j) (ltb j i)))
-          ∙ count-part 64 (λ j. f j && p j) i (omega arith))
+          ∙ count-smaller 64 (λ j. f j && p j) i (omega arith))
       go (is-false e) =
           rw e
           (omega (
             arith,
             sum-ext 64 (λ j. bit (f j && ltb 0 (bit (p j) + bit (ltb j i)))) (λ j. bit (f j && p j) + bit ((f j && not (p j)) && ltb j i)) (λ j m. among (f j) (p j) (ltb j i)),
             sum-add 64 (λ j. bit (f j && p j)) (λ j. bit ((f j && not (p j)) && ltb j i)),
-            count-part 64 (λ j. f j && not (p j)) i (omega arith),
+            count-smaller 64 (λ j. f j && not (p j)) i (omega arith),
           ))
 
   -- so the first d are the first d of p, and of the others as many as are then left

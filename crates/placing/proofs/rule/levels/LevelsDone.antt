@@ -23,7 +23,7 @@ use Rattle.station.specs.Head.{hasBit}
 use Rattle.placing.specs.method.Rule.{without, Levelled}
 use Rattle.placing.proofs.MaskBits.{hasBit-zero}
 use Rattle.placing.proofs.rule.masks.Sets.{hasBit-or, hasBit-without}
-use Rattle.placing.proofs.rule.levels.ByLevel.{chosen-level, chosen-below, nobody, moved, levelled-moved}
+use Rattle.placing.proofs.rule.levels.ByLevel.{chosen-level, chosen-below, none-at-level, moved, levelled-moved}
 
 -- above l - 1 is above l, or at l
 module _ (l x : ℕ) (some : 0 < l) where
@@ -84,7 +84,7 @@ module _ (tie : ℕ → ℕ → Bool) (c : ℕ → ℕ) (d : ℕ) (t : List ℕ)
           further q (is-true e) = lt-of l (c i) e
           further q (is-false e) =
               let low : c i ≤ l = ge-of l (c i) e in
-              absurd (nobody t (λ j. c j - bit (hasBit r j)) (so-far .levels) (c i) i r (omega (arith, q)) (omega (arith, low, high)) m (empty (c i) q low)
+              absurd (none-at-level t (λ j. c j - bit (hasBit r j)) (so-far .levels) (c i) i r (omega (arith, q)) (omega (arith, low, high)) m (empty (c i) q low)
               (still i m low) (omega (arith, ap bit (still i m low))))
 
   -- every level, or as many as there were cells for

@@ -1,8 +1,8 @@
 -- Laws of masks as sets: bit i of a mask says whether i is in the set.
 --
 -- In order: the bits of `|`, `&` and `^` (`hasBit-or`, `hasBit-and`, `hasBit-xor`), of one mask without another (`hasBit-without`) and of a single one
--- (`hasBit-one`); a mask after its lowest bits were cleared, one more at a time (`clear-more`), and whether any is left (`clear-some`, `clear-none`); the lowest bits themselves: all that there are, those
--- that were cleared (`first-all`, `first-cleared`).
+-- (`hasBit-one`); a mask after its lowest bits were cleared, one more at a time (`clear-more`), and whether any is left (`clear-some`, `clear-none`); the lowest bits themselves: all
+-- that there are, those that were cleared (`first-all`, `first-cleared`).
 -- Assumes nothing.
 use Prim.Native.Nat.{ℕ, zero, suc, _+_, _-_, _/_, _%_, _^_, _≤_, _<_}
 use native.Mathlib.Nat.{pow-suc}

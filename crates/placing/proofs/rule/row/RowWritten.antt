@@ -21,9 +21,9 @@ use Rattle.laws.proofs.Tests.{Is, is-true, is-false, is, clash, both, left-of, 
 use Rattle.laws.proofs.Comparisons.{lt-of, ge-of, le-of, gt-of, eq-of, ne-of, ltb-yes, leb-yes, leb-no, eqb-yes, eqb-no, eqb-self, ltb-iff}
 use Rattle.laws.proofs.Sums.{sum-ext, sum-zero, sum-point}
 use Rattle.laws.proofs.Counts.{count-ext, count-none}
+use Rattle.laws.proofs.Loops.{count-more}
 use Rattle.laws.proofs.Cells.{count-below, nth-count}
 use Rattle.placing.specs.method.Rule.{jobCell, dueCells, RowWritten, emptied, EmptyRow}
-use Rattle.placing.proofs.rule.levels.Choice.{count-more}
 
 -- ---- what a job writes
 

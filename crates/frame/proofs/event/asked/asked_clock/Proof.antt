@@ -9,20 +9,35 @@ use Rattle.frame.proofs.event.asked.asked_clock.Tie as tie
 clock-in-requires : tie.Need-clock-in-requires
 clock-in-requires c κs = search needs
 
+answered-requires : tie.Need-answered-requires
+answered-requires c κs = search needs
+
 returns : tie.Need-returns
 returns c =
-    let a = c .before .before .args in
-    clock-out (a .slots) (a .clock) (a .to) (a .hold) (sym (c .before .clock-in .ensures) ∙ false-of-not _ (c .if1 .taken))
+    let k = c .before in
+    let a = k .before .before .args in
+    rw (c .answered .ensures) (clock-out (a .slots) (a .clock) (a .to) (a .hold) (sym (k .before .clock-in .ensures) ∙ false-of-not _ (k .if1 .taken)))
+
+answered-requires-2 : tie.Need-answered-requires-2
+answered-requires-2 c κs = search needs
 
 returns-2 : tie.Need-returns-2
 returns-2 c =
-    let a = c .before .before .before .args in
-    clock-below (a .slots) (a .clock) (a .to) (a .hold) (sym (c .before .before .clock-in .ensures) ∙ true-of-not _ (c .before .if1 .left)) (c .if2 .taken)
+    let k = c .before in
+    let a = k .before .before .before .args in
+    rw (c .answered2 .ensures)
+    (clock-below (a .slots) (a .clock) (a .to) (a .hold) (sym (k .before .before .clock-in .ensures) ∙ true-of-not _ (k .before .if1 .left)) (k .if2 .taken))
+
+answered-requires-3 : tie.Need-answered-requires-3
+answered-requires-3 c κs = search needs
 
 returns-3 : tie.Need-returns-3
 returns-3 c =
-    let a = c .before .before .before .args in
-    clock-set (a .slots) (a .clock) (a .to) (a .hold) (sym (c .before .before .clock-in .ensures) ∙ true-of-not _ (c .before .if1 .left)) (c .if2 .left)
+    let k = c .before in
+    let a = k .before .before .before .args in
+    rw (c .answered3 .ensures)
+    (clock-set (a .slots) (a .clock) (a .to) (a .hold) (sym (k .before .before .clock-in .ensures) ∙ true-of-not _ (k .before .if1 .left)) (k .if2 .left))
 
 pub asked-clock-spec : {M : Type 1} → statement M
-asked-clock-spec = tie.close (tie.spec clock-in-requires returns returns-2 returns-3)
+asked-clock-spec =
+    tie.close (tie.spec clock-in-requires answered-requires returns answered-requires-2 returns-2 answered-requires-3 returns-3)

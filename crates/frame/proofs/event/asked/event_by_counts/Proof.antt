@@ -32,8 +32,14 @@ call-outcome-requires c κs = search needs
 enum-known-event-3 : tie.Need-enum-known-event-3
 enum-known-event-3 c = search needs
 
+answered-requires : tie.Need-answered-requires
+answered-requires c κs = search needs
+
 enum-known-event-4 : tie.Need-enum-known-event-4
 enum-known-event-4 c = search needs
+
+answered-requires-2 : tie.Need-answered-requires-2
+answered-requires-2 c κs = search needs
 
 same-length : tie.Need-same-length
 same-length c = search needs
@@ -68,18 +74,20 @@ returns-2 c =
 returns-3 : tie.Need-returns-3
 returns-3 c =
     λ v run right.
-    let r = c .before .before .before .before in
+    let r = c .before .before .before .before .before in
     let s = r .before .before .before in
     let a = s .args in
-    (line-tie (a .head) (a .presets) (stateOf (a .table .now) (a .clock) (a .hold)) (a .line .now) (r .read-event .ensures) (c .before .event3 .given .1), right)
+    rw (c .answered .ensures)
+    (line-tie (a .head) (a .presets) (stateOf (a .table .now) (a .clock) (a .hold)) (a .line .now) (r .read-event .ensures) (c .before .before .event3 .given .1), right)
 
 returns-4 : tie.Need-returns-4
 returns-4 c =
     λ v run right.
-    let r = c .before .before .before .before in
+    let r = c .before .before .before .before .before in
     let s = r .before .before .before in
     let a = s .args in
-    (line-fault (a .head) (a .presets) (stateOf (a .table .now) (a .clock) (a .hold)) (a .line .now) (r .read-event .ensures) (c .before .event4 .given .1), right)
+    rw (c .answered2 .ensures)
+    (line-fault (a .head) (a .presets) (stateOf (a .table .now) (a .clock) (a .hold)) (a .line .now) (r .read-event .ensures) (c .before .before .event4 .given .1), right)
 
 pub event-by-counts-spec : {M : Type 1} → statement M
 event-by-counts-spec =
@@ -94,7 +102,9 @@ event-by-counts-spec =
     call-by-counts-requires
     call-outcome-requires
     enum-known-event-3
+    answered-requires
     enum-known-event-4
+    answered-requires-2
     same-length
     returns
     same-length-2
