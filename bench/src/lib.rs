@@ -1,6 +1,7 @@
 //! A bridge planner for the shared tuner, written from the scope document, the requests that followed and the readings
-//! of them in docs/DECISIONS.md, without a look at the proved one, so that the two can be held against each other. Both
-//! follow the same readings, so a wrong reading would not show.
+//! of them in docs/DECISIONS.md, at first without a look at the proved one, so that the two can be held against each
+//! other. Both follow the same readings, so a wrong reading would not show. The placing rule is by the same method as the
+//! proved one's (masks of the tasks, by how many slots they still need); tests/definitions.rs has it by sorting.
 //!
 //! From the bottom up:
 //! - [`bits`]: sets of small numbers as words of bits;

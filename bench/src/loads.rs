@@ -90,7 +90,8 @@ pub fn head(slots: usize, presets: usize) -> Vec<u8> {
     text.into_bytes()
 }
 
-/// The widest frame, filled by 32 presets of one length: remaining times are equal in every slot.
+/// The widest frame, filled by 32 presets of one length: in three slots of four the order of ties decides, and in the fourth
+/// the eight with the most slots still to get take the eight bridges.
 pub fn equal_presets() -> Vec<u8> {
     let mut text = "(frame 64 8)\n".to_owned();
     for place in 1..=32 {

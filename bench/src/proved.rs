@@ -5,7 +5,7 @@
 pub const OUT: usize = 1 << 20;
 
 #[cfg(feature = "archive")]
-pub use archive::{event, listing, plan, read_rows, run_text, run_text_over, write_rows, Running, GRANTS};
+pub use archive::{event, event_over, listing, plan, read_rows, run_text, run_text_over, write_rows, Running, GRANTS};
 #[cfg(not(feature = "archive"))]
 pub use program::listing;
 pub use program::rows;
@@ -181,25 +181,29 @@ mod archive {
     /// One event line on a frame, which is checked first: how many cells it evicts, the new clock, or 1 for hold and 0 for
     /// place; or the refusal.
     pub fn event(running: &mut Running, line: &[u8]) -> Result<u64, u32> {
-        let mut number = 0;
+        match event_over(&mut running.frame, &running.presets, &mut running.table, line) {
+            (0, number) => Ok(number),
+            (cause, _) => Err(cause),
+        }
+    }
+
+    /// The same on records of any length; yields the cause or 0, and the number that goes with it.
+    pub fn event_over(frame: &mut [u64], presets: &[u8], table: &mut [u16], line: &[u8]) -> (u32, u64) {
+        let mut number = u64::MAX;
         let cause = unsafe {
             planner_event(
-                running.frame.as_mut_ptr(),
-                FRAME,
-                running.presets.as_ptr(),
-                PRESETS,
-                running.table.as_mut_ptr(),
-                CELLS,
+                frame.as_mut_ptr(),
+                frame.len(),
+                presets.as_ptr(),
+                presets.len(),
+                table.as_mut_ptr(),
+                table.len(),
                 line.as_ptr(),
                 line.len(),
                 &mut number,
             )
         };
-        if cause == 0 {
-            Ok(number)
-        } else {
-            Err(cause)
-        }
+        (cause, number)
     }
 
     /// Puts rows in place of a frame's busy slots; yields the cause or 0, and how many rows there are or the row at

@@ -10,7 +10,7 @@ mod places;
 pub mod rng;
 pub mod rows;
 pub mod station;
-mod ties;
+pub mod ties;
 
 use rng::Rng;
 use station::{Size, Station, LARGE, LARGEST, MEDIUM, SMALL, TEXT_LIMIT, TINY};
@@ -96,13 +96,21 @@ fn full_day(rng: &mut Rng) -> Vec<u8> {
     station.bytes()
 }
 
+/// Whether line 2 is `(tie hold)`, which is the head's then.
+pub fn holds_in_head(text: &[u8]) -> bool {
+    text.split_inclusive(|&byte| byte == b'\n').nth(1) == Some(b"(tie hold)\n")
+}
+
 /// The text with the order of ties by place throughout: a head's `(tie hold)` is gone, and in place of an event's stands one
-/// that changes nothing. So the two texts have different tables only by the order of ties.
+/// that changes nothing. So the two texts have different tables only by the order of ties; one without hold stays as it is.
 pub fn by_place(text: &[u8]) -> Vec<u8> {
+    let tied = holds_in_head(text);
     let lines = text.split_inclusive(|&byte| byte == b'\n').enumerate();
     let other = lines.map(|(place, line)| match (line, place) {
         (b"(tie hold)\n", 1) => &b""[..],
         (b"(tie hold)\n", _) => b"(clock 0)\n",
+        // It would stand directly after the frame line now, and be refused with the whole head.
+        (b"(tie place)\n", 2) if tied => b"(clock 0)\n",
         _ => line,
     });
     other.collect::<Vec<_>>().concat()

@@ -1,5 +1,5 @@
 //! The library's running frame held against the independent planner's on seeded texts: every number, byte and cell that a
-//! text, an event or a plan leaves, whatever stood there before.
+//! text, an event or a plan leaves, whatever stood there before. And tie lines on records that are at fault themselves.
 #![cfg(feature = "archive")]
 
 use bench::frame::{Answer, Frame, Table, CELLS};
@@ -14,17 +14,28 @@ use bench::texts::text;
 
 const CLOCK: usize = 3;
 
-/// Records with anything in them, both orders of ties among it: place, or hold by some number.
+/// Records with anything in them, both orders of ties among it.
 fn noise(rng: &mut Rng) -> Running {
     let mut frame = std::array::from_fn(|_| rng.word());
-    [TIE, TIE_NOW].into_iter().for_each(|place| frame[place] = tie_number(rng));
+    [TIE, TIE_NOW].into_iter().for_each(|place| frame[place] = any_order(rng));
     let (presets, table) = (std::array::from_fn(|_| rng.word() as u8), std::array::from_fn(|_| rng.word() as u16));
     Running { frame, presets, table }
 }
 
-fn tie_number(rng: &mut Rng) -> u64 {
-    let any = rng.word();
-    *rng.pick(&[0, 0, 1, 2, 1 << 32, 1 << 63, any])
+fn any_order(rng: &mut Rng) -> u64 {
+    let hold = rng.chance(70);
+    order(rng, hold)
+}
+
+/// A number for this order of ties. Every one but 0 is hold, also one that has nothing but 0 in its lower half or its lowest
+/// bits.
+fn order(rng: &mut Rng, hold: bool) -> u64 {
+    let any = 1 + rng.word() / 2;
+    if hold {
+        *rng.pick(&[1, 2, 1 << 32, 1 << 63, any])
+    } else {
+        0
+    }
 }
 
 /// Puts an order of ties into a number, which stays where it says that already.
@@ -98,13 +109,12 @@ fn number(answer: Result<Answer, Refusal>) -> Result<u64, u32> {
     }
 }
 
-/// A head as it stands in the records, with other numbers for the same orders of ties and anything in the reserved ones.
+/// A frame as it stands in the records, with other numbers for the same orders of ties and anything in the reserved ones.
 fn start(rng: &mut Rng, head: &Head, frame: &Frame) -> Running {
     let mut running = Running { frame: [0; 16], presets: [0; PRESET_BYTES], table: [0; CELLS] };
     set_head(&mut running, head);
-    running.frame[CLOCK] = 1;
-    let order = |rng: &mut Rng| if head.hold { 1 + rng.word() / 2 } else { 0 };
-    running.frame[12..].copy_from_slice(&[rng.word(), order(rng), order(rng), rng.word()]);
+    running.frame[CLOCK] = frame.now() as u64;
+    running.frame[12..].copy_from_slice(&[rng.word(), order(rng, head.hold), order(rng, frame.hold()), rng.word()]);
     set_table(&mut running.table, head, frame);
     running
 }
@@ -120,9 +130,11 @@ fn follow(rng: &mut Rng, text: &[u8], seen: &mut Seen) {
     let Ok(head) = read_head(text) else {
         return;
     };
-    let Ok((mut frame, _)) = Frame::plan(&head) else {
+    let Ok((planned, _)) = Frame::plan(&head) else {
         return;
     };
+    // The order in force need not be the head's.
+    let mut frame = Frame::resume(&head, planned.table(), 1, rng.chance(50)).expect("a plan is well-formed");
     let mut running = start(rng, &head, &frame);
     let events = text.split_inclusive(|&byte| byte == b'\n').zip(lines(text)).skip(head.lines as usize);
     for (bytes, line) in events.take(60) {
@@ -149,32 +161,84 @@ fn events_leave_the_clock_the_order_in_force_and_the_table() {
     assert!(events > 10_000 && ties > 500);
 }
 
+/// The answer to a tie line on so many numbers, bytes and cells of records that it must leave as they are.
+fn refused(records: &Running, [numbers, bytes, cells]: [usize; 3], line: &[u8]) -> u32 {
+    let mut left = records.clone();
+    let (frame, presets, table) = (&mut left.frame[..numbers], &left.presets[..bytes], &mut left.table[..cells]);
+    let (cause, number) = proved::event_over(frame, presets, table, line);
+    assert!(number == 0 && left == *records, "{}", line.escape_ascii());
+    cause
+}
+
+const WHOLE: [usize; 3] = [16, PRESET_BYTES, CELLS];
+
+/// A frame of two slots and one bridge without presets, and tie lines that would change its order.
+fn small_frames() -> [(Running, &'static [u8]); 2] {
+    let mut running = Running { frame: [0; 16], presets: [0; PRESET_BYTES], table: [0; CELLS] };
+    running.frame[..=CLOCK].copy_from_slice(&[2, 1, 0, 1]);
+    let mut holding = running.clone();
+    holding.frame[TIE_NOW] = 1;
+    [(running, b"(tie hold)\n"), (holding, b"(tie place)\n")]
+}
+
+/// A tie has no cause of its own, yet it meets 2 and 11 of what is lent.
+#[test]
+fn a_tie_on_a_frame_at_fault_is_refused() {
+    for (place, number, cause) in
+        [(0, 0, 2), (0, 65, 2), (1, 9, 2), (2, 33, 2), (BUSY, 4, 2), (CLOCK, 0, 11), (CLOCK, 4, 11)]
+    {
+        let answers = small_frames().map(|(mut running, line)| {
+            running.frame[place] = number;
+            refused(&running, WHOLE, line)
+        });
+        assert_eq!(answers, [cause; 2], "{number} at {place}");
+    }
+    let answers = small_frames().map(|(mut running, line)| {
+        running.table[1] = 2 * 256 + 1;
+        refused(&running, WHOLE, line)
+    });
+    assert_eq!(answers, [11; 2]);
+}
+
+/// 8 comes before 2, and 2 before 11.
+#[test]
+fn a_tie_on_records_too_short_is_refused() {
+    for lengths in [[15, PRESET_BYTES, CELLS], [16, PRESET_BYTES - 1, CELLS], [16, PRESET_BYTES, CELLS - 1], [0; 3]] {
+        let answers = small_frames().map(|(mut running, line)| {
+            let short = refused(&running, lengths, line);
+            running.frame[CLOCK] = 0;
+            running.frame[0] = 65;
+            [short, refused(&running, lengths, line), refused(&running, WHOLE, line)]
+        });
+        assert_eq!(answers, [[8, 8, 2]; 2], "{lengths:?}");
+    }
+}
+
+/// The plan of a head under one order or the other, whatever order is in force; none if it is refused.
+fn planned(rng: &mut Rng, head: &Head, hold: bool) -> Option<Table> {
+    let head = Head { hold, ..head.clone() };
+    let planned = Frame::plan(&head).ok();
+    let mut running = noise(rng);
+    set_head(&mut running, &head);
+    running.frame[TIE] = order(rng, hold);
+    let (mut expected, mut grants, mut expected_grants) = (running.clone(), [7; proved::GRANTS], [7; proved::GRANTS]);
+    if let Some((frame, granted)) = &planned {
+        set_table(&mut expected.table, &head, frame);
+        expected_grants = *granted;
+    }
+    let cause = if planned.is_some() { 0 } else { 5 };
+    assert_eq!(proved::plan(&mut running, &mut grants), cause, "{head:?}");
+    assert!(running == expected && grants == expected_grants, "{head:?}");
+    planned.map(|(frame, _)| *frame.table())
+}
+
 #[test]
 fn a_plan_heeds_the_heads_order_alone() {
     let (mut rng, mut otherwise) = (Rng::new(4), 0);
     for seed in 0..3_000 {
-        let Ok(mut head) = read_head(&text(seed).bytes) else {
-            continue;
-        };
-        let mut tables = Vec::new();
-        for hold in [false, true] {
-            head.hold = hold;
-            let planned = Frame::plan(&head);
-            let mut running = noise(&mut rng);
-            set_head(&mut running, &head);
-            running.frame[TIE] = if hold { 1 + rng.word() / 2 } else { 0 };
-            let (mut expected, mut grants, mut expected_grants) =
-                (running.clone(), [7; proved::GRANTS], [7; proved::GRANTS]);
-            if let Ok((frame, granted)) = &planned {
-                set_table(&mut expected.table, &head, frame);
-                expected_grants = *granted;
-            }
-            let cause = if planned.is_ok() { 0 } else { 5 };
-            assert_eq!(proved::plan(&mut running, &mut grants), cause, "seed {seed}");
-            assert!(running == expected && grants == expected_grants, "seed {seed}");
-            tables.push(planned.map(|(frame, _)| *frame.table()));
+        if let Ok(head) = read_head(&text(seed).bytes) {
+            otherwise += usize::from(planned(&mut rng, &head, false) != planned(&mut rng, &head, true));
         }
-        otherwise += usize::from(tables[0] != tables[1]);
     }
     println!("{otherwise} heads are planned otherwise under hold");
     assert!(otherwise > 300);

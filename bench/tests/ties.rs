@@ -1,24 +1,31 @@
 //! The order of ties: the frames to try and the wrong turns of request 2026-02, and what its readings settle.
 
 use bench::rows;
+use bench::texts::ties::LACKING_FORM;
+use bench::texts::{by_place, text};
 
-fn listing(text: &str) -> String {
+fn listing(text: &[u8]) -> String {
     let mut out = Vec::new();
-    bench::planner::listing(text.as_bytes(), &mut out);
+    bench::planner::listing(text, &mut out);
     String::from_utf8(out).expect("listings are plain")
 }
 
-/// The cells of each slot, all of a text whose lines are accepted.
-fn cells(text: &str) -> Vec<String> {
+/// The cells of each slot; none of a head that is refused.
+fn table(text: &[u8]) -> Vec<String> {
     let listing = listing(text);
-    assert!(!listing.contains("refused"), "{text}");
     let slots = listing.lines().filter(|line| line.starts_with("(slot "));
     slots.map(|line| line.trim_end_matches(')').splitn(3, ' ').nth(2).expect("its cells").to_owned()).collect()
 }
 
+/// The cells of each slot, of a text whose lines are all accepted.
+fn cells(text: &str) -> Vec<String> {
+    assert!(!listing(text.as_bytes()).contains("refused"), "{text}");
+    table(text.as_bytes())
+}
+
 /// The lines of a listing before its slots.
 fn answers(text: &str) -> Vec<String> {
-    let listing = listing(text);
+    let listing = listing(text.as_bytes());
     let answers = listing.lines().filter(|line| !line.starts_with("(slot ") && !line.starts_with("(granted "));
     answers.map(str::to_owned).collect()
 }
@@ -86,13 +93,46 @@ fn an_event_holds_for_later_calls() {
     assert_eq!(cells(&text), ["m2", "m1", "m2"]);
 }
 
+/// An order holds until the next tie line: neither a call nor a clock ends it, taken or refused.
+#[test]
+fn an_event_holds_for_all_later_calls() {
+    let events = "(call (1 1) (2 2))\n(clock 4)\n(clock 9)\n(call (3 1) (4 2))\n";
+    let rest = ["(taken 0)", "(now 4)", "(refused 6 2)", "(taken 0)"];
+    for (second, tie, slots) in [
+        // Line 2 is of the head. Against the head's order, either way.
+        ("(preset 9 0 0 0)", "(tie hold)", ["c2", "c2", "c1", "c4", "c4", "c3"]),
+        ("(tie hold)", "(tie place)", ["c2", "c1", "c2", "c4", "c3", "c4"]),
+        // The same again.
+        ("(tie hold)", "(tie hold)", ["c2", "c2", "c1", "c4", "c4", "c3"]),
+        ("(preset 9 0 0 0)", "(tie place)", ["c2", "c1", "c2", "c4", "c3", "c4"]),
+    ] {
+        let text = format!("(frame 6 1)\n{second}\n{tie}\n{events}");
+        assert_eq!(table(text.as_bytes()), slots, "{text}");
+        assert_eq!(answers(&text), [&[tie], &rest[..]].concat(), "{text}");
+    }
+}
+
 #[test]
 fn a_refused_line_leaves_the_order() {
-    for refused in ["(tie Hold)", "(tie place )", "(clock 0)", "(call (9 64))", "(frame 1 1)", ""] {
-        let text = format!("(frame 3 1)\n(busy 1 (3 3))\n(tie hold)\n{refused}\n(call (1 1))\n");
-        assert_eq!(answers(&text).len(), 3, "{refused}");
-        let text = format!("(frame 3 1)\n(preset 9 0 0 0)\n(tie hold)\n{refused}\n(call (1 1) (2 2))\n");
-        assert!(listing(&text).ends_with("(taken 0)\n(slot 1 c2)\n(slot 2 c2)\n(slot 3 c1)\n"), "{refused}");
+    for (line, cause) in [
+        ("(tie Hold)", 1),
+        ("(tie place )", 1),
+        ("", 1),
+        ("(clock 0)", 2),
+        ("(call (9 65))", 2),
+        ("(frame 1 1)", 3),
+        ("(busy 1 (1 1))", 3),
+        ("(call (9 1) (9 1))", 4),
+        ("(call (9 64))", 7),
+    ] {
+        // Line 2 is of the head.
+        let called = |second: &str, tie: &str| {
+            let text = format!("(frame 3 1)\n{second}\n{tie}\n{line}\n(call (1 1) (2 2))\n");
+            assert_eq!(answers(&text), [tie, &format!("(refused 4 {cause})"), "(taken 0)"], "{text}");
+            table(text.as_bytes())
+        };
+        assert_eq!(called("(preset 8 0 0 0)", "(tie hold)"), ["c2", "c2", "c1"], "{line}");
+        assert_eq!(called("(tie hold)", "(tie place)"), ["c2", "c1", "c2"], "{line}");
     }
 }
 
@@ -120,39 +160,14 @@ fn which_tie_lines_are_the_heads() {
         ("(frame 1 1)\n(tie hold)\n(preset 1 0 2 0)\n(tie hold)\n", "(refused 3 5)\n"),
         ("(frame 1 1)\n(tie hold)\n(frame 1 1)\n", "(refused 3 3)\n"),
     ] {
-        assert_eq!(listing(text), expected, "{text}");
+        assert_eq!(listing(text.as_bytes()), expected, "{text}");
     }
 }
 
 #[test]
 fn ties_without_their_form() {
-    for line in [
-        "(tie)",
-        "(tie )",
-        "(tie hold )",
-        "(tie  hold)",
-        "(tie\thold)",
-        "(tiehold)",
-        "( tie hold)",
-        "(tie holds)",
-        "(tie hol)",
-        "(tie HOLD)",
-        "(Tie hold)",
-        "(tie places)",
-        "(tie hold place)",
-        "(tie holdplace)",
-        "(tie placehold)",
-        "(tie (hold))",
-        "(tie 1)",
-        "(tie hold 1)",
-        "(tie hold))",
-        "(tie hold",
-        "(tie hold) ",
-        "(tie hold)\r",
-        "(ties hold)",
-        "tie hold",
-    ] {
-        assert_eq!(listing(&format!("(frame 1 1)\n{line}\n")), "(refused 2 1)\n", "{line}");
+    for line in LACKING_FORM {
+        assert_eq!(listing(format!("(frame 1 1)\n{line}\n").as_bytes()), "(refused 2 1)\n", "{line}");
         assert_eq!(answers(&format!("(frame 1 1)\n(clock 1)\n{line}\n")), ["(now 1)", "(refused 3 1)"], "{line}");
     }
 }
@@ -160,7 +175,10 @@ fn ties_without_their_form() {
 #[test]
 fn grants_and_lost_cells_do_not_depend_on_the_order() {
     let presets = "(busy 1 (2 2))\n(preset 1 0 2 3)\n(preset 2 1 1 3)\n";
-    let granted = |head: &str| listing(&format!("{head}{presets}")).lines().take(2).collect::<Vec<_>>().join(" ");
+    let granted = |head: &str| {
+        let text = format!("{head}{presets}");
+        listing(text.as_bytes()).lines().take(2).collect::<Vec<_>>().join(" ")
+    };
     assert_eq!(granted("(frame 6 2)\n"), "(granted 1 3) (granted 2 3)");
     assert_eq!(granted("(frame 6 2)\n(tie hold)\n"), "(granted 1 3) (granted 2 3)");
     // One plan, and a call that takes as many cells of it under either order, and puts other jobs into them.
@@ -194,27 +212,37 @@ fn a_head_has_one_text() {
     }
 }
 
+/// What the comparison counts by: the same text, hold having no part in it.
+#[test]
+fn a_text_by_place() {
+    for (text, place) in [
+        ("(frame 3 1)\n(tie hold)\n(busy 1 (1 1))\n", "(frame 3 1)\n(busy 1 (1 1))\n"),
+        ("(frame 3 1)\n(clock 1)\n(tie hold)\n(tie place)\n", "(frame 3 1)\n(clock 1)\n(clock 0)\n(tie place)\n"),
+        ("(frame 3 1)\n(tie hold)\n(tie hold)\n(tie hold)\n", "(frame 3 1)\n(clock 0)\n(clock 0)\n"),
+        // A tie on line 3 comes to stand on line 2, where place would be the head's fault.
+        ("(frame 3 1)\n(tie hold)\n(tie place)\n(tie place)\n", "(frame 3 1)\n(clock 0)\n(tie place)\n"),
+        // Nothing holds.
+        ("(frame 3 1)\n(busy 1 (1 1))\n(tie place)\n", "(frame 3 1)\n(busy 1 (1 1))\n(tie place)\n"),
+        ("(frame 3 1)\n(tie place)\n(tie place)\n", "(frame 3 1)\n(tie place)\n(tie place)\n"),
+        ("(frame 3 1)\n(clock 1)\n(tie hold)", "(frame 3 1)\n(clock 1)\n(tie hold)"),
+    ] {
+        assert_eq!(String::from_utf8_lossy(&by_place(text.as_bytes())), place, "{text}");
+    }
+}
+
 /// The texts of the comparison ask for the order of ties often enough.
 #[test]
 fn seeded_texts_tell_the_orders_apart() {
-    let slots = |text: &[u8]| {
-        let mut out = Vec::new();
-        bench::planner::listing(text, &mut out);
-        String::from_utf8(out)
-            .expect("listings are plain")
-            .lines()
-            .skip_while(|line| !line.starts_with("(slot "))
-            .map(str::to_owned)
-            .collect::<Vec<_>>()
-    };
     let (mut accepted, mut held, mut otherwise) = (0, 0, 0);
     for seed in 0..5_000 {
-        let text = bench::texts::text(seed).bytes;
-        let (table, place) = (slots(&text), bench::texts::by_place(&text));
-        if !table.is_empty() {
+        let text = text(seed).bytes;
+        let (held_table, place) = (table(&text), by_place(&text));
+        if !held_table.is_empty() {
+            let place_table = table(&place);
+            assert!(!place_table.is_empty(), "seed {seed}: the head by place is accepted too");
             accepted += 1;
             held += usize::from(place != text);
-            otherwise += usize::from(place != text && table != slots(&place));
+            otherwise += usize::from(held_table != place_table);
         }
     }
     println!("{accepted} accepted heads, {held} texts with hold, {otherwise} that place would plan otherwise");

@@ -1,8 +1,10 @@
 /*
  * Busy times as rows of comma-separated text. With one file, or none, prints the rows of a station file, or of standard input. With a second file, of rows, puts these in place of
- * the station's busy times, plans anew, and prints what each preset is granted then. A refusal is one line, with the line of the station file or the row at fault.
+ * the station's busy times, plans anew, and prints what each preset is granted then, the first clock and the order of ties in force. A refusal is one line, with the line of the
+ * station file or the row at fault.
  */
 #include <stdio.h>
+#include <string.h>
 
 #include "planner.h"
 
@@ -46,6 +48,19 @@ static void print_rows(void)
     fwrite(out, 1, bytes, stdout);
 }
 
+/* An event shows that the frame runs; the first clock changes nothing in it. */
+static void print_start(void)
+{
+    static const char line[] = "(clock 1)\n";
+    uint64_t now = 0;
+    uint32_t cause = planner_event(frame, PLANNER_FRAME_NUMBERS, presets, sizeof presets, table, PLANNER_TABLE_CELLS, (const uint8_t *)line, strlen(line), &now);
+    if (cause != PLANNER_ACCEPTED) {
+        print_refused(0, cause);
+        return;
+    }
+    printf("(now %llu)\n(tie %s)\n", (unsigned long long)now, frame[PLANNER_FRAME_TIE_NOW] == PLANNER_TIE_PLACE ? "place" : "hold");
+}
+
 /* The rows are the first length bytes of the text. */
 static void plan_anew(size_t length)
 {
@@ -67,6 +82,7 @@ static void plan_anew(size_t length)
     for (uint64_t i = 0; i < frame[PLANNER_FRAME_PRESETS]; i++) {
         printf("(granted %u %u)\n", presets[i * PLANNER_PRESET_BYTES + PLANNER_PRESET_NUMBER], grants[i]);
     }
+    print_start();
 }
 
 int main(int argc, char **argv)

@@ -82,7 +82,8 @@ fn planning() {
     ties();
 }
 
-/// The largest plan under both orders of ties, and as many equal needs as a frame can have, which all meet in every slot.
+/// The largest plan under both orders of ties, and one of as many equal needs as a frame can have, where ties decide in three
+/// slots of four.
 fn ties() {
     let both = |name: &str, head: Vec<u8>, load: fn(Vec<u8>) -> Load| {
         let held = loads::held(head.clone());

@@ -6,7 +6,7 @@
 use std::process::ExitCode;
 
 use bench::frame::CELLS;
-use bench::texts::{by_place, kinds, text, Text};
+use bench::texts::{by_place, holds_in_head, kinds, text, Text};
 use bench::{planner, proved};
 
 /// Differences shown in full.
@@ -120,7 +120,7 @@ impl Tally {
         }
         let mut place = Vec::new();
         planner::listing(&other, &mut place);
-        self.tied_heads += u64::from(text.split(|&byte| byte == b'\n').nth(1) == Some(b"(tie hold)"));
+        self.tied_heads += u64::from(holds_in_head(text));
         self.held += 1;
         self.held_otherwise += u64::from(!slots(listing).eq(slots(&place)));
     }
@@ -154,7 +154,9 @@ fn report(tallies: &[(&str, Tally)]) -> ExitCode {
     let (ties, tied_heads) = (total(|t| t.tie_events), total(|t| t.tied_heads));
     println!("\naccepted: {clocks} clocks, {calls} calls, {evicting} of them evicting, {ties} ties");
     let (held, otherwise) = (total(|t| t.held), total(|t| t.held_otherwise));
-    println!("hold: in {tied_heads} heads, in {held} texts; {otherwise} of these have another table under place");
+    let heads = total(|t| t.accepted_heads);
+    println!("of {heads} texts whose head is accepted {tied_heads} have (tie hold) in it, {held} have it anywhere;");
+    println!("{otherwise} of these have another table under place");
     let (texts, bytes, lines) = (total(|t| t.texts), total(|t| t.bytes), total(|t| t.lines));
     let different = total(|t| t.different);
     println!("{texts} texts of {bytes} bytes, {lines} lines of output: {different} differ");

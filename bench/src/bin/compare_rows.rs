@@ -6,6 +6,7 @@
 
 use std::process::ExitCode;
 
+use bench::head::Head;
 use bench::texts::rows::{input, kinds};
 use bench::texts::Text;
 use bench::{proved, rows};
@@ -64,20 +65,22 @@ impl Tally {
         self.printed += printed.len() as u64;
         self.different += u64::from(!same);
         let (text, rows) = rows::split(input);
-        match (rows::read_head(text), rows) {
-            (Err((_, refusal)), _) => self.heads[usize::from(refusal.number())] += 1,
-            (Ok(head), None) => {
-                self.written += 1;
-                self.tied += u64::from(head.hold);
-            }
-            (Ok(mut head), Some(rows)) => match rows::read(rows, &mut head) {
-                Ok(_) => {
-                    self.taken += 1;
-                    self.tied += u64::from(head.hold);
-                }
-                Err((_, refusal)) => self.rows[usize::from(refusal.number())] += 1,
-            },
+        match rows::read_head(text) {
+            Ok(head) => self.add_head(head, rows),
+            Err((_, refusal)) => self.heads[usize::from(refusal.number())] += 1,
         }
+    }
+
+    fn add_head(&mut self, mut head: Head, rows: Option<&[u8]>) {
+        match rows.map(|rows| rows::read(rows, &mut head)) {
+            None => self.written += 1,
+            Some(Ok(_)) => self.taken += 1,
+            Some(Err((_, refusal))) => {
+                self.rows[usize::from(refusal.number())] += 1;
+                return;
+            }
+        }
+        self.tied += u64::from(head.hold);
     }
 }
 

@@ -16,6 +16,8 @@ pub struct Station {
     pub events: Vec<String>,
     /// Numbers that no preset has, in random sequence; calls take them from the end.
     pub unused: Vec<usize>,
+    /// How many cells the busy lines that were drawn leave free.
+    pub free: usize,
     /// The clock that the events so far should have reached.
     pub clock: usize,
     /// Of a hundred events, how many are ties.
@@ -65,13 +67,14 @@ impl Station {
         let mut unused: Vec<usize> = (1..=255).collect();
         rng.shuffle(&mut unused);
         let head = vec![format!("(frame {slots} {bridges})")];
-        let events = Vec::new();
-        let mut station = Station { slots, bridges, busy: 1, presets: 1, head, events, unused, clock: 1, ties: 0 };
+        let (events, free) = (Vec::new(), slots * bridges);
+        let mut station =
+            Station { slots, bridges, busy: 1, presets: 1, head, events, unused, free, clock: 1, ties: 0 };
         station.add_ties(&mut rng.aside());
-        let busy = station.add_busy(rng);
+        station.free -= station.add_busy(rng);
         station.presets = station.head.len();
         let presets = draw(rng, size.presets);
-        station.add_presets(rng, presets, slots * bridges - busy);
+        station.add_presets(rng, presets);
         station
     }
 
@@ -131,7 +134,7 @@ impl Station {
         tie_line(rng)
     }
 
-    fn clock_line(&mut self, rng: &mut Rng) -> String {
+    pub fn clock_line(&mut self, rng: &mut Rng) -> String {
         let clock = match rng.below(20) {
             0 => rng.within(0..=self.slots + 2),
             1 => self.clock.saturating_sub(1),
@@ -196,9 +199,9 @@ impl Station {
     }
 
     /// Adds presets whose mandatory slots come near some part of the free cells, now and then beyond it.
-    fn add_presets(&mut self, rng: &mut Rng, count: usize, free: usize) {
+    fn add_presets(&mut self, rng: &mut Rng, count: usize) {
         let tenths = rng.within(0..=9);
-        let average = free * tenths / 10 / count.max(1);
+        let average = self.free * tenths / 10 / count.max(1);
         let priorities = rng.within(0..=9);
         let optional = if rng.chance(50) { self.slots } else { self.slots.div_ceil(4) };
         for _ in 0..count {

@@ -4,7 +4,7 @@ mod planner;
 
 use planner::{Cell, Frame};
 
-const HEAD: &str = "(frame 4 2)\n(busy 2 (2 3))\n(preset 1 0 2 1)\n(preset 2 1 1 2)\n";
+const HEAD: &str = "(frame 7 2)\n(busy 2 (2 3))\n(preset 1 0 2 1)\n(preset 2 1 1 2)\n";
 
 fn event(frame: &mut Frame, line: &str) {
     match frame.event(&format!("{line}\n")) {
@@ -39,7 +39,7 @@ fn main() {
         println!("preset {number} is granted {slots}");
     }
     event(&mut frame, "(clock 2)");
-    event(&mut frame, "(call (9 2))");
+    event(&mut frame, "(call (9 5))");
     event(&mut frame, "(call (9 1))");
     event(&mut frame, "(tie hold)");
     print(&frame);
@@ -52,7 +52,9 @@ fn main() {
     let mut frame = Frame::restored(&bytes).expect("this version");
     println!("restored, its order of ties: {}", if frame.holds() { "hold" } else { "place" });
 
-    event(&mut frame, "(call (10 1))");
-    event(&mut frame, "(call (11 1))");
+    // After its first slot job 11 needs one more, as job 10 does. It goes first, since the restored order is hold; by place job 10 would.
+    event(&mut frame, "(call (10 1) (11 2))");
+    event(&mut frame, "(call (12 1))");
+    event(&mut frame, "(call (13 1))");
     print(&frame);
 }

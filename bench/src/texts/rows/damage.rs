@@ -155,9 +155,14 @@ pub fn cut_short(rng: &mut Rng) -> Vec<u8> {
     bytes
 }
 
-/// Rows after a station text of any kind, damaged ones too; an empty line that it has itself comes first.
+/// Rows after a station text of any kind, damaged ones too; an empty line that it has itself comes first. Now and then one
+/// with tie lines in any place, since some are the head's and others end it.
 pub fn any_head(rng: &mut Rng) -> Vec<u8> {
-    let text = drawn(rng, KINDS).bytes;
+    let text = match rng.below(10) {
+        0 => ties::in_its_place(rng),
+        1 => ties::anywhere(rng),
+        _ => drawn(rng, KINDS).bytes,
+    };
     before_rows(rng, text)
 }
 
@@ -173,8 +178,7 @@ pub fn head_at_fault(rng: &mut Rng) -> Vec<u8> {
         numbers::huge_number,
         numbers::bad_number,
         damage::lacking_form,
-        ties::in_its_place,
-        ties::anywhere,
+        ties::out_of_place,
         ties::damaged,
     ];
     let text = rng.pick(MAKERS)(rng);
