@@ -22,9 +22,9 @@
 #include <stdint.h>
 
 /*
- * The version of the layout below and of what the numbers mean. Whoever stores a frame stores this beside it, and restores no frame of another version: version 1 had 12 numbers in a
- * frame, version 2 did not look at the orders of ties, later versions have wider cells (with the place of each cell in its preset or job), another range of the clock (from 0) and something to
- * say in the reserved numbers of a frame.
+ * The version of the layout below and of what the numbers mean. Whoever stores a frame stores this beside it, and restores no frame of another version as it stands. Version 1 had 12
+ * numbers in a frame. Version 2 had no orders of ties: with PLANNER_TIE_PLACE at PLANNER_FRAME_TIE and at PLANNER_FRAME_TIE_NOW its frame is one of this version. Later versions
+ * have wider cells (with the place of each cell in its preset or job), another range of the clock (from 0) and something to say in the reserved numbers of a frame.
  */
 #define PLANNER_VERSION 3
 
@@ -57,7 +57,8 @@
 enum planner_cause {
     PLANNER_ACCEPTED = 0,
     PLANNER_NO_FORM = 1,              /* a line that is not one of the six forms, or lacks its end */
-    PLANNER_OUT_OF_LIMITS = 2,        /* a value or busy stretch outside its limits, in a row outside the frame; a ninth job in a call; a clock below 1 or above S + 1; a head that no text yields */
+    PLANNER_OUT_OF_LIMITS = 2,        /* a value or busy stretch outside its limits, in a row outside the frame; a ninth job in a call; a clock below 1 or above S + 1;
+                                       * a head that no text yields */
     PLANNER_OUT_OF_PLACE = 3,         /* a form out of its place, (tie place) directly after the frame line among them; no frame on line 1 */
     PLANNER_NUMBER_USED = 4,          /* a number already used, or twice in a call */
     PLANNER_REQUIRED_DO_NOT_FIT = 5,  /* the required slots do not fit */
@@ -79,8 +80,8 @@ enum planner_frame_place {
     PLANNER_FRAME_BUSY = 4,    /* the busy slots of bridge 1 as a mask, slot 1 being the lowest bit; those of bridges 2 to 8 follow */
 
     /*
-     * Reserved for requests to come, with PLANNER_FRAME_JOBS below. This version does not look at these two: whatever stands there, every answer is the same. planner_run_text leaves 0 there where the
-     * text ran, and nothing else writes there; a frame that a program makes itself has 0 there too if it is to be stored.
+     * Reserved for requests to come, with PLANNER_FRAME_JOBS below. This version does not look at these two: whatever stands there, every answer is the same. planner_run_text leaves 0
+     * there where the text ran, and nothing else writes there; a frame that a program makes itself has 0 there too if it is to be stored.
      */
     PLANNER_FRAME_SUPPLY = 12, /* how many motors the supply feeds at a time (request 2026-03) */
 
@@ -91,7 +92,10 @@ enum planner_frame_place {
     PLANNER_FRAME_JOBS = 15 /* reserved: how many jobs were admitted (request 2026-06) */
 };
 
-/* The orders of ties. Any number but PLANNER_TIE_PLACE is taken for PLANNER_TIE_HOLD. */
+/*
+ * The orders of ties. Any number but PLANNER_TIE_PLACE is taken for PLANNER_TIE_HOLD. A text that ran leaves one of these two in both places. Otherwise a number
+ * that already says the order to be written stays as it is.
+ */
 enum planner_tie {
     PLANNER_TIE_PLACE = 0, /* the earlier line, in a call the earlier job */
     PLANNER_TIE_HOLD = 1   /* those with a cell in the slot just before, then the earlier line or job */
@@ -133,9 +137,10 @@ extern "C" {
  * Causes: 10; 8 of the frame, the presets, the output and the table; those of the head's lines, of which the first line at fault decides: 1, 3, 2, 4, 9; 5.
  *
  * 0: the listing stands at the start of the output, as far as it has room for it; bytes past it are as they were. *end is the smaller of out_len and the number of the listing's bytes: below
- * out_len the listing is whole; equal to it, the listing may have been cut, unless out_len is PLANNER_LISTING_BYTES or more, when no listing is. The frame has the head, the clock and the order of ties in force that
- * the text left, and 0 for its reserved numbers, the presets its records, the table its cells: a running frame for planner_event, also where the listing was cut. Records past the last preset
- * are as they were. A line after the head that is refused has its line in the listing, changes nothing, and does not end the text.
+ * out_len the listing is whole; equal to it, the listing may have been cut, unless out_len is PLANNER_LISTING_BYTES or more, when no listing is. The frame has the head, the
+ * clock and the order of ties in force that the text left, and 0 for its reserved numbers, the presets its records, the table its cells: a running frame for planner_event,
+ * also where the listing was cut. Records past the last preset are as they were. A line after the head that is refused has its line in the listing, changes nothing, and does
+ * not end the text.
  * Else *end is the line at fault, 0 for 10 and 8, and nothing else changes; but 5 (its line is the last of the head) leaves the head in the frame and its
  * records in the presets, and clock, order of ties in force, reserved numbers, table and output as they were.
  */
@@ -152,8 +157,9 @@ uint32_t planner_run_text(const uint8_t *text, size_t text_len,
  * Causes: 8 of the frame, the presets and the table; 2 of the head; 11; those of the line: 1, 3; of a clock 2, 6; of a call 2, 4, 9, 7; of a tie none. It is 7 exactly when none before it
  * holds and the call has no place at all.
  *
- * 0: the clock in the frame, the order of ties in force, or the table, is the new one, and *number is the clock t (of a clock), 1 for hold and 0 for place (of a tie), or how many refinement cells were
- * lost (of a call). A call is placed by the order in force; on this frame it would cost the same under the other. No other place of the call loses fewer, in all or among the presets of any one priority and better. A running frame stays one, so that 11 is never met after it.
+ * 0: the clock in the frame, the order of ties in force, or the table, is the new one, and *number is the clock t (of a clock), PLANNER_TIE_HOLD or PLANNER_TIE_PLACE (of a tie),
+ * or how many refinement cells were lost (of a call). A call is placed by the order in force; on this frame it would cost the same under the other. No other place of the call
+ * loses fewer, in all or among the presets of any one priority and better. A running frame stays one, so that 11 is never met after it.
  * Else *number is 0, and nothing else changes.
  */
 uint32_t planner_event(uint64_t *frame, size_t frame_len,
@@ -163,8 +169,8 @@ uint32_t planner_event(uint64_t *frame, size_t frame_len,
                        uint64_t *number);
 
 /*
- * Plans a fresh frame, by the head's order of ties. The clock and the order in force in the frame are not looked at: with clock 1 and the head's order for the one in force, frame, presets and the
- * table that is left are a running frame for planner_event, as planner_run_text would start it.
+ * Plans a fresh frame, by the head's order of ties. The clock and the order in force are not looked at. With frame[PLANNER_FRAME_CLOCK] = 1 and
+ * frame[PLANNER_FRAME_TIE_NOW] = frame[PLANNER_FRAME_TIE], frame, presets and the table that is left are a running frame for planner_event, as planner_run_text would start it.
  *
  * Causes: 8 of the frame, the presets, the grants and the table; 2 of the head; 5. It is 5 exactly when no valid plan exists.
  *
@@ -192,13 +198,14 @@ uint32_t planner_listing(const uint8_t *text, size_t text_len,
                          uint64_t *bytes);
 
 /*
- * Puts busy times that stand in rows of comma-separated text in place of the frame's. A row is bridge, first slot, last slot, each bare or in quotes, and ends with CR LF; there is no header. Rows
- * may come in any sequence and may overlap or touch: a slot of a bridge is busy exactly if some row takes it. No row at all leaves no busy slot.
+ * Puts busy times that stand in rows of comma-separated text in place of the frame's. A row is bridge, first slot, last slot, each bare or in quotes, and ends with CR LF; there is no
+ * header. Rows may come in any sequence and may overlap or touch: a slot of a bridge is busy exactly if some row takes it. No row at all leaves no busy slot.
  *
  * Causes: 10; 8 of the frame and the presets; 2 of the head; those of the rows, of which the first row at fault decides: 12, 2.
  *
- * 0: the masks at PLANNER_FRAME_BUSY are those of the rows, every other number of the frame is as it was, and *row is how many rows there are. No table is touched: one that was made for the old busy
- * times does not suit the new ones, and planner_event may meet 11 with it. Plan the frame again with planner_plan, which may meet 5, and set the clock to 1 and the order of ties in force to the head's.
+ * 0: the masks at PLANNER_FRAME_BUSY are those of the rows, every other number of the frame is as it was, and *row is how many rows there are. No table is touched: one that was made
+ * for the old busy times does not suit the new ones, and planner_event may meet 11 with it. Plan the frame again with planner_plan, which may meet 5,
+ * and set the clock to 1 and the order of ties in force to the head's.
  * Else *row is the row at fault, counted from 1, 0 for 10, 8 and the head's 2, and nothing else changes.
  */
 uint32_t planner_read_rows(const uint8_t *text, size_t text_len,
@@ -207,7 +214,8 @@ uint32_t planner_read_rows(const uint8_t *text, size_t text_len,
                            uint64_t *row);
 
 /*
- * The busy times of the frame as rows, at the start of the output: bare, by bridge and then by slot, one for each run of busy slots; bytes past them are as they were. Clock and table are not looked at.
+ * The busy times of the frame as rows, at the start of the output: bare, by bridge and then by slot, one for each run of busy slots; bytes past them are as they were. The
+ * clock and the orders of ties are not looked at.
  *
  * Causes: 8 of the frame, the presets and the output; 2 of the head.
  *
