@@ -77,7 +77,7 @@ refused-no-line h st e n r q = go (eventOf h st e) (event-is h st e) q
     go _ (tieSet hold asks f) p = cc
     go _ (placed jobs asks f) p = cc
 
--- a refused event changes nothing, a clock all but the clock, a tie all but the order of ties, and a call that is taken all but the table
+-- a refused event leaves all as it was, a clock all but the clock, a tie all but the order of ties, and a call that is taken all but the table
 pub refused-leaves : (h : Head) (st : State) (e : Event) (n : ℕ) (r : Refusal) → eventOf h st e .answer ≡ refused n r → eventOf h st e .after ≡ st
 refused-leaves h st e n r q = go (eventOf h st e) (event-is h st e) q
   where

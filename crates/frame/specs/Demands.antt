@@ -216,7 +216,7 @@ pub record Demand3 (h : Head) (st : State) (es : List Event) : Type 0 where
   pub tie-accepted : (j : ℕ) (hold : Bool) → j < length es → (answerAt h st es j ≡ tieNow hold) ↔ (asked (eventAt es j) ≡ setTie hold)
   pub tie-leaves : (j : ℕ) (hold : Bool) → j < length es → answerAt h st es j ≡ tieNow hold → stateAt h st es (suc j) ≡ withOrder hold (stateAt h st es j)
   pub tie-printed : (j n : ℕ) (l : List ℕ) (hold : Bool) → j < length es → eventAt es j ≡ line l → answerAt h st es j ≡ tieNow hold → answerLine n (tieNow hold) ≡ l
-  -- a refused event changes nothing, a clock all but the clock, and a call all but the table
+  -- a refused event leaves all as it was, a clock all but the clock, and a call all but the table
   pub refused-leaves : (j : ℕ) (r : Refusal) → j < length es → answerAt h st es j ≡ refused 0 r → stateAt h st es (suc j) ≡ stateAt h st es j
   pub clock-leaves : (j t : ℕ) → j < length es → answerAt h st es j ≡ clockNow t → stateAt h st es (suc j) ≡ withClock t (stateAt h st es j)
   pub call-leaves : (j : ℕ) (n : Cost) → j < length es → answerAt h st es j ≡ taken n → stateAt h st es (suc j) ≡ withTable (stateAt h st es (suc j) .table) (stateAt h st es j)
