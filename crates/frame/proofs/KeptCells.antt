@@ -2,7 +2,8 @@
 -- (Call cells: CallCells.antt.)
 --
 -- In order: what is kept (`Kept`), of nothing done (`kept-same`), of two steps in turn (`kept-twice`), of one event (`event-kept`), of a list
--- (`run-kept`); the same of the cells in slots gone by (`run-still`); the optional cells counted (`run-counted`); the clock (`run-clock`) and the order of ties (`run-tie`).
+-- (`run-kept`); the same of the cells in slots gone by (`run-still`); the optional cells counted (`run-counted`); a part of the state by the
+-- answers alone (`run-through`), so the clock (`run-clock`) and the order of ties (`run-tie`).
 -- Assumes nothing.
 use Prim.Native.Nat.{ℕ, _+_, _≤_}
 use native.Mathlib.Omega.{arith}
@@ -20,7 +21,7 @@ use Rattle.placing.proofs.Theorems.{Good}
 use Rattle.placing.proofs.Theorems.{change-gone, changed-keeps-fixed, changed-kept-fixed, changed-optional, changed-optional-count}
 use Rattle.placing.proofs.Theorems.{call-accepted, call-claim}
 use Rattle.frame.specs.Event.{Event, Answer, clockNow, tieNow, taken, refused, Outcome, eventOf, runOf}
-use Rattle.frame.specs.Demands.{EventIs, stopped, clockSet, tieSet, placed, SameFixed, lastClock, lastTie, totalTaken}
+use Rattle.frame.specs.Demands.{EventIs, stopped, clockSet, tieSet, placed, SameFixed, through, clockBy, lastClock, tieBy, lastTie, totalTaken}
 use Rattle.frame.proofs.EventList.{kept-over}
 use Rattle.frame.proofs.OneEvent.{event-is, clock-set, call-taken, call-table, event-running}
 
@@ -174,56 +175,36 @@ run-counted h st (e ∷ es) =
       totalTaken-cons (eventOf h st e .answer) (runOf h (eventOf h st e .after) es .answers),
     )
 
--- ---- the clock
+-- ---- the clock and the order of ties
 
-lastClock-cons : (c : ℕ) (a : Answer) (answers : List Answer) → lastClock c (a ∷ answers) ≡ lastClock (lastClock c (a ∷ [])) answers
-unfolding lastClock
-lastClock-cons c (clockNow t) answers = refl
-lastClock-cons c (tieNow hold) answers = refl
-lastClock-cons c (taken n) answers = refl
-lastClock-cons c (refused _ r) answers = refl
+-- a part of the state that each event changes by its answer alone, a list changes by its answers
+run-through : {A : Type 0} (h : Head) (part : State → A) (by : A → Answer → A) → ((st : State) (e : Event) → part (eventOf h st e .after) ≡ by (part st) (eventOf h st e .answer))
+    → (st : State) (es : List Event) → part (runOf h st es .after) ≡ through by (part st) (runOf h st es .answers)
+unfolding runOf through
+run-through h part by one st [] = refl
+run-through {A} h part by one st (e ∷ es) =
+    run-through h part by one (eventOf h st e .after) es ∙ ap (λ (x : A). through by x (runOf h (eventOf h st e .after) es .answers)) (one st e)
 
-event-clock : (h : Head) (st : State) (e : Event) → eventOf h st e .after .clock ≡ lastClock (st .clock) (eventOf h st e .answer ∷ [])
-unfolding lastClock
+event-clock : (h : Head) (st : State) (e : Event) → eventOf h st e .after .clock ≡ clockBy (st .clock) (eventOf h st e .answer)
 event-clock h st e = go (eventOf h st e) (event-is h st e)
   where
-    go : (o : Outcome) → EventIs h st e o → o .after .clock ≡ lastClock (st .clock) (o .answer ∷ [])
+    go : (o : Outcome) → EventIs h st e o → o .after .clock ≡ clockBy (st .clock) (o .answer)
     go _ (stopped r f) = refl
     go _ (clockSet t asks f) = refl
     go _ (tieSet hold asks f) = refl
     go _ (placed jobs asks f) = refl
 
 pub run-clock : (h : Head) (st : State) (es : List Event) → runOf h st es .after .clock ≡ lastClock (st .clock) (runOf h st es .answers)
-unfolding runOf lastClock
-run-clock h st [] = refl
-run-clock h st (e ∷ es) =
-    run-clock h (eventOf h st e .after) es
-    ∙ ap (λ (c : ℕ). lastClock c (runOf h (eventOf h st e .after) es .answers)) (event-clock h st e)
-    ∙ sym (lastClock-cons (st .clock) (eventOf h st e .answer) (runOf h (eventOf h st e .after) es .answers))
+run-clock h = run-through h (λ st. st .clock) clockBy (event-clock h)
 
--- ---- the order of ties
-
-lastTie-cons : (hold : Bool) (a : Answer) (answers : List Answer) → lastTie hold (a ∷ answers) ≡ lastTie (lastTie hold (a ∷ [])) answers
-unfolding lastTie
-lastTie-cons hold (clockNow t) answers = refl
-lastTie-cons hold (tieNow next) answers = refl
-lastTie-cons hold (taken n) answers = refl
-lastTie-cons hold (refused _ r) answers = refl
-
-event-tie : (h : Head) (st : State) (e : Event) → eventOf h st e .after .hold ≡ lastTie (st .hold) (eventOf h st e .answer ∷ [])
-unfolding lastTie
+event-tie : (h : Head) (st : State) (e : Event) → eventOf h st e .after .hold ≡ tieBy (st .hold) (eventOf h st e .answer)
 event-tie h st e = go (eventOf h st e) (event-is h st e)
   where
-    go : (o : Outcome) → EventIs h st e o → o .after .hold ≡ lastTie (st .hold) (o .answer ∷ [])
+    go : (o : Outcome) → EventIs h st e o → o .after .hold ≡ tieBy (st .hold) (o .answer)
     go _ (stopped r f) = refl
     go _ (clockSet t asks f) = refl
     go _ (tieSet hold asks f) = refl
     go _ (placed jobs asks f) = refl
 
 pub run-tie : (h : Head) (st : State) (es : List Event) → runOf h st es .after .hold ≡ lastTie (st .hold) (runOf h st es .answers)
-unfolding runOf lastTie
-run-tie h st [] = refl
-run-tie h st (e ∷ es) =
-    run-tie h (eventOf h st e .after) es
-    ∙ ap (λ (x : Bool). lastTie x (runOf h (eventOf h st e .after) es .answers)) (event-tie h st e)
-    ∙ sym (lastTie-cons (st .hold) (eventOf h st e .answer) (runOf h (eventOf h st e .after) es .answers))
+run-tie h = run-through h (λ st. st .hold) tieBy (event-tie h)

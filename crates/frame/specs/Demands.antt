@@ -116,21 +116,30 @@ pub record CallAt (es : List Event) (j : ℕ) (jobs : List Job) : Type 0 where
   pub inside : j < length es
   pub asks : asked (eventAt es j) ≡ placeJobs jobs
 
--- "the t of the last accepted clock line, or without one the start's"
-unfoldable pub lastClock : ℕ → List Answer → ℕ
-lastClock c [] = c
-lastClock c (clockNow t ∷ answers) = lastClock t answers
-lastClock c (tieNow hold ∷ answers) = lastClock c answers
-lastClock c (taken n ∷ answers) = lastClock c answers
-lastClock c (refused _ r ∷ answers) = lastClock c answers
+-- what a value becomes by the answers of a list, one after the other
+unfoldable pub through : {A : Type 0} → (A → Answer → A) → A → List Answer → A
+through by a [] = a
+through by a (x ∷ answers) = through by (by a x) answers
+
+-- "the clock is the t of the last accepted clock line, or without one the start's"
+abbrev pub clockBy : ℕ → Answer → ℕ
+clockBy c (clockNow t) = t
+clockBy c (tieNow hold) = c
+clockBy c (taken n) = c
+clockBy c (refused _ r) = c
+
+abbrev pub lastClock : ℕ → List Answer → ℕ
+lastClock c answers = through clockBy c answers
 
 -- "As an event either holds for later calls": the order of the last accepted tie event, or without one the start's
-unfoldable pub lastTie : Bool → List Answer → Bool
-lastTie hold [] = hold
-lastTie hold (clockNow t ∷ answers) = lastTie hold answers
-lastTie hold (tieNow next ∷ answers) = lastTie next answers
-lastTie hold (taken n ∷ answers) = lastTie hold answers
-lastTie hold (refused _ r ∷ answers) = lastTie hold answers
+abbrev pub tieBy : Bool → Answer → Bool
+tieBy hold (clockNow t) = hold
+tieBy hold (tieNow next) = next
+tieBy hold (taken n) = hold
+tieBy hold (refused _ r) = hold
+
+abbrev pub lastTie : Bool → List Answer → Bool
+lastTie hold answers = through tieBy hold answers
 
 -- "all lost cells reported"
 unfoldable pub totalTaken : List Answer → ℕ
