@@ -455,6 +455,10 @@ module _ (ties : Ties) (standing : ℕ → ℕ → Bool) where
         go i (is-true e) = rw e (held-step i s (lt-of i (length c) e))
         go i (is-false e) = rw e (served-past (x s) s before-it i (omega (arith, left-length s, ge-of i (length c) e)))
 
+-- where nobody stands, it is whom the rule chose
+pub held-is : (ties : Ties) (c : List ℕ) (x : ℕ → ℕ) (s : ℕ) → holds (atSlot ties nobody c x s) ≡ holders (length c) (λ j t. lrtf ties nobody c x j t) s
+held-is ties c x = held-by ties nobody c x
+
 -- the rule goes by the free cells of the slots up to the one that it places
 module _ (ties : Ties) (standing : ℕ → ℕ → Bool) (c : List ℕ) (n : ℕ) (x y : ℕ → ℕ) (same : (s : ℕ) → s < n → x s ≡ y s) where
   pub atSlot-ext : (s : ℕ) → s ≤ n → atSlot ties standing c x s ≡ atSlot ties standing c y s
@@ -464,10 +468,6 @@ module _ (ties : Ties) (standing : ℕ → ℕ → Bool) (c : List ℕ) (n : ℕ
 
   pub lrtf-ext : (i s : ℕ) → s < n → lrtf ties standing c x i s ≡ lrtf ties standing c y i s
   lrtf-ext i s l = ap₂ (λ (r : AtSlot) (d : ℕ). chosenAt ties d s r i) (atSlot-ext s (omega arith)) (same s l)
-
--- where nobody stands, it is whom the rule chose
-pub held-is : (ties : Ties) (c : List ℕ) (x : ℕ → ℕ) (s : ℕ) → holds (atSlot ties nobody c x s) ≡ holders (length c) (λ j t. lrtf ties nobody c x j t) s
-held-is ties c x = held-by ties nobody c x
 
 -- the rule's choice in a slot, for the number of jobs that there were at the start
 pub lrtf-step : (ties : Ties) → TotalTies ties → (standing : ℕ → ℕ → Bool) (c : List ℕ) (x : ℕ → ℕ) (s : ℕ) →
