@@ -1,7 +1,7 @@
 -- Under `(tie place)` everything is what it was before there were ties.
 --
 -- In order: the rule under `tiePlace` is document 01's (`left-before`, `lrtf-before`), and so are its tables (`planned-before`, `called-before`); a text without a tie line has a head under place
--- (`head-place`), which is read as it was (`read-before`, `head-before`); an event that is no tie keeps place (`event-place`) and comes to what it came to (`event-before`), and so
+-- (`head-place`), which is read as it was (`read-before`, `forms-before`, `head-before`); an event that is no tie keeps place (`event-place`) and comes to what it came to (`event-before`), and so
 -- does a list of them (`run-before`); a plan, and a whole text (`plan-before`, `whole-before`). Then what is cited: `plan-as-before`, `run-as-before`, `text-as-before`,
 -- `place-as-before`.
 -- Assumes nothing.
@@ -35,7 +35,7 @@ use Rattle.frame.specs.Event.{more as oneMore, runOf}
 use Rattle.frame.specs.Text.{Whole, notRead, ran, startOf, eventsOf, wholeWithPlan, wholeWithHead, wholeOf}
 use Rattle.frame.specs.Demands.{EventIs, stopped, clockSet, tieSet, placed}
 use Rattle.frame.specs.Listing.{listingOf}
-use Rattle.frame.specs.Before.{settle, settled, readBefore, headBefore, chosenBefore, servedBefore, leftBefore, lrtfBefore, plannedBefore, calledBefore, planBefore, carriedBefore, eventBefore, runBefore}
+use Rattle.frame.specs.Before.{ofFive, formBefore, settle, settled, readBefore, headBefore, chosenBefore, servedBefore, leftBefore, lrtfBefore, plannedBefore, calledBefore, planBefore, carriedBefore, eventBefore, runBefore}
 use Rattle.frame.specs.Before.{withPlanBefore, withHeadBefore, wholeBefore, NoTieLine, NoTie}
 use Rattle.frame.proofs.OneEvent.{event-is, asks-tie}
 
@@ -183,9 +183,26 @@ read-before n r (l ∷ ls) p = go (λ f. read-before (suc n) (more r f) ls (λ j
         ∙ ap (pick (isEvent f && begun (settle (r .stage))) (firstOf (causes (settled r) f)))
         (ih f ∙ ap (λ (w : SoFar). readBefore (suc n) w (map form ls)) (same .next-same))
 
+-- lines without a tie line have the forms that they had
+forms-before : (ls : List (List ℕ)) → NoTieLine ls → map form ls ≡ map formBefore ls
+forms-before [] p = refl
+forms-before (l ∷ ls) p =
+    ap (λ (o : Option Form). o ∷ map form ls) (one (form l) (p 0)) ∙ ap (λ (os : List (Option Form)). formBefore l ∷ os) (forms-before ls (λ j. p (suc j)))
+  where
+    one : (o : Option Form) → ((hold : Bool) → o ≡ some (tieLine hold) → ⊥) → o ≡ ofFive o
+    one none q = refl
+    one (some (frameLine s b)) q = refl
+    one (some (busyLine b m)) q = refl
+    one (some (presetLine m)) q = refl
+    one (some (clockLine t)) q = refl
+    one (some (callLine m)) q = refl
+    one (some (tieLine hold)) q = absurd (q hold refl)
+
 head-before : (text : List ℕ) → NoTieLine (lines text) → headOf text ≡ headBefore text
 unfolding headOf headBefore
-head-before text p = ap (cond (ltb mostBytes (length text)) (Reading.refused 0 textTooLong)) (read-before 0 begin (lines text) p)
+head-before text p =
+    ap (cond (ltb mostBytes (length text)) (Reading.refused 0 textTooLong))
+    (read-before 0 begin (lines text) p ∙ ap (readBefore 0 begin) (forms-before (lines text) p))
 
 head-place : (text : List ℕ) → NoTieLine (lines text) → orderOf (headOf text) ≡ false
 unfolding headOf

@@ -4,18 +4,20 @@
 -- In order: texts: lines after an event, the limits of a clock and of a call at both edges, the causes of a head and of an event two at a time, the order of
 -- loss (`texts-list`); events on a lent table, by the listed order 8, 2, 11, 1, 3, 2, 4, 9, 6, 7 (`events-answered`), and with preset records
 -- (`records-answered`); the order of ties that is lent, met and left (`orders-met`, `orders-left`); what a list handed over may start from (`starts-pass`); the moments of a list
--- (`between-ends`); a text beside short lent things (`texts-end`), and a text of events (`events-end`); the entries that write lines (`lines-answered`).
+-- (`between-ends`); the planner before there were ties (`before-listed`, `no-tie-met`); a text beside short lent things (`texts-end`), and a text of events (`events-end`); the entries that write lines (`lines-answered`).
 -- Assumes nothing.
-use Prim.Native.Nat.{ℕ}
-use mathlib.Core.Path.{_≡_, refl}
+use Prim.Native.Nat.{ℕ, zero, suc}
+use mathlib.Core.Path.{_≡_, refl, sym, _∙_, ap}
 use mathlib.Core.Bool.{Bool, true, false}
 use mathlib.Core.Option.{none, some}
 use mathlib.Core.List.{List, [], _∷_, _++_, map}
 use native.Mathlib.Omega.{arith}
 use lib.ListN.{length, take, replicate}
+use Rattle.laws.proofs.Tests.{clash, none-some}
 use Rattle.station.specs.Head.{Head, Job}
 use Rattle.station.specs.Refusal.{noForm, outOfLimits, outOfPlace, numberUsed, clockBack, callNotFeasible, tooShort, tooMany, textTooLong, notWellFormed}
-use Rattle.station.specs.Text.{bytes}
+use Rattle.station.specs.Text.{bytes, lines}
+use Rattle.station.specs.Form.{Form, tieLine, isTie}
 use Rattle.station.specs.Wrote.{moved}
 use Rattle.station.specs.WriteHead as write
 use Rattle.station.specs.declared.types.Head as record-of-head
@@ -32,6 +34,7 @@ use Rattle.frame.specs.TextDone.{wholeWithOutput, listed, refusedAt, hol
 use Rattle.frame.specs.TextEntry.{wholeOnSlice}
 use Rattle.frame.specs.EventsDone.{EventsOutcome, eventsMeant}
 use Rattle.frame.specs.Listing.{listingOf}
+use Rattle.frame.specs.Before.{readBefore, headBefore, servedBefore, leftBefore, planBefore, carriedBefore, eventBefore, runBefore, withPlanBefore, withHeadBefore, wholeBefore, NoTieLine}
 use Rattle.frame.specs.declared.types.Answer.the-variants as reply
 use Rattle.frame.specs.WriteListing.{listingCause, listingMeant}
 use Rattle.frame.specs.WroteLine.{lineWritten, answerWritten, grantWritten, slotWritten}
@@ -198,6 +201,29 @@ starts-pass = (refl, refl, λ p. p, λ p. p)
 -- Of any two moments of a list the one may be its start and the other its end.
 pub between-ends : (es : List Event) (P : ℕ → ℕ → Type 0) → Between es P → P 0 (length es)
 between-ends es P all = all 0 (length es) (omega arith) (omega arith)
+
+-- ---- the planner before there were ties
+
+-- As document 01 has it: a tie line is none of the five forms, in a head and after one; of equal ones the earlier line goes first, in a plan and in a call.
+pub before-listed : (listingOf (wholeBefore (bytes "(frame 1 1)\n(tie hold)\n") blank) ≡ bytes "(refused 2 1)\n")
+    × (listingOf (wholeBefore (bytes "(frame 1 1)\n(clock 1)\n(tie hold)\n") blank) ≡ bytes "(now 1)\n(refused 3 1)\n(slot 1 0)\n")
+    × (listingOf (wholeBefore (bytes "(frame 6 1)\n(preset 1 0 1 0)\n(preset 2 0 2 0)\n(call (5 1) (6 2))\n") blank)
+    ≡ bytes "(granted 1 0)\n(granted 2 0)\n(taken 0)\n(slot 1 m2)\n(slot 2 m1)\n(slot 3 m2)\n(slot 4 c6)\n(slot 5 c5)\n(slot 6 c6)\n")
+unfolding lists readBefore headBefore servedBefore leftBefore planBefore carriedBefore eventBefore runBefore withPlanBefore withHeadBefore wholeBefore
+before-listed = (refl, refl, refl)
+
+-- What `place-as-before` asks of a text can be met, and a text with a tie line does not meet it.
+pub no-tie-met : NoTieLine (lines (bytes "(frame 1 1)\n(clock 1)\n")) × (NoTieLine (lines (bytes "(frame 1 1)\n(tie hold)\n")) → ⊥)
+unfolding lists
+no-tie-met = (met, λ p. p 1 true refl)
+  where
+    other : {f : Form} {hold : Bool} → isTie f ≡ false → some f ≡ some (tieLine hold) → ⊥
+    other {f} {hold} e q = let same : f ≡ tieLine hold = cc in clash (sym (ap isTie same) ∙ e)
+
+    met : NoTieLine (lines (bytes "(frame 1 1)\n(clock 1)\n"))
+    met zero hold q = other refl q
+    met (suc zero) hold q = other refl q
+    met (suc (suc j)) hold q = absurd (none-some q)
 
 -- ---- a text beside lent things that are too short: 10, then 8, then the head's
 

@@ -1,7 +1,7 @@
 -- The planner as document 01 had it, before there were ties: how a head was read, the rule, a plan, an event, a list of events and a whole text. proofs/AsBefore.antt shows that
 -- without a tie, and from `(tie place)` on, this is what the definitions with an order of ties come to. Document 02, 2026-02: "`(tie place)` brings back the old order".
 --
--- In order: how a head was read (`headBefore`); document 01's rule (`leftBefore`, `lrtfBefore`), and the tables that it makes (`plannedBefore`, `calledBefore`); a plan, an event, a
+-- In order: the five forms (`formBefore`), and how a head was read (`headBefore`); document 01's rule (`leftBefore`, `lrtfBefore`), and the tables that it makes (`plannedBefore`, `calledBefore`); a plan, an event, a
 -- list of events and a whole text with them (`planBefore`, `eventBefore`, `runBefore`, `wholeBefore`); a text and a list of events without a tie (`NoTieLine`, `NoTie`). What no order
 -- of ties enters (the forms and causes of lines, grants, costs and lost cells, the listing) is that of the other files.
 -- Assumes nothing.
@@ -19,7 +19,7 @@ use Rattle.station.specs.Limits.{mostBytes, leastCells}
 use Rattle.station.specs.Head.{Head, Job, presetAt}
 use Rattle.station.specs.Refusal.{noForm, outOfPlace, tooShort, textTooLong, try, firstOf}
 use Rattle.station.specs.Text.{lines}
-use Rattle.station.specs.Form.{Form, tieLine, isEvent, form}
+use Rattle.station.specs.Form.{Form, frameLine, busyLine, presetLine, clockLine, callLine, tieLine, isEvent, form}
 use Rattle.station.specs.Reading.{Stage, atFrame, atTie, atBusy, atPresets, begun, SoFar, begin, causes, more, unless, Reading}
 use Rattle.placing.specs.Table.{Cells, cell, numberAt, mandatoryCell, optionalCell, busyCell, callCell}
 use Rattle.placing.specs.Valid.{jobAt}
@@ -31,6 +31,19 @@ use Rattle.frame.specs.Event.{Event, Asked, setClock, setTie, placeJobs,
 use Rattle.frame.specs.Event.{Run, more as oneMore}
 use Rattle.frame.specs.Text.{Whole, notRead, notPlanned, ran, startOf, eventsOf}
 use Rattle.frame.specs.Demands.{eventAt}
+
+-- the form of a line: "one of the five forms", of which a tie line was none
+abbrev pub ofFive : Option Form → Option Form
+ofFive none = none
+ofFive (some (frameLine s b)) = some (frameLine s b)
+ofFive (some (busyLine b p)) = some (busyLine b p)
+ofFive (some (presetLine p)) = some (presetLine p)
+ofFive (some (clockLine t)) = some (clockLine t)
+ofFive (some (callLine p)) = some (callLine p)
+ofFive (some (tieLine hold)) = none
+
+abbrev pub formBefore : List ℕ → Option Form
+formBefore l = ofFive (form l)
 
 -- how a head was read: after the frame line come the busy lines, and any event's form ends it
 abbrev pub settle : Stage → Stage
@@ -49,7 +62,7 @@ readBefore n r (some f ∷ ls) =
     cond (isEvent f && begun (r .stage)) (Reading.accepted (r .head) n) (unless (firstOf (causes r f)) (suc n) (readBefore (suc n) (settled (more r f)) ls))
 
 unfoldable pub headBefore : List ℕ → Reading
-headBefore t = cond (ltb mostBytes (length t)) (Reading.refused 0 textTooLong) (readBefore 0 begin (map form (lines t)))
+headBefore t = cond (ltb mostBytes (length t)) (Reading.refused 0 textTooLong) (readBefore 0 begin (map formBefore (lines t)))
 
 -- "as many presets as there are free bridges, those with the most slots still to get, never one with none left. Equal ones: the earlier line first"
 abbrev pub chosenBefore : ℕ → (ℕ → ℕ) → ℕ → ℕ → Bool

@@ -32,7 +32,7 @@ use Rattle.frame.specs.Event.{ownCauses, carriedOut, comesTo, runOf}
 use Rattle.frame.specs.EventDone.{eventMeant}
 use Rattle.frame.specs.Text.{notRead, wholeWithPlan, wholeWithHead, wholeOf}
 use Rattle.frame.specs.TextDone.{wholeWithOutput, listed, refusedAt}
-use Rattle.planner.specs.Layout.{firstRecords, recordsIn, bytesOf, bytesOver, headTie, tieInForce, headOfNumbers, clockOfNumbers, holdOfNumbers, headOver, tieOver, numbersOver, clockOver, masksOver}
+use Rattle.planner.specs.Layout.{firstRecords, recordsIn, bytesOf, bytesOver, headTie, tieInForce, headOfNumbers, clockOfNumbers, holdOfNumbers, headOver, tieOver, numbersOver, clockOver, started, masksOver}
 use Rattle.planner.specs.Exports.{frameAfter, endReturned, answerReturned, planReturned, writtenReturned, rowsReturned, textOn, eventOn, planOn, rowsOn, rowsFrame, rowsWriteCauses}
 
 -- preset 7 of priority 3 with 5 mandatory and 9 optional slots, and preset 255 of priority 9 with 64 and 0
@@ -77,7 +77,9 @@ pub ties-laid-out : (tieOver tieInForce true (ending 0 7) ≡ ending 0 7)
     × (tieOver headTie true (ending 0 7) ≡ ending 1 7)
     × (tieOver headTie false (ending 0 7) ≡ ending 0 7)
     × (tieOver headTie true twelve ≡ twelve)
-ties-laid-out = (refl, refl, refl, refl, refl)
+    -- the start's: the first clock, and in force the very number that the head has
+    × (started (ending 7 0) ≡ clockOver 1 (ending 7 7))
+ties-laid-out = (refl, refl, refl, refl, refl, refl)
 
 -- one slot, one bridge, no preset, with the clock 4, which 11 refuses
 abbrev late : List ℕ
