@@ -22,15 +22,18 @@
 #include <stdint.h>
 
 /*
- * The version of the layout below and of what the numbers mean. Whoever stores a frame stores this beside it, and restores no frame of another version as it stands. Version 1 had 12
- * numbers in a frame. Version 2 had no orders of ties: with PLANNER_TIE_PLACE at PLANNER_FRAME_TIE and at PLANNER_FRAME_TIE_NOW its frame is one of this version. Later versions
- * have wider cells (with the place of each cell in its preset or job), another range of the clock (from 0) and something to say in the reserved numbers of a frame.
+ * The version of the layout below and of what the numbers mean. Whoever stores a frame stores this beside it, and restores a frame of another version only as is said here. Version 3 had no
+ * supply, and did not look at the number at PLANNER_FRAME_SUPPLY. A frame that it stored has 0 there, as its header asked, which now says that there is no supply line: such a frame is one of
+ * this version as it stands. Version 2 had no orders of ties either: with PLANNER_TIE_PLACE at PLANNER_FRAME_TIE and at PLANNER_FRAME_TIE_NOW, and 0 at PLANNER_FRAME_SUPPLY, its frame is one of this
+ * version. Version 1 had 12 numbers in a frame; its frames are not restored. No older version may go on with a frame of this one that has a supply, since it would plan past it. Later versions have
+ * wider cells (with the place of each cell in its preset or job), another range of the clock (from 0) and something to say in the reserved number of a frame.
  */
-#define PLANNER_VERSION 3
+#define PLANNER_VERSION 4
 
 /* How many there are at most. */
 #define PLANNER_MAX_SLOTS 64
 #define PLANNER_MAX_BRIDGES 8
+#define PLANNER_MAX_MOTORS 8 /* that a supply feeds in a slot */
 #define PLANNER_MAX_PRESETS 32
 #define PLANNER_MAX_CALL_JOBS 8 /* in one call */
 #define PLANNER_MAX_JOBS 64     /* in a frame */
@@ -56,10 +59,11 @@
  */
 enum planner_cause {
     PLANNER_ACCEPTED = 0,
-    PLANNER_NO_FORM = 1,              /* a line that is not one of the six forms, or lacks its end */
-    PLANNER_OUT_OF_LIMITS = 2,        /* a value or busy stretch outside its limits, in a row outside the frame; a ninth job in a call; a clock below 1 or above S + 1;
-                                       * a head that no text yields */
-    PLANNER_OUT_OF_PLACE = 3,         /* a form out of its place, (tie place) directly after the frame line among them; no frame on line 1 */
+    PLANNER_NO_FORM = 1,              /* a line that is not one of the seven forms, or lacks its end */
+    PLANNER_OUT_OF_LIMITS = 2,        /* a value or busy stretch outside its limits, in a row outside the frame; a supply line, in its place, whose number is not 1 to 8; a
+                                       * ninth job in a call; a clock below 1 or above S + 1; a head that no text yields, as one with a supply above 8 */
+    PLANNER_OUT_OF_PLACE = 3,         /* a form out of its place, among them a supply line anywhere but directly after the frame line, whatever its number, and (tie place)
+                                       * directly after the frame line or its supply line; no frame on line 1 */
     PLANNER_NUMBER_USED = 4,          /* a number already used, or twice in a call */
     PLANNER_REQUIRED_DO_NOT_FIT = 5,  /* the required slots do not fit */
     PLANNER_CLOCK_BACK = 6,           /* a clock below the present one */
@@ -67,7 +71,8 @@ enum planner_cause {
     PLANNER_TOO_SHORT = 8,            /* frame, presets, table, output or grants shorter than they have to be */
     PLANNER_TOO_MANY = 9,             /* 33rd preset or 65th job */
     PLANNER_TEXT_TOO_LONG = 10,       /* text above 32,768 bytes */
-    PLANNER_NOT_SOUND = 11,           /* a table that is not sound, or a clock in the frame outside 1 to S + 1 */
+    PLANNER_NOT_SOUND = 11,           /* a table that is not sound, as one is not that holds more cells of a slot for presets and calls than the supply feeds; or a clock in
+                                       * the frame outside 1 to S + 1 */
     PLANNER_NO_ROW = 12               /* a row that is not three decimal fields with CR LF */
 };
 
@@ -80,16 +85,21 @@ enum planner_frame_place {
     PLANNER_FRAME_BUSY = 4,    /* the busy slots of bridge 1 as a mask, slot 1 being the lowest bit; those of bridges 2 to 8 follow */
 
     /*
-     * Reserved for requests to come, with PLANNER_FRAME_JOBS below. This version does not look at these two: whatever stands there, every answer is the same. planner_run_text leaves 0
-     * there where the text ran, and nothing else writes there; a frame that a program makes itself has 0 there too if it is to be stored.
+     * The head's supply: how many motors it feeds in a slot, the k of the line (supply k), from 1 to PLANNER_MAX_MOTORS; 0 where the head has no such line, and then there is no cap. Each cell
+     * of a preset or a call draws one motor, a busy or empty cell none. A number that is not below that of the bridges changes nothing, and is kept. One above PLANNER_MAX_MOTORS makes
+     * a head that no text yields: 2, in every function that is handed a frame but planner_run_text, which writes the number and does not look at it.
      */
-    PLANNER_FRAME_SUPPLY = 12, /* how many motors the supply feeds at a time (request 2026-03) */
+    PLANNER_FRAME_SUPPLY = 12,
 
     /* Two orders of ties, each one of enum planner_tie: who goes first among presets or jobs that have the same number of slots still to get. */
-    PLANNER_FRAME_TIE = 13,     /* the head's, by which planner_plan plans: PLANNER_TIE_HOLD where (tie hold) stands directly after the frame line */
+    PLANNER_FRAME_TIE = 13,     /* the head's, by which planner_plan plans: PLANNER_TIE_HOLD where (tie hold) stands directly after the frame line or its supply line */
     PLANNER_FRAME_TIE_NOW = 14, /* the one in force, by which the next call is placed; at the start the head's */
 
-    PLANNER_FRAME_JOBS = 15 /* reserved: how many jobs were admitted (request 2026-06) */
+    /*
+     * Reserved for a request to come: how many jobs were admitted (2026-06). This version does not look at it: whatever stands there, every answer is the same. planner_run_text leaves 0
+     * there where the text ran, and nothing else writes there; a frame that a program makes itself has 0 there too if it is to be stored.
+     */
+    PLANNER_FRAME_JOBS = 15
 };
 
 /*
@@ -137,12 +147,12 @@ extern "C" {
  * Causes: 10; 8 of the frame, the presets, the output and the table; those of the head's lines, of which the first line at fault decides: 1, 3, 2, 4, 9; 5.
  *
  * 0: the listing stands at the start of the output, as far as it has room for it; bytes past it are as they were. *end is the smaller of out_len and the number of the listing's bytes: below
- * out_len the listing is whole; equal to it, the listing may have been cut, unless out_len is PLANNER_LISTING_BYTES or more, when no listing is. The frame has the head, the
- * clock and the order of ties in force that the text left, and 0 for its reserved numbers, the presets its records, the table its cells: a running frame for planner_event,
- * also where the listing was cut. Records past the last preset are as they were. A line after the head that is refused has its line in the listing, changes nothing, and does
+ * out_len the listing is whole; equal to it, the listing may have been cut, unless out_len is PLANNER_LISTING_BYTES or more, when no listing is. The frame has the head, its
+ * supply included, the clock and the order of ties in force that the text left, and 0 for its reserved number, the presets its records, the table its cells: a running frame for
+ * planner_event, also where the listing was cut. Records past the last preset are as they were. A line after the head that is refused has its line in the listing, changes nothing, and does
  * not end the text.
- * Else *end is the line at fault, 0 for 10 and 8, and nothing else changes; but 5 (its line is the last of the head) leaves the head in the frame and its
- * records in the presets, and clock, order of ties in force, reserved numbers, table and output as they were.
+ * Else *end is the line at fault, 0 for 10 and 8, and nothing else changes; but 5 (its line is the last of the head) leaves the head, its supply included, in the frame and its
+ * records in the presets, and clock, order of ties in force, reserved number, table and output as they were.
  */
 uint32_t planner_run_text(const uint8_t *text, size_t text_len,
                           uint64_t *frame, size_t frame_len,
@@ -159,7 +169,8 @@ uint32_t planner_run_text(const uint8_t *text, size_t text_len,
  *
  * 0: the clock in the frame, the order of ties in force, or the table, is the new one, and *number is the clock t (of a clock), PLANNER_TIE_HOLD or PLANNER_TIE_PLACE (of a tie),
  * or how many refinement cells were lost (of a call). A call is placed by the order in force; on this frame it would cost the same under the other. No other place of the call
- * loses fewer, in all or among the presets of any one priority and better. A running frame stays one, so that 11 is never met after it.
+ * loses fewer, in all or among the presets of any one priority and better. Under a supply a lost cell may end empty while a job takes another bridge of its slot; it is lost and counted all
+ * the same. (No frame is known where that happens in a table that this library planned and calls then changed; it is not proved.) A running frame stays one, so that 11 is never met after it.
  * Else *number is 0, and nothing else changes.
  */
 uint32_t planner_event(uint64_t *frame, size_t frame_len,
@@ -169,7 +180,7 @@ uint32_t planner_event(uint64_t *frame, size_t frame_len,
                        uint64_t *number);
 
 /*
- * Plans a fresh frame, by the head's order of ties. The clock and the order in force are not looked at. With frame[PLANNER_FRAME_CLOCK] = 1 and
+ * Plans a fresh frame, within the head's supply and by its order of ties. The clock and the order in force are not looked at. With frame[PLANNER_FRAME_CLOCK] = 1 and
  * frame[PLANNER_FRAME_TIE_NOW] = frame[PLANNER_FRAME_TIE], frame, presets and the table that is left are a running frame for planner_event, as planner_run_text would start it.
  *
  * Causes: 8 of the frame, the presets, the grants and the table; 2 of the head; 5. It is 5 exactly when no valid plan exists.

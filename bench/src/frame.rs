@@ -1,13 +1,13 @@
 //! A planned frame: its table, its clock, its order of ties, and the events that it takes.
 //!
-//! Beside the table it keeps what a call asks for: the empty bridges of each slot, their numbers as a supply, and
-//! the optional cells of each preset. A refused event changes nothing.
+//! Beside the table it keeps what a call asks for: the empty bridges of each slot and the cells held there, which with the
+//! supply say how many bridges the slot offers, and the optional cells of each preset. A refused event changes nothing.
 
 mod resume;
 
 use crate::bits::{columns, ones, Numbers};
 use crate::head::{Head, Preset, BRIDGES, PRESETS, SLOTS};
-use crate::placing::{evict, grants, Evicted, Lrtf, Supply};
+use crate::placing::{evict, grants, Evicted, Lrtf, Offers};
 use crate::refusal::Refusal;
 use crate::text::{Call, Form};
 
@@ -19,9 +19,9 @@ pub type Table = [u16; CELLS];
 
 const EMPTY: u16 = 0;
 const BUSY: u16 = 1 << 8;
-const MANDATORY: u16 = 2 << 8;
-const OPTIONAL: u16 = 3 << 8;
-const CALL: u16 = 4 << 8;
+pub const MANDATORY: u16 = 2 << 8;
+pub const OPTIONAL: u16 = 3 << 8;
+pub const CALL: u16 = 4 << 8;
 
 /// What an accepted event answers.
 #[derive(Clone, Copy, Debug, PartialEq, Eq)]
@@ -44,9 +44,14 @@ pub struct Frame {
     /// Whether the order of ties in force is hold.
     hold: bool,
     table: Table,
-    /// The empty bridges of each slot.
+    /// How many motors may run in a slot.
+    motors: u32,
+    /// How many run in each slot: one for each cell of presets and calls. Busy cells draw nothing.
+    held: [u8; SLOTS],
+    /// The empty bridges of each slot; where motors are short, more than it offers.
     empty: [u8; SLOTS],
-    supply: Supply,
+    /// What [`Frame::free`] says of each slot.
+    offers: Offers,
     /// The slots of each preset's optional cells.
     optional: [u64; PRESETS],
     /// The numbers of presets and jobs.
@@ -59,7 +64,7 @@ impl Frame {
     /// Refused: the mandatory slots are not feasible.
     pub fn plan(head: &Head) -> Result<(Self, [u8; PRESETS]), Refusal> {
         let mut frame = Frame::unplanned(head);
-        let grants = grants(head, &frame.ranking, &frame.supply).ok_or(Refusal::HeadInfeasible)?;
+        let grants = grants(head, &frame.ranking, &frame.offers).ok_or(Refusal::HeadInfeasible)?;
         frame.place_presets(&grants);
         Ok((frame, grants))
     }
@@ -95,7 +100,7 @@ impl Frame {
                 self.hold = hold;
                 Ok(Answer::Tie { hold })
             }
-            Form::Frame { .. } | Form::Busy { .. } | Form::Preset { .. } => Err(Refusal::Misplaced),
+            Form::Frame { .. } | Form::Supply(_) | Form::Busy { .. } | Form::Preset { .. } => Err(Refusal::Misplaced),
         }
     }
 
@@ -133,8 +138,9 @@ impl Frame {
     /// The head's frame before anything is placed.
     fn unplanned(head: &Head) -> Self {
         let free = head.free();
-        let mut supply = Supply::default();
-        free.iter().for_each(|&slots| supply.add(slots));
+        let mut offers = Offers::default();
+        free.iter().for_each(|&slots| offers.add(slots));
+        offers.cap(head.motors());
         let mut frame = Frame {
             slots: head.slots,
             bridges: head.bridges,
@@ -143,8 +149,10 @@ impl Frame {
             clock: 1,
             hold: head.hold,
             table: [EMPTY; CELLS],
+            motors: head.motors() as u32,
+            held: [0; SLOTS],
             empty: columns(&free),
-            supply,
+            offers,
             optional: [0; PRESETS],
             used: head.used,
             jobs: 0,
@@ -160,11 +168,11 @@ impl Frame {
         let mut lrtf = Lrtf::new(needs, self.hold);
         let mut mandatory: [u8; PRESETS] = [0; PRESETS];
         mandatory.iter_mut().zip(&self.presets).for_each(|(left, preset)| *left = preset.mandatory);
-        for slot in ones(self.supply.at_least(1)) {
+        for slot in ones(self.offers.at_least(1)) {
             if lrtf.finished() {
                 break;
             }
-            let chosen = lrtf.choose(slot, self.empty[slot].count_ones());
+            let chosen = lrtf.choose(slot, self.free(slot));
             let presets = &self.presets;
             let optional = &mut self.optional;
             fill(&mut self.table[slot * self.bridges..], &mut self.empty[slot], chosen, |place| {
@@ -176,15 +184,26 @@ impl Frame {
                 optional[place] |= 1 << slot;
                 OPTIONAL + number
             });
-            self.supply.set(slot, self.empty[slot].count_ones());
+            self.occupy(slot, chosen.count_ones());
         }
+    }
+
+    /// How many more presets or jobs a slot takes: each needs an empty bridge and a motor.
+    fn free(&self, slot: usize) -> u32 {
+        self.empty[slot].count_ones().min(self.motors - u32::from(self.held[slot]))
+    }
+
+    /// So many empty bridges of a slot have just been taken.
+    fn occupy(&mut self, slot: usize, count: u32) {
+        self.held[slot] += count as u8;
+        self.offers.set(slot, self.free(slot));
     }
 
     /// The cells that jobs of these lengths evict, if the call is feasible.
     fn evicted(&self, lengths: &[u8]) -> Option<Evicted> {
         let ahead = self.ahead();
         let optional = self.optional.map(|slots| slots & ahead);
-        evict(lengths, self.supply.only_in(ahead), &optional, &self.ranking)
+        evict(lengths, self.offers.only_in(ahead), &optional, &self.ranking)
     }
 
     /// The slots from the clock on.
@@ -198,7 +217,8 @@ impl Frame {
         let mut count = 0;
         for (place, &slots) in evicted.iter().enumerate().take(self.presets.len()) {
             self.optional[place] &= !slots;
-            self.supply.add(slots);
+            // An evicted cell leaves an empty bridge and a motor, so its slot offers one more under any supply.
+            self.offers.add(slots);
             count += slots.count_ones();
             for slot in ones(slots) {
                 self.clear_cell(slot, OPTIONAL + u16::from(self.presets[place].number));
@@ -212,20 +232,21 @@ impl Frame {
         if let Some(bridge) = row.iter().position(|&cell| cell == content) {
             row[bridge] = EMPTY;
             self.empty[slot] |= 1 << bridge;
+            self.held[slot] -= 1;
         }
     }
 
     fn place_jobs(&mut self, call: &Call) {
         let mut lrtf = Lrtf::new(call.jobs().iter().map(|job| job.length), self.hold);
-        for slot in ones(self.supply.at_least(1) & self.ahead()) {
+        for slot in ones(self.offers.at_least(1) & self.ahead()) {
             if lrtf.finished() {
                 break;
             }
-            let chosen = lrtf.choose(slot, self.empty[slot].count_ones());
+            let chosen = lrtf.choose(slot, self.free(slot));
             fill(&mut self.table[slot * self.bridges..], &mut self.empty[slot], chosen, |job| {
                 CALL + u16::from(call.jobs()[job].number)
             });
-            self.supply.set(slot, self.empty[slot].count_ones());
+            self.occupy(slot, chosen.count_ones());
         }
     }
 }

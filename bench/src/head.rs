@@ -1,4 +1,5 @@
-//! The head of a text: the frame, its order of ties, the busy stretches and the presets. The first line at fault decides.
+//! The head of a text: the frame, its supply, its order of ties, the busy stretches and the presets. The first line at fault
+//! decides.
 
 use std::iter::Peekable;
 
@@ -23,7 +24,9 @@ pub struct Preset {
 pub struct Head {
     pub slots: usize,
     pub bridges: usize,
-    /// Whether `(tie hold)` stands directly after the frame line.
+    /// How many motors the supply feeds at a time, from 1 to 8; none without a supply line. It may exceed the bridges.
+    pub supply: Option<u8>,
+    /// Whether `(tie hold)` stands directly after the frame line, or after the supply line there.
     pub hold: bool,
     /// For each bridge its busy slots, bit s - 1 for slot s.
     pub busy: [u64; BRIDGES],
@@ -35,17 +38,23 @@ pub struct Head {
     pub lines: u32,
 }
 
-/// Reads the head and leaves `lines` at the first line that has an event's form, a tie line directly after the frame
-/// line aside. Refused: the line and the cause.
+/// Reads the head and leaves `lines` at the first line that has an event's form, a tie line in the head's place for it
+/// aside. Refused: the line and the cause.
 pub fn read(lines: &mut Peekable<Lines<'_>>) -> Result<Head, (u32, Refusal)> {
     // Without any line, and with an event on line 1, the frame is missing on line 1.
     let first = lines.next().ok_or((1, Refusal::Misplaced))?;
     let mut reader = Reader::new(first).map_err(|refusal| (1, refusal))?;
+    let mut admit = |line: Line| reader.admit(line).map_err(|refusal| (line.number, refusal));
+    // A supply line has its place right after the frame line, the head's tie line right after both. A later tie line is an
+    // event and ends the head.
+    if let Some(line) = lines.next_if(|line| matches!(line.form, Some(Form::Supply(_)))) {
+        admit(line)?;
+    }
     if let Some(line) = lines.next_if(|line| matches!(line.form, Some(Form::Tie { .. }))) {
-        reader.admit(line).map_err(|refusal| (line.number, refusal))?;
+        admit(line)?;
     }
     while let Some(line) = lines.next_if(|line| !line.form.is_some_and(|form| form.is_event())) {
-        reader.admit(line).map_err(|refusal| (line.number, refusal))?;
+        admit(line)?;
     }
     Ok(reader.head)
 }
@@ -66,8 +75,8 @@ impl Reader {
             return Err(Refusal::OutOfLimits);
         }
         let presets = Vec::with_capacity(PRESETS);
-        let (hold, busy) = (false, [0; BRIDGES]);
-        let head = Head { slots, bridges, hold, busy, presets, used: Numbers::default(), lines: 1 };
+        let (supply, hold, busy) = (None, false, [0; BRIDGES]);
+        let head = Head { slots, bridges, supply, hold, busy, presets, used: Numbers::default(), lines: 1 };
         Ok(Reader { head, last_bridge: 0 })
     }
 
@@ -78,13 +87,27 @@ impl Reader {
             Form::Preset { number, priority, mandatory, optional } => {
                 self.preset(number, priority, mandatory, optional)
             }
+            Form::Supply(motors) => self.supply(line.number, motors),
             Form::Tie { hold } => self.tie(hold),
             Form::Frame { .. } | Form::Clock(_) | Form::Call(_) => Err(Refusal::Misplaced),
         }
     }
 
-    /// Directly after the frame line; elsewhere a tie line ends the head. A head without one has the order by place,
-    /// so a second way to write that has no place.
+    /// Its one place is line 2, directly after the frame line.
+    fn supply(&mut self, line: u32, motors: u16) -> Result<(), Refusal> {
+        if line != 2 {
+            return Err(Refusal::Misplaced);
+        }
+        // More motors than bridges are within limits: such a supply caps nothing, and is kept for the head's text.
+        if !(1..=BRIDGES).contains(&usize::from(motors)) {
+            return Err(Refusal::OutOfLimits);
+        }
+        self.head.supply = Some(motors as u8);
+        Ok(())
+    }
+
+    /// Directly after the frame line or the supply line; elsewhere a tie line ends the head. A head without one has the
+    /// order by place, so a second way to write that has no place.
     fn tie(&mut self, hold: bool) -> Result<(), Refusal> {
         if !hold {
             return Err(Refusal::Misplaced);
@@ -137,9 +160,15 @@ impl Head {
 
     /// Puts these busy slots, all of them the frame's, in place of those that it has.
     pub fn set_busy(&mut self, busy: [u64; BRIDGES]) {
-        let lines = busy.iter().filter(|&&slots| slots != 0).count() + usize::from(self.hold);
+        let before = 1 + usize::from(self.supply.is_some()) + usize::from(self.hold);
+        let lines = busy.iter().filter(|&&slots| slots != 0).count();
         self.busy = busy;
-        self.lines = (1 + lines + self.presets.len()) as u32;
+        self.lines = (before + lines + self.presets.len()) as u32;
+    }
+
+    /// How many motors may run at a time: one for each bridge, or what the supply feeds if that is less.
+    pub fn motors(&self) -> usize {
+        self.supply.map_or(self.bridges, |supply| self.bridges.min(usize::from(supply)))
     }
 
     /// For each bridge its free slots; none for bridges that the frame does not have.

@@ -15,6 +15,9 @@ pub const OUT: usize = 8_192;
 /// Where the busy slots of bridge 1 stand among a frame's numbers; those of the others follow.
 pub const BUSY: usize = 4;
 
+/// Where the head's supply stands among them: how many motors it feeds at a time, 0 without a supply line.
+pub const SUPPLY: usize = 12;
+
 /// Where the head's order of ties and the one in force stand among them: 0 is place, any other number hold.
 pub const TIE: usize = 13;
 pub const TIE_NOW: usize = 14;
@@ -31,6 +34,7 @@ impl Lent {
         let mut frame = vec![0; FRAME];
         frame[..BUSY].copy_from_slice(&[head.slots as u64, head.bridges as u64, head.presets.len() as u64, 1]);
         frame[BUSY..][..BRIDGES].copy_from_slice(&head.busy);
+        frame[SUPPLY] = u64::from(head.supply.unwrap_or(0));
         (frame[TIE], frame[TIE_NOW]) = (u64::from(head.hold), u64::from(head.hold));
         let mut presets = vec![0; PRESET_BYTES];
         for (record, preset) in presets.chunks_exact_mut(4).zip(&head.presets) {
@@ -79,8 +83,9 @@ impl Lent {
         let records = self.presets.chunks_exact(4).take(count);
         let presets =
             records.map(|r| Preset { number: r[0], priority: r[1], mandatory: r[2], optional: r[3] }).collect();
+        let supply = Some(within(SUPPLY, 255)? as u8).filter(|&motors| motors > 0);
         let hold = self.frame[TIE] != 0;
-        let written = Head { slots, bridges, hold, busy, presets, used: Numbers::default(), lines: 0 };
+        let written = Head { slots, bridges, supply, hold, busy, presets, used: Numbers::default(), lines: 0 };
         let mut text = Vec::new();
         Listing { out: &mut text }.head(&written);
         head::read(&mut lines(&text)).ok()

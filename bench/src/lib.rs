@@ -13,10 +13,12 @@
 //! - [`planner`]: all of it, from a text to its listing;
 //! - [`rows`]: a head's busy stretches as rows of a spreadsheet, and [`lent`], the same over lent records.
 //!
-//! Beside them: [`texts`] makes station texts and rows by seed, [`proved`] calls the proved planner, [`loads`] holds the
-//! benchmark's inputs and [`sides`] gives both planners one shape for it.
+//! Beside them: [`texts`] makes station texts, rows and tables by seed, [`cap`] tells what a text's supply changes,
+//! [`proved`] calls the proved planner, [`loads`] holds the benchmark's inputs and [`sides`] gives both planners one shape
+//! for it.
 
 pub mod bits;
+pub mod cap;
 pub mod frame;
 pub mod head;
 pub mod lent;

@@ -39,6 +39,9 @@ impl Listing<'_> {
     /// A head's one text.
     pub fn head(&mut self, head: &Head) {
         self.form(b"(frame ", &[head.slots as u32, head.bridges as u32]);
+        if let Some(motors) = head.supply {
+            self.form(b"(supply ", &[u32::from(motors)]);
+        }
         if head.hold {
             self.tie(true);
         }

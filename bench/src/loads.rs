@@ -102,8 +102,17 @@ pub fn equal_presets() -> Vec<u8> {
 
 /// The same head with `(tie hold)` directly after its frame line.
 pub fn held(head: Vec<u8>) -> Vec<u8> {
+    after_frame(head, "(tie hold)\n")
+}
+
+/// The same head under a supply of so many motors.
+pub fn supplied(head: Vec<u8>, motors: usize) -> Vec<u8> {
+    after_frame(head, &format!("(supply {motors})\n"))
+}
+
+fn after_frame(head: Vec<u8>, line: &str) -> Vec<u8> {
     let frame = head.iter().position(|&byte| byte == b'\n').expect("a frame line") + 1;
-    [&head[..frame], b"(tie hold)\n", &head[frame..]].concat()
+    [&head[..frame], line.as_bytes(), &head[frame..]].concat()
 }
 
 /// 56 slots at the end of 64 in which `bridges` bridges hold nothing but optional cells, of so many presets; all else

@@ -7,9 +7,9 @@
 mod evict;
 mod grants;
 mod lrtf;
-mod supply;
+mod offers;
 
 pub use evict::{evict, Evicted};
 pub use grants::grants;
 pub use lrtf::Lrtf;
-pub use supply::{Capacities, Supply};
+pub use offers::{Capacities, Offers};

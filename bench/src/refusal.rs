@@ -2,7 +2,7 @@
 
 #[derive(Clone, Copy, Debug, PartialEq, Eq)]
 pub enum Refusal {
-    /// Not one of the six forms, or its end is missing.
+    /// Not one of the seven forms, or its end is missing.
     Malformed = 1,
     /// A value outside its limits.
     OutOfLimits = 2,

@@ -76,10 +76,13 @@ pub enum Form {
     Tie {
         hold: bool,
     },
+    /// How many motors the supply feeds at a time.
+    Supply(u16),
 }
 
 impl Form {
-    /// Whether it has an event's form. A tie has, although directly after the frame line it is a line of the head.
+    /// Whether it has an event's form. A tie has, although directly after the frame line, or a supply line there, it is a line
+    /// of the head.
     pub fn is_event(&self) -> bool {
         matches!(self, Form::Clock(_) | Form::Call(_) | Form::Tie { .. })
     }
@@ -136,6 +139,7 @@ impl Cursor<'_> {
             b'b' => self.busy()?,
             b'p' => self.preset()?,
             b't' => self.tie()?,
+            b's' => self.supply()?,
             _ if self.expect(b"clock ").is_some() => Form::Clock(self.number()?),
             _ => self.call()?,
         };
@@ -189,6 +193,11 @@ impl Cursor<'_> {
             self.expect(b"place")?;
         }
         Some(Form::Tie { hold })
+    }
+
+    fn supply(&mut self) -> Option<Form> {
+        self.expect(b"supply ")?;
+        self.number().map(Form::Supply)
     }
 
     /// One or more `(x y)`, parted by one blank.

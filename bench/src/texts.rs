@@ -10,6 +10,8 @@ mod places;
 pub mod rng;
 pub mod rows;
 pub mod station;
+pub mod supply;
+pub mod tables;
 pub mod ties;
 
 use rng::Rng;
@@ -34,7 +36,7 @@ const KINDS: &[Kind] = &[
     Kind { name: "large frame", weight: 8, make: |rng| sized(rng, LARGE) },
     Kind { name: "largest frame", weight: 4, make: |rng| sized(rng, LARGEST) },
     Kind { name: "full day", weight: 2, make: full_day },
-    Kind { name: "near full", weight: 6, make: limits::near_full },
+    Kind { name: "near full", weight: 9, make: limits::near_full },
     Kind { name: "head limit", weight: 8, make: limits::head_limit },
     Kind { name: "many presets", weight: 3, make: limits::many_presets },
     Kind { name: "event limit", weight: 8, make: limits::event_limit },
@@ -45,6 +47,10 @@ const KINDS: &[Kind] = &[
     Kind { name: "tie in its place", weight: 6, make: ties::in_its_place },
     Kind { name: "tie anywhere", weight: 6, make: ties::anywhere },
     Kind { name: "tie damaged", weight: 5, make: ties::damaged },
+    Kind { name: "supply short", weight: 14, make: supply::short },
+    Kind { name: "supply in place", weight: 6, make: supply::in_its_place },
+    Kind { name: "supply anywhere", weight: 5, make: supply::anywhere },
+    Kind { name: "supply damaged", weight: 4, make: supply::damaged },
     Kind { name: "huge number", weight: 5, make: numbers::huge_number },
     Kind { name: "bad number", weight: 4, make: numbers::bad_number },
     Kind { name: "length limit", weight: 1, make: limits::length_limit },
@@ -96,21 +102,28 @@ fn full_day(rng: &mut Rng) -> Vec<u8> {
     station.bytes()
 }
 
-/// Whether line 2 is `(tie hold)`, which is the head's then.
+/// Where the head's tie line would stand among the lines of a text whose head is accepted, from 0: after the frame line
+/// and a supply line.
+fn tie_place(text: &[u8]) -> usize {
+    let second = text.split(|&byte| byte == b'\n').nth(1);
+    1 + usize::from(second.is_some_and(|line| line.starts_with(b"(supply ")))
+}
+
+/// Whether `(tie hold)` stands in the head.
 pub fn holds_in_head(text: &[u8]) -> bool {
-    text.split_inclusive(|&byte| byte == b'\n').nth(1) == Some(b"(tie hold)\n")
+    text.split_inclusive(|&byte| byte == b'\n').nth(tie_place(text)) == Some(b"(tie hold)\n")
 }
 
 /// The text with the order of ties by place throughout: a head's `(tie hold)` is gone, and in place of an event's stands one
 /// that changes nothing. So the two texts have different tables only by the order of ties; one without hold stays as it is.
 pub fn by_place(text: &[u8]) -> Vec<u8> {
-    let tied = holds_in_head(text);
+    let (tied, tie) = (holds_in_head(text), tie_place(text));
     let lines = text.split_inclusive(|&byte| byte == b'\n').enumerate();
     let other = lines.map(|(place, line)| match (line, place) {
-        (b"(tie hold)\n", 1) => &b""[..],
+        (b"(tie hold)\n", place) if place == tie => &b""[..],
         (b"(tie hold)\n", _) => b"(clock 0)\n",
-        // It would stand directly after the frame line now, and be refused with the whole head.
-        (b"(tie place)\n", 2) if tied => b"(clock 0)\n",
+        // It would stand in the place of the head's tie line now, and be refused with the whole head.
+        (b"(tie place)\n", place) if tied && place == tie + 1 => b"(clock 0)\n",
         _ => line,
     });
     other.collect::<Vec<_>>().concat()

@@ -2,11 +2,12 @@
 //! the highest down, evicted cells are found by trying every set, and each slot goes to the first of a sorted list. Slow
 //! and plain on purpose.
 
-use bench::frame::{Answer, Frame};
+use bench::frame::{Answer, Frame, Table};
 use bench::head::{self, Head};
 use bench::refusal::Refusal;
 use bench::text::{lines, Call, Form};
 use bench::texts::station::{Size, Station};
+use bench::texts::tables::table;
 use bench::texts::{self, rng::Rng};
 
 /// Whether tasks of these needs can be placed in different slots each: by augmenting paths, task by task.
@@ -37,13 +38,27 @@ fn add(placed: &mut Vec<Vec<bool>>, bridges: &[usize], task: usize) -> bool {
     reach(placed, bridges, task, &mut vec![false; bridges.len()])
 }
 
-fn free_bridges(head: &Head) -> Vec<usize> {
-    (0..head.slots).map(|slot| (0..head.bridges).filter(|&b| head.busy[b] >> slot & 1 == 0).count()).collect()
+/// The motors that the supply feeds at a time; without one there is a motor for each of the most bridges.
+fn motors(head: &Head) -> usize {
+    head.supply.map_or(8, usize::from)
+}
+
+/// The free number of a slot: the smaller of its empty cells and the motors less the cells held by presets and calls.
+fn free(row: &[u16], motors: usize) -> usize {
+    let empty = row.iter().filter(|&&cell| cell == 0).count();
+    let held = row.iter().filter(|&&cell| cell >> 8 >= 2).count();
+    empty.min(motors - held)
+}
+
+/// The cells of the head's frame with nothing placed.
+fn unplanned(head: &Head) -> Vec<Vec<u16>> {
+    let busy = |slot: usize| (0..head.bridges).map(|b| if head.busy[b] >> slot & 1 == 1 { 256 } else { 0 }).collect();
+    (0..head.slots).map(busy).collect()
 }
 
 /// The grants by their definition.
 fn grants(head: &Head) -> Option<Vec<usize>> {
-    let free = free_bridges(head);
+    let free: Vec<usize> = unplanned(head).iter().map(|row| free(row, motors(head))).collect();
     let mut needs: Vec<usize> = head.presets.iter().map(|preset| usize::from(preset.mandatory)).collect();
     if !feasible(&needs, &free) {
         return None;
@@ -73,30 +88,43 @@ fn candidates(head: &Head, frame: &Frame, clock: usize) -> Vec<(usize, u16)> {
 /// Of the smallest sets with which the call is feasible, each a list in eviction order, the first; by trying all.
 fn evicted(head: &Head, frame: &Frame, clock: usize, lengths: &[usize]) -> Option<Vec<(usize, u16)>> {
     let cells = candidates(head, frame, clock);
-    let empty =
-        |slot: usize| if slot + 1 < clock { 0 } else { frame.row(slot).iter().filter(|&&cell| cell == 0).count() };
-    let empty: Vec<usize> = (0..head.slots).map(empty).collect();
     let mut sets: Vec<Vec<usize>> =
         (0..1_usize << cells.len()).map(|set| (0..cells.len()).filter(|cell| set >> cell & 1 == 1).collect()).collect();
     sets.sort_by_key(|set| (set.len(), set.clone()));
     let enough = |set: &Vec<usize>| {
-        let mut bridges = empty.clone();
-        set.iter().for_each(|&cell| bridges[cells[cell].0] += 1);
-        feasible(lengths, &bridges)
+        let set: Vec<(usize, u16)> = set.iter().map(|&cell| cells[cell]).collect();
+        let rows = without(rows(frame), &set);
+        let free = |slot: usize| if slot + 1 < clock { 0 } else { free(&rows[slot], motors(head)) };
+        feasible(lengths, &(0..head.slots).map(free).collect::<Vec<_>>())
     };
     sets.into_iter().find(enough).map(|set| set.iter().map(|&cell| cells[cell]).collect())
 }
 
-/// The rule by its definition: slot by slot from `from` on, the largest remaining times take the empty cells in ascending
-/// order; of equal ones, under hold, those with a cell in the slot just before come first, then the earlier. `content` says
-/// what the next cell of a task holds.
-fn fill(rows: &mut [Vec<u16>], from: usize, needs: &[usize], hold: bool, mut content: impl FnMut(usize, usize) -> u16) {
+/// The rows with these cells made empty.
+fn without(mut rows: Vec<Vec<u16>>, cells: &[(usize, u16)]) -> Vec<Vec<u16>> {
+    for &(slot, content) in cells {
+        rows[slot].iter_mut().filter(|cell| **cell == content).for_each(|cell| *cell = 0);
+    }
+    rows
+}
+
+/// What the rule goes by beside the cells: the motors, and whether the order of ties is hold.
+#[derive(Clone, Copy)]
+struct Rule {
+    motors: usize,
+    hold: bool,
+}
+
+/// The rule by its definition: slot by slot from `from` on, the largest remaining times, as many as the free number says, take
+/// the lowest empty cells in ascending order; of equal ones, under hold, those with a cell in the slot just before come first,
+/// then the earlier. `content` says what the next cell of a task holds.
+fn fill(rows: &mut [Vec<u16>], from: usize, needs: &[usize], rule: Rule, mut content: impl FnMut(usize, usize) -> u16) {
     let mut left = needs.to_vec();
     let mut before: Vec<usize> = Vec::new();
     for row in &mut rows[from..] {
         let mut order: Vec<usize> = (0..left.len()).filter(|&task| left[task] > 0).collect();
-        order.sort_by_key(|&task| (usize::MAX - left[task], hold && !before.contains(&task), task));
-        order.truncate(row.iter().filter(|&&cell| cell == 0).count());
+        order.sort_by_key(|&task| (usize::MAX - left[task], rule.hold && !before.contains(&task), task));
+        order.truncate(free(row, rule.motors));
         order.sort_unstable();
         for &task in &order {
             let bridge = row.iter().position(|&cell| cell == 0).expect("as many as there are empty cells");
@@ -113,11 +141,10 @@ fn rows(frame: &Frame) -> Vec<Vec<u16>> {
 
 /// The plan's table by the rule, the head's order of ties in force.
 fn plan_by_rule(head: &Head, grants: &[usize]) -> Vec<Vec<u16>> {
-    let busy = |slot: usize| (0..head.bridges).map(|b| if head.busy[b] >> slot & 1 == 1 { 256 } else { 0 }).collect();
-    let mut rows: Vec<Vec<u16>> = (0..head.slots).map(busy).collect();
+    let mut rows = unplanned(head);
     let mandatory = |task: usize| usize::from(head.presets[task].mandatory);
     let needs: Vec<usize> = grants.iter().enumerate().map(|(task, grant)| mandatory(task) + grant).collect();
-    fill(&mut rows, 0, &needs, head.hold, |task, cell| {
+    fill(&mut rows, 0, &needs, Rule { motors: motors(head), hold: head.hold }, |task, cell| {
         let kind = if cell < mandatory(task) { 2 } else { 3 };
         kind * 256 + u16::from(head.presets[task].number)
     });
@@ -125,17 +152,15 @@ fn plan_by_rule(head: &Head, grants: &[usize]) -> Vec<Vec<u16>> {
 }
 
 /// The call's table by the rule, after the evicted cells are gone.
-fn call_by_rule(before: &Frame, clock: usize, hold: bool, evicted: &[(usize, u16)], call: &Call) -> Vec<Vec<u16>> {
-    let mut rows = rows(before);
-    for &(slot, content) in evicted {
-        rows[slot].iter_mut().filter(|cell| **cell == content).for_each(|cell| *cell = 0);
-    }
+fn call_by_rule(before: &Frame, clock: usize, rule: Rule, evicted: &[(usize, u16)], call: &Call) -> Vec<Vec<u16>> {
+    let mut rows = without(rows(before), evicted);
     let lengths: Vec<usize> = call.jobs().iter().map(|job| usize::from(job.length)).collect();
-    fill(&mut rows, clock - 1, &lengths, hold, |job, _| 4 * 256 + u16::from(call.jobs()[job].number));
+    fill(&mut rows, clock - 1, &lengths, rule, |job, _| 4 * 256 + u16::from(call.jobs()[job].number));
     rows
 }
 
-/// Whether the table after the call is the one before without these cells, and with the jobs in empty ones.
+/// Whether the table after the call is the one before without these cells, and with the jobs in empty ones. An evicted cell
+/// may be empty then.
 fn placed(before: &Frame, after: &Frame, evicted: &[(usize, u16)], call: &Call) -> bool {
     let mut count = [0; 256];
     for slot in 0..before.slots() {
@@ -144,7 +169,7 @@ fn placed(before: &Frame, after: &Frame, evicted: &[(usize, u16)], call: &Call) 
             if new >> 8 == 4 && old != new {
                 assert!(old == 0 || gone);
                 count[usize::from(new & 255)] += 1;
-            } else if new != old {
+            } else if new != old && !(gone && new == 0) {
                 return false;
             }
         }
@@ -163,6 +188,10 @@ struct Seen {
     accepted: [usize; MOST_CELLS + 1],
     /// Plans and calls under hold whose table would be another under place.
     held: usize,
+    /// Plans and calls whose table would be another if there were a motor for each bridge.
+    capped: usize,
+    /// Evicted cells that end empty.
+    left_empty: usize,
 }
 
 /// The clock and the order of ties in force, kept from the lines themselves and not taken from the planner under test.
@@ -202,6 +231,7 @@ fn follow(text: &[u8], seen: &mut Seen) {
     assert!(granted.iter().map(|&grant| usize::from(grant)).take(expected.len()).eq(expected.iter().copied()));
     assert_eq!(rows(&frame), plan_by_rule(&head, &expected));
     seen.held += usize::from(rows(&frame) != plan_by_rule(&Head { hold: false, ..head.clone() }, &expected));
+    seen.capped += usize::from(rows(&frame) != plan_by_rule(&Head { supply: None, ..head.clone() }, &expected));
     let mut kept = Kept::start(&head);
     for line in lines {
         let before = frame.clone();
@@ -241,9 +271,18 @@ fn follow_call(head: &Head, kept: &Kept, call: &Call, step: Step, seen: &mut See
     };
     seen.accepted[cells.len()] += 1;
     assert!(placed(before, after, &cells, call));
-    let by_rule = |hold| call_by_rule(before, kept.clock, hold, &cells, call);
-    assert_eq!(rows(after), by_rule(kept.hold));
-    seen.held += usize::from(rows(after) != by_rule(false));
+    let by_rule = |motors, hold| call_by_rule(before, kept.clock, Rule { motors, hold }, &cells, call);
+    let motors = motors(head);
+    assert_eq!(rows(after), by_rule(motors, kept.hold));
+    seen.held += usize::from(rows(after) != by_rule(motors, false));
+    seen.capped += usize::from(rows(after) != by_rule(8, kept.hold));
+    seen.left_empty += left_empty(before, after);
+}
+
+/// The optional cells that are empty now.
+fn left_empty(before: &Frame, after: &Frame) -> usize {
+    let cells = (0..before.slots()).flat_map(|slot| before.row(slot).iter().zip(after.row(slot)));
+    cells.filter(|&(&old, &new)| old >> 8 == 3 && new == 0).count()
 }
 
 #[test]
@@ -253,9 +292,55 @@ fn small_frames_follow_the_definitions() {
     for seed in 0..10_000 {
         follow(&Station::new(&mut Rng::new(seed), size).bytes(), &mut seen);
     }
-    let Seen { refused, accepted, held } = seen;
+    let Seen { refused, accepted, held, capped, left_empty } = seen;
     println!("refused {refused}, accepted by evicted cells {accepted:?}, {held} otherwise by the order of ties");
-    assert!(refused > 1_000 && accepted[..5].iter().all(|&calls| calls > 100) && held > 300);
+    println!("{capped} otherwise by the supply, {left_empty} evicted cells end empty");
+    assert!(refused > 1_000 && accepted[..5].iter().all(|&calls| calls > 100) && held > 300 && capped > 500);
+    // A plan takes the lowest bridges of a slot, so that jobs, which do so too, fill the evicted ones first.
+    assert_eq!(left_empty, 0);
+}
+
+/// Follows calls on a table that no text need have left.
+fn follow_lent(rng: &mut Rng, station: &Station, seen: &mut Seen) {
+    let head = head::read(&mut lines(&station.bytes())).expect("the station's head is good");
+    let Some(table) = table(rng, &head) else {
+        return;
+    };
+    let clock = if rng.chance(70) { 1 } else { rng.within(1..=head.slots) };
+    let kept = Kept { clock, hold: rng.chance(50) };
+    let mut frame = resumed(&head, &table, &kept);
+    for event in station.events.iter().filter(|event| event.starts_with("(call")) {
+        let line = lines(format!("{event}\n").as_bytes()).next().expect("a line");
+        let before = frame.clone();
+        let answer = frame.event(line.form);
+        if let Some(Form::Call(Some(call))) = line.form {
+            follow_call(&head, &kept, &call, Step { before: &before, answer, after: &frame }, seen);
+        }
+        assert_eq!(resumed(&head, frame.table(), &kept), frame);
+        assert!(answer.is_ok() || frame == before);
+    }
+}
+
+fn resumed(head: &Head, table: &Table, kept: &Kept) -> Frame {
+    Frame::resume(head, table, kept.clock, kept.hold).expect("a well-formed table")
+}
+
+#[test]
+fn lent_tables_follow_the_definitions() {
+    let size = Size { slots: (1, 5), bridges: (2, 4), presets: (0, 4), events: (1, 5) };
+    let (mut rng, mut seen) = (Rng::new(5), Seen::default());
+    for seed in 0..15_000 {
+        let mut station = Station::new(&mut Rng::new(seed), size);
+        if rng.chance(70) {
+            let motors = rng.within(1..=station.bridges);
+            station.set_supply(motors);
+        }
+        follow_lent(&mut rng, &station, &mut seen);
+    }
+    let Seen { refused, accepted, held, capped, left_empty } = seen;
+    println!("refused {refused}, accepted by evicted cells {accepted:?}, {held} otherwise by the order of ties");
+    println!("{capped} otherwise by the supply, {left_empty} evicted cells end empty");
+    assert!(refused > 1_000 && accepted[..4].iter().all(|&calls| calls > 100) && capped > 500 && left_empty > 500);
 }
 
 /// The optional cells that are gone: of every one its slot and content.
@@ -285,7 +370,7 @@ fn follow_rule(text: &[u8]) -> usize {
         if let (Some(Form::Call(Some(call))), Ok(_)) = (line.form, answer) {
             let cells = gone(&before, &frame);
             assert_eq!(answer, Ok(Answer::Taken(cells.len() as u32)));
-            let by_rule = |hold| call_by_rule(&before, kept.clock, hold, &cells, &call);
+            let by_rule = |hold| call_by_rule(&before, kept.clock, Rule { motors: motors(&head), hold }, &cells, &call);
             assert_eq!(rows(&frame), by_rule(kept.hold));
             held += usize::from(rows(&frame) != by_rule(false));
         }

@@ -1,15 +1,18 @@
-//! The library's running frame held against the independent planner's on seeded texts: every number, byte and cell that a
-//! text, an event or a plan leaves, whatever stood there before. And tie lines on records that are at fault themselves.
+//! The library's running frame held against the independent planner's on seeded texts and on seeded tables that no text
+//! leaves: every number, byte and cell that a text, an event or a plan leaves, whatever stood there before. And events and
+//! plans on records that are at fault themselves.
 #![cfg(feature = "archive")]
 
 use bench::frame::{Answer, Frame, Table, CELLS};
 use bench::head::Head;
-use bench::lent::{Lent, BUSY, PRESET_BYTES, TIE, TIE_NOW};
+use bench::lent::{Lent, BUSY, PRESET_BYTES, SUPPLY, TIE, TIE_NOW};
 use bench::proved::{self, Running};
 use bench::refusal::Refusal;
 use bench::rows::read_head;
 use bench::text::lines;
 use bench::texts::rng::Rng;
+use bench::texts::station::{Size, Station, MEDIUM, SMALL};
+use bench::texts::tables::{shown, table};
 use bench::texts::text;
 
 const CLOCK: usize = 3;
@@ -49,7 +52,7 @@ fn set_tie(number: &mut u64, hold: bool) {
 fn set_head(running: &mut Running, head: &Head) {
     let Lent { frame, presets } = Lent::new(head);
     running.frame[..CLOCK].copy_from_slice(&frame[..CLOCK]);
-    running.frame[BUSY..12].copy_from_slice(&frame[BUSY..12]);
+    running.frame[BUSY..=SUPPLY].copy_from_slice(&frame[BUSY..=SUPPLY]);
     let records = 4 * head.presets.len();
     running.presets[..records].copy_from_slice(&presets[..records]);
 }
@@ -74,7 +77,7 @@ fn left(text: &[u8], mut running: Running) -> (Running, Result<(), (u32, Refusal
         let _ = frame.event(line.form);
     });
     running.frame[CLOCK] = frame.now() as u64;
-    running.frame[12..].copy_from_slice(&[0, u64::from(head.hold), u64::from(frame.hold()), 0]);
+    running.frame[TIE..].copy_from_slice(&[u64::from(head.hold), u64::from(frame.hold()), 0]);
     set_table(&mut running.table, &head, &frame);
     (running, Ok(()))
 }
@@ -109,23 +112,26 @@ fn number(answer: Result<Answer, Refusal>) -> Result<u64, u32> {
     }
 }
 
-/// A frame as it stands in the records, with other numbers for the same orders of ties and anything in the reserved ones.
+/// A frame as it stands in the records, with other numbers for the same orders of ties and anything in the reserved one.
 fn start(rng: &mut Rng, head: &Head, frame: &Frame) -> Running {
     let mut running = Running { frame: [0; 16], presets: [0; PRESET_BYTES], table: [0; CELLS] };
     set_head(&mut running, head);
     running.frame[CLOCK] = frame.now() as u64;
-    running.frame[12..].copy_from_slice(&[rng.word(), order(rng, head.hold), order(rng, frame.hold()), rng.word()]);
+    running.frame[TIE..].copy_from_slice(&[order(rng, head.hold), order(rng, frame.hold()), rng.word()]);
     set_table(&mut running.table, head, frame);
     running
 }
 
-/// How many events there were, and how many ties among them.
+/// How many events there were, how many ties and evicting calls among them, and how many of the evicted cells ended empty.
 #[derive(Default)]
 struct Seen {
     events: usize,
     ties: usize,
+    evicting: usize,
+    left_empty: usize,
 }
 
+/// The events of a text, on the plan of its head.
 fn follow(rng: &mut Rng, text: &[u8], seen: &mut Seen) {
     let Ok(head) = read_head(text) else {
         return;
@@ -134,19 +140,26 @@ fn follow(rng: &mut Rng, text: &[u8], seen: &mut Seen) {
         return;
     };
     // The order in force need not be the head's.
-    let mut frame = Frame::resume(&head, planned.table(), 1, rng.chance(50)).expect("a plan is well-formed");
-    let mut running = start(rng, &head, &frame);
+    let frame = Frame::resume(&head, planned.table(), 1, rng.chance(50)).expect("a plan is well-formed");
+    follow_events(rng, text, &head, frame, seen);
+}
+
+/// The lines of a text after its head, on any frame of it.
+fn follow_events(rng: &mut Rng, text: &[u8], head: &Head, mut frame: Frame, seen: &mut Seen) {
+    let mut running = start(rng, head, &frame);
     let events = text.split_inclusive(|&byte| byte == b'\n').zip(lines(text)).skip(head.lines as usize);
     for (bytes, line) in events.take(60) {
-        let mut expected = running.clone();
+        let (before, mut expected) = (*frame.table(), running.clone());
         let answer = frame.event(line.form);
         expected.frame[CLOCK] = frame.now() as u64;
         set_tie(&mut expected.frame[TIE_NOW], frame.hold());
-        set_table(&mut expected.table, &head, &frame);
-        assert_eq!(proved::event(&mut running, bytes), number(answer));
-        assert!(running == expected, "{}", bytes.escape_ascii());
+        set_table(&mut expected.table, head, &frame);
+        assert_eq!(proved::event(&mut running, bytes), number(answer), "{head:?} {before:?} {}", bytes.escape_ascii());
+        assert!(running == expected, "{head:?} {before:?} {}", bytes.escape_ascii());
         seen.events += 1;
         seen.ties += usize::from(matches!(answer, Ok(Answer::Tie { .. })));
+        seen.evicting += usize::from(matches!(answer, Ok(Answer::Taken(1..))));
+        seen.left_empty += before.iter().zip(frame.table()).filter(|&(&old, &new)| old >> 8 == 3 && new == 0).count();
     }
 }
 
@@ -156,9 +169,53 @@ fn events_leave_the_clock_the_order_in_force_and_the_table() {
     for seed in 0..3_000 {
         follow(&mut rng, &text(seed).bytes, &mut seen);
     }
-    let Seen { events, ties } = seen;
+    let Seen { events, ties, .. } = seen;
     println!("{events} events, {ties} of them ties");
     assert!(events > 10_000 && ties > 500);
+}
+
+/// Presets and jobs stand on any bridges in these tables, so that under a supply an evicted cell can end empty while a job
+/// takes a lower bridge of its slot.
+#[test]
+fn events_on_tables_that_no_text_leaves() {
+    let (mut rng, mut seen) = (Rng::new(5), Seen::default());
+    for seed in 0..6_000 {
+        let size = *rng.pick(&[SMALL, SMALL, MEDIUM]);
+        let mut station = Station::new(&mut Rng::new(seed), Size { bridges: (2, size.bridges.1), ..size });
+        if rng.chance(70) {
+            let motors = rng.within(1..=station.bridges);
+            station.set_supply(motors);
+        }
+        let text = station.bytes();
+        let head = read_head(&text).expect("the station's head is good");
+        if let Some(table) = table(&mut rng, &head) {
+            let clock = if rng.chance(60) { 1 } else { rng.within(1..=head.slots + 1) };
+            let frame = Frame::resume(&head, &table, clock, rng.chance(50)).expect("the table is well-formed");
+            follow_events(&mut rng, &text, &head, frame, &mut seen);
+        }
+    }
+    let Seen { events, evicting, left_empty, .. } = seen;
+    println!("{events} events, {evicting} of them evicting; {left_empty} evicted cells end empty");
+    assert!(events > 10_000 && evicting > 1_000 && left_empty > 300);
+}
+
+/// The frames that request 2026-03 lends: line by line the answer and the cells that are left.
+#[test]
+fn an_evicted_cell_may_end_empty() {
+    let wide = "(frame 2 3)\n(supply 2)\n(preset 1 0 0 2)\n";
+    for (head, cells, line, answer, left) in [
+        ("(frame 1 2)\n(supply 1)\n(preset 1 0 0 1)\n", "0 o1", "(call (9 1))\n", Ok(1), "c9 0"),
+        ("(frame 1 2)\n(preset 1 0 0 1)\n", "0 o1", "(call (9 1))\n", Ok(0), "c9 o1"),
+        (wide, "0 0 o1 | c7 c8 0", "(call (9 1))\n", Ok(0), "c9 0 o1 | c7 c8 0"),
+        (wide, "c9 0 o1 | c7 c8 0", "(call (10 1))\n", Ok(1), "c9 c10 0 | c7 c8 0"),
+        (wide, "c9 c10 0 | c7 c8 0", "(call (11 1))\n", Err(7), "c9 c10 0 | c7 c8 0"),
+    ] {
+        let Lent { frame, presets } = Lent::new(&read_head(head.as_bytes()).expect("a good head"));
+        let (frame, presets) = (frame.try_into().expect("16 numbers"), presets.try_into().expect("32 records"));
+        let mut running = Running { frame, presets, table: shown(cells) };
+        assert_eq!(proved::event(&mut running, line.as_bytes()), answer, "{cells} {line}");
+        assert_eq!(running.table, shown(left), "{cells} {line}");
+    }
 }
 
 /// The answer to a tie line on so many numbers, bytes and cells of records that it must leave as they are.
@@ -181,12 +238,14 @@ fn small_frames() -> [(Running, &'static [u8]); 2] {
     [(running, b"(tie hold)\n"), (holding, b"(tie place)\n")]
 }
 
+/// No text yields a head with such a supply, not even one whose lower half or lowest byte would do.
+const NO_SUPPLY: [u64; 6] = [9, 64, 256 + 2, (1 << 32) + 1, 1 << 63, u64::MAX];
+
 /// A tie has no cause of its own, yet it meets 2 and 11 of what is lent.
 #[test]
 fn a_tie_on_a_frame_at_fault_is_refused() {
-    for (place, number, cause) in
-        [(0, 0, 2), (0, 65, 2), (1, 9, 2), (2, 33, 2), (BUSY, 4, 2), (CLOCK, 0, 11), (CLOCK, 4, 11)]
-    {
+    let faults = [(0, 0, 2), (0, 65, 2), (1, 9, 2), (2, 33, 2), (BUSY, 4, 2), (CLOCK, 0, 11), (CLOCK, 4, 11)];
+    for (place, number, cause) in faults.into_iter().chain(NO_SUPPLY.map(|motors| (SUPPLY, motors, 2))) {
         let answers = small_frames().map(|(mut running, line)| {
             running.frame[place] = number;
             refused(&running, WHOLE, line)
@@ -198,6 +257,36 @@ fn a_tie_on_a_frame_at_fault_is_refused() {
         refused(&running, WHOLE, line)
     });
     assert_eq!(answers, [11; 2]);
+}
+
+/// Slots that have gone by count too.
+#[test]
+fn a_table_beyond_the_supply_is_refused() {
+    let (jobs, line) = ([4 * 256 + 7, 4 * 256 + 8], b"(clock 3)\n");
+    for (slot, clock) in [(0, 1), (1, 1), (0, 2), (0, 3), (1, 3)] {
+        let mut running = Running { frame: [0; 16], presets: [0; PRESET_BYTES], table: [0; CELLS] };
+        running.frame[..=CLOCK].copy_from_slice(&[2, 2, 0, clock]);
+        running.table[2 * slot..][..2].copy_from_slice(&jobs);
+        running.frame[SUPPLY] = 1;
+        assert_eq!(refused(&running, WHOLE, line), 11);
+        for motors in [0, 2, 8] {
+            running.frame[SUPPLY] = motors;
+            assert_eq!(proved::event(&mut running.clone(), line), Ok(3), "{motors}");
+        }
+    }
+}
+
+#[test]
+fn a_plan_for_no_supply_is_refused() {
+    for motors in NO_SUPPLY {
+        let mut running = noise(&mut Rng::new(motors));
+        running.frame[..=CLOCK].copy_from_slice(&[2, 1, 0, 1]);
+        running.frame[BUSY..SUPPLY].fill(0);
+        running.frame[SUPPLY] = motors;
+        let (expected, mut grants) = (running.clone(), [7; proved::GRANTS]);
+        assert_eq!(proved::plan(&mut running, &mut grants), 2, "{motors}");
+        assert!(running == expected && grants == [7; proved::GRANTS], "{motors}");
+    }
 }
 
 /// 8 comes before 2, and 2 before 11.

@@ -3,7 +3,7 @@
 use std::collections::BTreeSet;
 
 use bench::head::{Head, BRIDGES};
-use bench::lent::{Lent, FRAME, OUT, PRESET_BYTES};
+use bench::lent::{Lent, FRAME, OUT, PRESET_BYTES, SUPPLY};
 use bench::rows;
 use bench::texts::rows::input;
 
@@ -287,7 +287,8 @@ fn lent_records_are_tried_before_any_row() {
 fn records_that_no_text_yields() {
     let good = Lent::new(&head("(frame 4 2)\n(busy 1 (4 4))\n(preset 3 0 1 1)\n(preset 4 0 1 1)\n"));
     let numbers = [(0, 0), (0, 65), (0, 1 << 32), (1, 0), (1, 9), (1, 1), (2, 33), (2, 3), (2, u64::MAX)];
-    for (place, number) in numbers.into_iter().chain([(4, 16), (4, 1 << 63), (6, 1), (11, 1)]) {
+    let supplies = [9, 255, 256, (1 << 32) + 1, u64::MAX].map(|motors| (SUPPLY, motors));
+    for (place, number) in numbers.into_iter().chain([(4, 16), (4, 1 << 63), (6, 1), (11, 1)]).chain(supplies) {
         let mut lent = good.clone();
         lent.frame[5] = 1;
         lent.frame[place] = number;
@@ -299,10 +300,11 @@ fn records_that_no_text_yields() {
         lent.presets[place] = byte;
         assert_eq!(lent_rows(&lent, b"").0, Err((0, 2)), "{place} {byte}");
     }
-    // Clock, orders of ties (any number is one), reserved numbers, records past the last one and whatever is lent beyond do
-    // not count.
+    // Clock, orders of ties (any number is one), the reserved number, records past the last one and whatever is lent beyond do
+    // not count; a supply of more motors than bridges is one.
     let mut lent = good.clone();
-    [3, 12, 13, 14, 15].into_iter().for_each(|place| lent.frame[place] = u64::MAX);
+    lent.frame[SUPPLY] = 8;
+    [3, 13, 14, 15].into_iter().for_each(|place| lent.frame[place] = u64::MAX);
     lent.presets[8..].fill(255);
     lent.frame.push(77);
     lent.presets.push(77);

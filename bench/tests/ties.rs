@@ -1,34 +1,10 @@
 //! The order of ties: the frames to try and the wrong turns of request 2026-02, and what its readings settle.
 
-use bench::rows;
+mod common;
+
 use bench::texts::ties::LACKING_FORM;
 use bench::texts::{by_place, text};
-
-fn listing(text: &[u8]) -> String {
-    let mut out = Vec::new();
-    bench::planner::listing(text, &mut out);
-    String::from_utf8(out).expect("listings are plain")
-}
-
-/// The cells of each slot; none of a head that is refused.
-fn table(text: &[u8]) -> Vec<String> {
-    let listing = listing(text);
-    let slots = listing.lines().filter(|line| line.starts_with("(slot "));
-    slots.map(|line| line.trim_end_matches(')').splitn(3, ' ').nth(2).expect("its cells").to_owned()).collect()
-}
-
-/// The cells of each slot, of a text whose lines are all accepted.
-fn cells(text: &str) -> Vec<String> {
-    assert!(!listing(text.as_bytes()).contains("refused"), "{text}");
-    table(text.as_bytes())
-}
-
-/// The lines of a listing before its slots.
-fn answers(text: &str) -> Vec<String> {
-    let listing = listing(text.as_bytes());
-    let answers = listing.lines().filter(|line| !line.starts_with("(slot ") && !line.starts_with("(granted "));
-    answers.map(str::to_owned).collect()
-}
+use common::{answers, cells, converted, listing, table};
 
 const ONE_AND_TWO: &str = "(preset 1 0 1 0)\n(preset 2 0 2 0)\n";
 const FOUR_OF_TWO: &str = "(preset 1 0 2 0)\n(preset 2 0 2 0)\n(preset 3 0 2 0)\n(preset 4 0 2 0)\n";
@@ -191,11 +167,6 @@ fn grants_and_lost_cells_do_not_depend_on_the_order() {
 
 #[test]
 fn a_head_has_one_text() {
-    let converted = |input: &str| {
-        let mut out = Vec::new();
-        rows::convert(input.as_bytes(), &mut out);
-        String::from_utf8(out).expect("what is printed is plain")
-    };
     for (input, printed) in [
         ("(frame 4 2)\n(tie hold)\n\n1,1,2\r\n", "(frame 4 2)\n(tie hold)\n(busy 1 (1 2))\n"),
         (
@@ -221,6 +192,10 @@ fn a_text_by_place() {
         ("(frame 3 1)\n(tie hold)\n(tie hold)\n(tie hold)\n", "(frame 3 1)\n(clock 0)\n(clock 0)\n"),
         // A tie on line 3 comes to stand on line 2, where place would be the head's fault.
         ("(frame 3 1)\n(tie hold)\n(tie place)\n(tie place)\n", "(frame 3 1)\n(clock 0)\n(tie place)\n"),
+        // After a supply line the place is one line further down.
+        ("(frame 3 1)\n(supply 1)\n(tie hold)\n(busy 1 (1 1))\n", "(frame 3 1)\n(supply 1)\n(busy 1 (1 1))\n"),
+        ("(frame 3 1)\n(supply 1)\n(tie hold)\n(tie place)\n", "(frame 3 1)\n(supply 1)\n(clock 0)\n"),
+        ("(frame 3 1)\n(supply 1)\n(clock 1)\n(tie hold)\n", "(frame 3 1)\n(supply 1)\n(clock 1)\n(clock 0)\n"),
         // Nothing holds.
         ("(frame 3 1)\n(busy 1 (1 1))\n(tie place)\n", "(frame 3 1)\n(busy 1 (1 1))\n(tie place)\n"),
         ("(frame 3 1)\n(tie place)\n(tie place)\n", "(frame 3 1)\n(tie place)\n(tie place)\n"),

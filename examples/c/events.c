@@ -45,6 +45,12 @@ static int is_tie(const uint8_t *line)
     return line[1] == 't';
 }
 
+/* Whether a line begins as a supply line does, and as no other form does. */
+static int is_supply(const uint8_t *line, size_t length)
+{
+    return 1 < length && line[1] == 's';
+}
+
 static void print_refused(uint64_t line, uint32_t cause)
 {
     printf("(refused %llu %u)\n", (unsigned long long)line, (unsigned)cause);
@@ -141,14 +147,20 @@ int main(int argc, char **argv)
     if (PLANNER_TEXT_BYTES < length) {
         print_refused(0, PLANNER_TEXT_TOO_LONG);
     } else {
-        /* The head ends before the first line that has an event's form, or with the text. A tie line on line 2 is the head's: either that is directly after the frame line, or line 1 is refused. */
+        /*
+         * The head ends before the first line that has an event's form, or with the text. A tie line on line 2 is the head's: either that is directly after the frame line, or line 1 is
+         * refused. And so is one on line 3 after a supply line, or after a line that begins like one, which is refused.
+         */
         size_t head_bytes = 0;
         uint64_t head_lines = 0;
+        int tie_is_heads = 0;
         while (head_bytes < length) {
-            size_t bytes = line_length(text + head_bytes, length - head_bytes);
-            if (is_event(text + head_bytes, bytes) && !(head_lines == 1 && is_tie(text + head_bytes))) {
+            const uint8_t *line = text + head_bytes;
+            size_t bytes = line_length(line, length - head_bytes);
+            if (is_event(line, bytes) && !(tie_is_heads && is_tie(line))) {
                 break;
             }
+            tie_is_heads = head_lines == 0 || (head_lines == 1 && is_supply(line, bytes));
             head_bytes += bytes;
             head_lines++;
         }

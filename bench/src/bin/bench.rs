@@ -4,7 +4,7 @@ use std::time::Duration;
 
 use bench::loads::{self, Load};
 use bench::sides::{agree, independent, proved, Run};
-use bench::text::Job;
+use bench::text::{Job, TEXT_LIMIT};
 
 /// Samples for each median, after as many tries as warm-up.
 const SAMPLES: usize = 201;
@@ -80,6 +80,7 @@ fn planning() {
     table("Planning 64 x 8, by presets", &PRESETS.map(|p| named(p, Load::Plan(loads::head(64, p)))));
     table("the same, listing", &PRESETS.map(|p| named(p, Load::Listing(loads::head(64, p)))));
     ties();
+    supply();
 }
 
 /// The largest plan under both orders of ties, and one of as many equal needs as a frame can have, where ties decide in three
@@ -96,6 +97,47 @@ fn ties() {
         both("listing", loads::equal_presets(), Load::Listing),
     ];
     table("The order of ties", &rows.into_iter().flatten().collect::<Vec<_>>());
+}
+
+/// The largest plan, and calls that evict, without a supply and under one; eight motors cap nothing. Under four the plan of
+/// `optional_cells` has four optional cells in a slot and four empty ones, which no motor is left for.
+fn supply() {
+    let (plan, cells) = (|| loads::head(64, 32), || loads::optional_cells(8, 8));
+    let row = |name: &str, load| (name.to_owned(), load);
+    let day = loads::contest_day(64, 32);
+    let rows = [
+        row("plan 64 x 8, 32 presets, no supply", Load::Plan(plan())),
+        row("the same, eight motors", Load::Plan(loads::supplied(plan(), 8))),
+        row("the same, six motors", Load::Plan(loads::supplied(plan(), 6))),
+        row("the same, four motors", Load::Plan(loads::supplied(plan(), 4))),
+        row("listing, no supply", Load::Listing(plan())),
+        row("listing, four motors", Load::Listing(loads::supplied(plan(), 4))),
+        row("checked call that evicts 224 cells, no supply", {
+            Load::CheckedCall(loads::optional_cells(4, 4), loads::jobs(4, 56))
+        }),
+        row("the same, four motors for eight bridges", {
+            Load::CheckedCall(loads::supplied(cells(), 4), loads::jobs(4, 56))
+        }),
+        row("checked call that evicts 448 cells, eight motors", {
+            Load::CheckedCall(loads::supplied(cells(), 8), loads::jobs(8, 56))
+        }),
+        row("checked call refused for a fifth job, four motors", {
+            Load::CheckedCall(loads::supplied(cells(), 4), loads::jobs(5, 56))
+        }),
+        row("contest day, listing, no supply", Load::Listing(day.clone())),
+        row("the same, four motors", Load::Listing(supplied_day(day, 4))),
+    ];
+    table("The supply", &rows);
+}
+
+/// A text of the longest length has no room for another line: what is too much goes from its end.
+fn supplied_day(day: Vec<u8>, motors: usize) -> Vec<u8> {
+    let mut text = loads::supplied(day, motors);
+    while text.len() > TEXT_LIMIT {
+        text.pop();
+        text.truncate(text.iter().rposition(|&byte| byte == b'\n').expect("a line before it") + 1);
+    }
+    text
 }
 
 fn rows() {

@@ -1,11 +1,15 @@
 //! Compares the two planners on texts made by seed, every byte of what they print. Says too how much the texts ask for:
-//! the causes that they meet, and how often the order of ties makes a difference.
+//! the causes that they meet, and how often the order of ties and the supply make a difference.
 //!
 //! `compare [texts] [first seed]`: 100,000 texts from seed 0 unless told otherwise. Exit status 1 on any difference.
 
+use std::cmp::Ordering;
 use std::process::ExitCode;
 
+use bench::cap::{felt, Felt};
 use bench::frame::CELLS;
+use bench::head::Head;
+use bench::rows::read_head;
 use bench::texts::{by_place, holds_in_head, kinds, text, Text};
 use bench::{planner, proved};
 
@@ -31,6 +35,38 @@ struct Tally {
     tied_heads: u64,
     held: u64,
     held_otherwise: u64,
+    supply: Supply,
+}
+
+/// The texts whose head has a supply and no line at fault: what it is, and where it makes the difference.
+#[derive(Default)]
+struct Supply {
+    /// By how the motors compare to the bridges: below, equal, above.
+    below: u64,
+    equal: u64,
+    above: u64,
+    tied: u64,
+    refused_heads: u64,
+    granted_less: u64,
+    planned_otherwise: u64,
+    evicting_more: u64,
+    without_place: u64,
+}
+
+impl Supply {
+    fn add(&mut self, head: &Head, motors: u8, felt: Felt) {
+        match usize::from(motors).cmp(&head.bridges) {
+            Ordering::Less => self.below += 1,
+            Ordering::Equal => self.equal += 1,
+            Ordering::Greater => self.above += 1,
+        }
+        self.tied += u64::from(head.hold);
+        self.refused_heads += u64::from(felt.head_refused);
+        self.granted_less += u64::from(felt.granted_less);
+        self.planned_otherwise += u64::from(felt.planned_otherwise);
+        self.evicting_more += felt.evicting_more;
+        self.without_place += felt.without_place;
+    }
 }
 
 fn main() -> ExitCode {
@@ -111,6 +147,16 @@ impl Tally {
         if !refused_head {
             self.add_ties(&text.bytes, listing);
         }
+        self.add_supply(&text.bytes);
+    }
+
+    fn add_supply(&mut self, text: &[u8]) {
+        let Ok(head) = read_head(text) else {
+            return;
+        };
+        if let (Some(motors), Some(felt)) = (head.supply, felt(text)) {
+            self.supply.add(&head, motors, felt);
+        }
     }
 
     fn add_ties(&mut self, text: &[u8], listing: &[u8]) {
@@ -137,6 +183,19 @@ fn last_number(line: &[u8]) -> usize {
     word.iter().filter(|byte| byte.is_ascii_digit()).fold(0, |value, digit| 10 * value + usize::from(digit - b'0'))
 }
 
+fn report_supply(tallies: &[(&str, Tally)]) {
+    let total = |field: fn(&Supply) -> u64| tallies.iter().map(|(_, tally)| field(&tally.supply)).sum::<u64>();
+    let (below, equal, above) = (total(|s| s.below), total(|s| s.equal), total(|s| s.above));
+    let (heads, tied) = (below + equal + above, total(|s| s.tied));
+    println!("{heads} heads without a line at fault have a supply, {tied} of them (tie hold) after it;");
+    println!("it feeds fewer motors than there are bridges in {below}, as many in {equal}, more in {above};");
+    let (refused, less, otherwise) =
+        (total(|s| s.refused_heads), total(|s| s.granted_less), total(|s| s.planned_otherwise));
+    println!("by it {refused} meet 5, {less} grant less, {otherwise} have another plan;");
+    let (evicting, without) = (total(|s| s.evicting_more), total(|s| s.without_place));
+    println!("by it {evicting} calls evict more cells of the table that they find and {without} meet 7");
+}
+
 fn report(tallies: &[(&str, Tally)]) -> ExitCode {
     let total = |field: fn(&Tally) -> u64| tallies.iter().map(|(_, tally)| field(tally)).sum::<u64>();
     println!("{:<18}{:>9}{:>14}{:>12}{:>10}", "kind of text", "texts", "heads taken", "lines out", "differ");
@@ -157,6 +216,7 @@ fn report(tallies: &[(&str, Tally)]) -> ExitCode {
     let heads = total(|t| t.accepted_heads);
     println!("of {heads} texts whose head is accepted {tied_heads} have (tie hold) in it, {held} have it anywhere;");
     println!("{otherwise} of these have another table under place");
+    report_supply(tallies);
     let (texts, bytes, lines) = (total(|t| t.texts), total(|t| t.bytes), total(|t| t.lines));
     let different = total(|t| t.different);
     println!("{texts} texts of {bytes} bytes, {lines} lines of output: {different} differ");

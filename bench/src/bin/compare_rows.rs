@@ -21,10 +21,11 @@ struct Tally {
     bytes: u64,
     printed: u64,
     different: u64,
-    /// Heads written with rows in them, heads written as rows, and how many of both have an order of ties.
+    /// Heads written with rows in them, heads written as rows, and how many of both have an order of ties or a supply.
     taken: u64,
     written: u64,
     tied: u64,
+    supplied: u64,
     /// Refusals by cause, of heads and of rows.
     heads: [u64; CAUSES],
     rows: [u64; CAUSES],
@@ -81,6 +82,7 @@ impl Tally {
             }
         }
         self.tied += u64::from(head.hold);
+        self.supplied += u64::from(head.supply.is_some());
     }
 }
 
@@ -111,9 +113,8 @@ fn report(tallies: &[(&str, Tally)]) -> u64 {
         println!("{cause:<18}{heads:>9}{rows:>12}");
     }
     let (taken, written, tied) = (total(|t| t.taken), total(|t| t.written), total(|t| t.tied));
-    println!(
-        "\naccepted: {taken} with rows in place of the busy lines, {written} written as rows; {tied} heads with hold"
-    );
+    println!("\naccepted: {taken} with rows in place of the busy lines, {written} written as rows;");
+    println!("{tied} heads with hold, {} with a supply", total(|t| t.supplied));
     let (inputs, bytes, printed) = (total(|t| t.inputs), total(|t| t.bytes), total(|t| t.printed));
     let different = total(|t| t.different);
     println!("{inputs} inputs of {bytes} bytes, {printed} bytes of output: {different} differ");

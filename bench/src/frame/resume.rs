@@ -1,5 +1,5 @@
 //! A frame from a table, a clock and an order of ties handed over by somebody else. Nothing is taken on trust: the table
-//! must be well-formed for the head, else `TableNotWellFormed`; any order of ties will do.
+//! must be well-formed for the head, in no slot beyond its supply, else `TableNotWellFormed`; any order of ties will do.
 
 use super::{Frame, Table, BUSY, CALL, EMPTY, JOBS, MANDATORY, OPTIONAL};
 use crate::head::{Head, PRESETS};
@@ -53,9 +53,13 @@ impl Check {
                     return false;
                 }
                 frame.empty[slot] &= !(1 << bridge);
+                frame.held[slot] += 1;
             }
         }
-        frame.supply.set(slot, frame.empty[slot].count_ones());
+        if u32::from(frame.held[slot]) > frame.motors {
+            return false;
+        }
+        frame.offers.set(slot, frame.free(slot));
         true
     }
 

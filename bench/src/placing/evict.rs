@@ -1,6 +1,6 @@
 //! Which cells a call evicts.
 
-use super::Supply;
+use super::Offers;
 use crate::head::{BRIDGES, PRESETS};
 
 /// The evicted cells of a call, as the slots of each preset.
@@ -8,15 +8,15 @@ pub type Evicted = [u64; PRESETS];
 
 /// The cells that a call evicts, or None if it is not feasible even with all of them gone.
 ///
-/// `supply` and `optional` (the slots of each preset's optional cells) hold only slots from the clock on.
+/// `offers` and `optional` (the slots of each preset's optional cells) hold only slots from the clock on.
 ///
 /// What a call lacks is the largest excess, over r, of its r largest jobs over the capacity for r. One more bridge in
 /// a slot that offers k raises the capacity for every r above k, so it lessens the lack exactly if k is below the
 /// smallest r with the largest excess. The sets that lessen the lack by one with each cell are the independent sets of
 /// a matroid. Hence the smallest set that comes first is found by going through the cells once in eviction order and
 /// taking each that helps; one that does not help never will later.
-pub fn evict(lengths: &[u8], mut supply: Supply, optional: &Evicted, ranking: &[usize]) -> Option<Evicted> {
-    let mut shortage = Shortage::new(lengths, &supply);
+pub fn evict(lengths: &[u8], mut offers: Offers, optional: &Evicted, ranking: &[usize]) -> Option<Evicted> {
+    let mut shortage = Shortage::new(lengths, &offers);
     let mut evicted = [0; PRESETS];
     for &place in ranking.iter().rev() {
         let mut cells = optional[place];
@@ -25,13 +25,13 @@ pub fn evict(lengths: &[u8], mut supply: Supply, optional: &Evicted, ranking: &[
                 return Some(evicted);
             };
             // Not those that offer r bridges already; of the rest the latest slot.
-            cells &= !supply.at_least(r);
+            cells &= !offers.at_least(r);
             if cells == 0 {
                 break;
             }
             let slot = 1 << (63 - cells.leading_zeros());
-            shortage.lessen(supply.offered(slot));
-            supply.add(slot);
+            shortage.lessen(offers.offered(slot));
+            offers.add(slot);
             cells ^= slot;
             evicted[place] |= slot;
         }
@@ -46,12 +46,12 @@ struct Shortage {
 }
 
 impl Shortage {
-    fn new(lengths: &[u8], supply: &Supply) -> Self {
+    fn new(lengths: &[u8], offers: &Offers) -> Self {
         let mut sorted = [0; BRIDGES];
         let sorted = &mut sorted[..lengths.len()];
         sorted.copy_from_slice(lengths);
         sorted.sort_unstable_by(|a, b| b.cmp(a));
-        let mut excess = supply.capacities().map(|capacity| -capacity);
+        let mut excess = offers.capacities().map(|capacity| -capacity);
         let mut largest = 0;
         for (length, excess) in sorted.iter().zip(&mut excess[1..]) {
             largest += i32::from(*length);

@@ -1,12 +1,12 @@
 //! How many optional slots each preset is granted.
 
-use super::{Capacities, Supply};
+use super::{Capacities, Offers};
 use crate::head::{Head, BRIDGES, PRESETS};
 
 /// The grant of each preset, in file order; None if the mandatory slots are not feasible.
-pub fn grants(head: &Head, ranking: &[usize], supply: &Supply) -> Option<[u8; PRESETS]> {
+pub fn grants(head: &Head, ranking: &[usize], offers: &Offers) -> Option<[u8; PRESETS]> {
     let mut needs = Needs::of(head);
-    let capacities = supply.capacities();
+    let capacities = offers.capacities();
     if !needs.feasible(&capacities) {
         return None;
     }

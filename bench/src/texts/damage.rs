@@ -5,7 +5,7 @@ use super::rng::Rng;
 use super::station::TEXT_LIMIT;
 
 /// The bytes that forms are made of, and some that they are not.
-const BYTES: &[u8] = b"()() \n0123456789framebusypresetclockcalltieholdplace-+.\t\r\0F\x0b\x1f\x80\xff";
+const BYTES: &[u8] = b"()() \n0123456789framebusypresetclockcalltieholdplacesupply-+.\t\r\0F\x0b\x1f\x80\xff";
 
 pub fn byte_missing(rng: &mut Rng) -> Vec<u8> {
     spoilt(rng, |_, bytes, at| {
@@ -123,6 +123,11 @@ pub fn lacking_form(rng: &mut Rng) -> Vec<u8> {
         "(tie hold place)",
         "(tie 1)",
         "(tie hold",
+        "(supply)",
+        "(supply 03)",
+        "(supply 2 2)",
+        "(supply (2))",
+        "(supply 2",
     ];
     let mut station = any_station(rng);
     for _ in 0..rng.within(1..=3) {
@@ -178,6 +183,15 @@ pub fn next_to_nothing(rng: &mut Rng) -> Vec<u8> {
         "(frame 1 1)\n(tie place)\n",
         "(frame 1 1)\n(tie hold)\n(tie hold)\n",
         "(frame 1 1)\n(tie hold)\n(tie place)\n",
+        "(supply 1)\n",
+        "(supply 1)\n(frame 1 1)\n",
+        "(frame 1 1)\n(supply 1)",
+        "(frame 1 1)\n(supply 1)\n",
+        "(frame 1 2)\n(supply 1)\n(tie hold)\n",
+        "(frame 1 2)\n(supply 1)\n(tie place)\n",
+        "(frame 1 2)\n(tie hold)\n(supply 1)\n",
+        "(frame 1 2)\n(supply 1)\n(supply 1)\n",
+        "(frame 1 2)\n(supply 1)\n(tie hold)\n(tie place)\n(supply 0)\n",
     ];
     rng.pick(TEXTS).as_bytes().to_vec()
 }

@@ -1,7 +1,7 @@
 //! Texts that try the limits: values just within and just outside, one item or one byte too many.
 
 use super::rng::Rng;
-use super::station::{Station, LARGE, LARGEST, MEDIUM, SMALL, TEXT_LIMIT, TINY};
+use super::station::{any_supply, Station, LARGE, LARGEST, MEDIUM, SMALL, TEXT_LIMIT, TINY};
 
 /// One head line replaced by a line at or past a limit.
 pub fn head_limit(rng: &mut Rng) -> Vec<u8> {
@@ -132,12 +132,15 @@ pub fn many_jobs(rng: &mut Rng) -> Vec<u8> {
     station.bytes()
 }
 
-/// Mandatory slots around the largest sum that is feasible.
+/// Mandatory slots around the largest sum that is feasible, often under a supply.
 pub fn near_full(rng: &mut Rng) -> Vec<u8> {
     let (slots, bridges) = (rng.within(1..=64), rng.within(1..=8));
+    let supply = if rng.chance(50) { Some(any_supply(rng, bridges)) } else { None };
+    let motors = supply.map_or(bridges, |motors| motors.min(bridges));
+    let supply = supply.map_or(String::new(), |motors| format!("(supply {motors})\n"));
     let tie = if rng.chance(50) { "(tie hold)\n" } else { "" };
-    let mut text = format!("(frame {slots} {bridges})\n{tie}");
-    let mut left = (slots * bridges) as i64 + rng.within(0..=2) as i64 - 1;
+    let mut text = format!("(frame {slots} {bridges})\n{supply}{tie}");
+    let mut left = (slots * motors) as i64 + rng.within(0..=2) as i64 - 1;
     let mut place = 1;
     while left > 0 && place <= 32 {
         let most = (slots + usize::from(rng.chance(3))).min(64);

@@ -3,6 +3,7 @@
 use super::limits::{any_station, preset_limit};
 use super::rng::Rng;
 use super::station::{tie_line, Station, MEDIUM, SMALL, TINY};
+use super::supply::supply_line;
 
 /// Numbers of presets and jobs that come again: in the head, in a call, in a later call, after a refused call.
 pub fn used_number(rng: &mut Rng) -> Vec<u8> {
@@ -62,10 +63,28 @@ pub fn misplaced(rng: &mut Rng) -> Vec<u8> {
     station.bytes()
 }
 
-/// A line of any of the six forms, its values good or not.
+/// Puts a line into any place: line 1, one of those right after it, among the busy lines, the presets or the events.
+pub fn insert_anywhere(rng: &mut Rng, station: &mut Station, line: String) {
+    let (busy, presets, head) = (station.busy, station.presets, station.head.len());
+    let at = match rng.below(9) {
+        0 => 0,
+        1 => 1,
+        2 => station.tie,
+        3 => rng.within(busy..=presets),
+        4 => rng.within(presets..=head),
+        _ => {
+            let at = rng.within(0..=station.events.len());
+            station.events.insert(at, line);
+            return;
+        }
+    };
+    station.head.insert(at, line);
+}
+
+/// A line of any of the seven forms, its values good or not.
 fn extra_line(rng: &mut Rng, station: &Station) -> String {
     let (slots, bridges) = (station.slots, station.bridges);
-    match rng.below(9) {
+    match rng.below(10) {
         0 => format!("(frame {slots} {bridges})"),
         1 => "(frame 0 99)".into(),
         2 | 3 => format!("(busy {} (1 1))", rng.within(0..=bridges + 1)),
@@ -73,6 +92,7 @@ fn extra_line(rng: &mut Rng, station: &Station) -> String {
         5 => preset_limit(rng),
         6 => format!("(clock {})", rng.within(0..=slots + 2)),
         7 => tie_line(rng),
+        8 => supply_line(rng),
         _ => format!("(call ({} {}))", rng.within(0..=256), rng.within(0..=65)),
     }
 }

@@ -10,8 +10,8 @@ impl Rng {
     }
 
     /// Another sequence, which starts where this one stands and leaves it there: what is drawn from it moves nothing
-    /// that is drawn later. Orders of ties are drawn so, which keeps the stations that the benchmark's loads are made of
-    /// as they were before there were ties, and their times comparable.
+    /// that is drawn later. Orders of ties and supplies are drawn so, which keeps the stations that the benchmark's loads
+    /// are made of as they were before there were any, and their times comparable.
     pub fn aside(&self) -> Rng {
         Rng(!self.0)
     }

@@ -8,7 +8,11 @@ pub const TEXT_LIMIT: usize = 32_768;
 pub struct Station {
     pub slots: usize,
     pub bridges: usize,
-    /// Where the busy lines start in `head`: after the frame line and the tie line, if there is one.
+    /// How many motors may run in a slot: one for each bridge, or what the supply feeds if that is less.
+    pub motors: usize,
+    /// Where the tie line stands in `head`, or would stand: after the frame line and the supply line, if there is one.
+    pub tie: usize,
+    /// Where the busy lines start in `head`: after these and the tie line, if there is one.
     pub busy: usize,
     /// Where the presets' lines start in `head`.
     pub presets: usize,
@@ -16,8 +20,8 @@ pub struct Station {
     pub events: Vec<String>,
     /// Numbers that no preset has, in random sequence; calls take them from the end.
     pub unused: Vec<usize>,
-    /// How many cells the busy lines that were drawn leave free.
-    pub free: usize,
+    /// How many bridges of each slot the busy lines that were drawn take.
+    pub taken: Vec<usize>,
     /// The clock that the events so far should have reached.
     pub clock: usize,
     /// Of a hundred events, how many are ties.
@@ -67,11 +71,14 @@ impl Station {
         let mut unused: Vec<usize> = (1..=255).collect();
         rng.shuffle(&mut unused);
         let head = vec![format!("(frame {slots} {bridges})")];
-        let (events, free) = (Vec::new(), slots * bridges);
+        let (events, taken) = (Vec::new(), vec![0; slots]);
+        let (motors, tie, busy, presets, clock, ties) = (bridges, 1, 1, 1, 1, 0);
         let mut station =
-            Station { slots, bridges, busy: 1, presets: 1, head, events, unused, free, clock: 1, ties: 0 };
-        station.add_ties(&mut rng.aside());
-        station.free -= station.add_busy(rng);
+            Station { slots, bridges, motors, tie, busy, presets, head, events, unused, taken, clock, ties };
+        let mut aside = rng.aside();
+        station.add_ties(&mut aside);
+        station.add_supply(&mut aside);
+        station.add_busy(rng);
         station.presets = station.head.len();
         let presets = draw(rng, size.presets);
         station.add_presets(rng, presets);
@@ -126,9 +133,9 @@ impl Station {
         self.events.push(event);
     }
 
-    /// A tie line; directly after the frame line it is the head's, and only hold has its place there.
+    /// A tie line; in the head's place for it it is the head's, and only hold has its place there.
     fn tie_event(&self, rng: &mut Rng) -> String {
-        if self.head.len() == 1 && self.events.is_empty() {
+        if self.head.len() == self.tie && self.events.is_empty() {
             return "(tie hold)".into();
         }
         tie_line(rng)
@@ -178,30 +185,50 @@ impl Station {
 
     /// Puts `(tie hold)` into a head that has no tie line yet.
     pub fn hold(&mut self) {
-        self.head.insert(1, "(tie hold)".into());
+        self.head.insert(self.tie, "(tie hold)".into());
         self.busy += 1;
         self.presets += 1;
     }
 
-    /// Adds busy lines; yields how many cells they take.
-    fn add_busy(&mut self, rng: &mut Rng) -> usize {
+    /// Now and then a supply; mostly one that feeds fewer motors than there are bridges.
+    fn add_supply(&mut self, rng: &mut Rng) {
+        if rng.chance(30) {
+            let motors = any_supply(rng, self.bridges);
+            self.set_supply(motors);
+        }
+    }
+
+    /// Puts a supply into the head, in place of the one that it has.
+    pub fn set_supply(&mut self, motors: usize) {
+        let supplies = self.tie - 1;
+        self.head.splice(1..self.tie, [format!("(supply {motors})")]);
+        self.tie = 2;
+        self.busy += 1 - supplies;
+        self.presets += 1 - supplies;
+        self.motors = motors.min(self.bridges);
+    }
+
+    /// How many cells presets and jobs can hold.
+    pub fn free(&self) -> usize {
+        self.taken.iter().map(|taken| self.motors.min(self.bridges - taken)).sum()
+    }
+
+    fn add_busy(&mut self, rng: &mut Rng) {
         let percent = *rng.pick(&[0, 0, 30, 70, 100]);
-        let mut cells = 0;
         for bridge in 1..=self.bridges {
             if rng.chance(percent) {
                 let stretches = stretches(rng, self.slots);
-                cells += stretches.iter().map(|(from, to)| to - from + 1).sum::<usize>();
+                stretches.iter().for_each(|&(from, to)| self.taken[from - 1..to].iter_mut().for_each(|n| *n += 1));
                 let list: Vec<String> = stretches.iter().map(|(from, to)| format!("({from} {to})")).collect();
                 self.head.push(format!("(busy {bridge} {})", list.join(" ")));
             }
         }
-        cells
     }
 
     /// Adds presets whose mandatory slots come near some part of the free cells, now and then beyond it.
     fn add_presets(&mut self, rng: &mut Rng, count: usize) {
         let tenths = rng.within(0..=9);
-        let average = self.free * tenths / 10 / count.max(1);
+        let average = self.free() * tenths / 10 / count.max(1);
         let priorities = rng.within(0..=9);
         let optional = if rng.chance(50) { self.slots } else { self.slots.div_ceil(4) };
         for _ in 0..count {
@@ -217,6 +244,12 @@ impl Station {
 /// Hold somewhat more often: place is what a frame has by itself.
 pub fn tie_line(rng: &mut Rng) -> String {
     (*rng.pick(&["(tie hold)", "(tie hold)", "(tie place)"])).into()
+}
+
+/// A number of motors that a supply can feed, mostly not above so many bridges.
+pub fn any_supply(rng: &mut Rng, bridges: usize) -> usize {
+    let most = if rng.chance(80) { bridges } else { 8 };
+    rng.within(1..=most)
 }
 
 fn draw(rng: &mut Rng, (from, to): (usize, usize)) -> usize {

@@ -2,6 +2,7 @@
 //! good or not.
 
 use super::limits::any_station;
+use super::places::insert_anywhere;
 use super::rng::Rng;
 use super::station::{tie_line, Station, LARGE, MEDIUM, SMALL};
 
@@ -48,7 +49,7 @@ pub fn equal_needs(rng: &mut Rng) -> Vec<u8> {
     let size = *rng.pick(&[SMALL, SMALL, MEDIUM, MEDIUM, LARGE]);
     let mut station = Station::head_only(rng, size);
     station.head.truncate(station.presets);
-    if station.busy == 1 && rng.chance(60) {
+    if station.busy == station.tie && rng.chance(60) {
         station.hold();
     }
     if rng.chance(40) {
@@ -62,22 +63,24 @@ pub fn equal_needs(rng: &mut Rng) -> Vec<u8> {
 /// Busy lines that take the same few slots on every bridge, in place of those there are.
 fn block_slots(rng: &mut Rng, station: &mut Station) {
     let gap = 2 + rng.below(5);
-    let list: Vec<String> = (1 + rng.below(gap)..=station.slots).step_by(gap).map(|s| format!("({s} {s})")).collect();
+    let slots: Vec<usize> = (1 + rng.below(gap)..=station.slots).step_by(gap).collect();
+    let list: Vec<String> = slots.iter().map(|slot| format!("({slot} {slot})")).collect();
     station.head.truncate(station.busy);
     if !list.is_empty() {
         let busy = (1..=station.bridges).map(|bridge| format!("(busy {bridge} {})", list.join(" ")));
         station.head.extend(busy);
     }
     station.presets = station.head.len();
-    station.free = (station.slots - list.len()) * station.bridges;
+    station.taken.fill(0);
+    slots.iter().for_each(|slot| station.taken[slot - 1] = station.bridges);
 }
 
 /// Two to eight presets, whose mandatory slots are at most some length and at least a half of it. Where there are enough free
 /// cells, they take no more than all of these, a half or a third.
 fn add_equal_presets(rng: &mut Rng, station: &mut Station) {
     let (count, part) = (rng.within(2..=8), *rng.pick(&[1, 2, 3]));
-    // At most what a bridge has free on the average, since each needs so many different slots.
-    let length = (station.free / part / count.max(station.bridges)).max(1);
+    // At most what a bridge, or a motor, has free on the average, since each needs so many different slots.
+    let length = (station.free() / part / count.max(station.motors)).max(1);
     for _ in 0..count {
         let number = station.job_number(rng, 0);
         let (priority, mandatory) = (rng.below(3), rng.within(length.div_ceil(2)..=length));
@@ -104,7 +107,7 @@ fn equal_call(rng: &mut Rng, station: &mut Station) -> String {
     format!("(call {})", jobs.join(" "))
 }
 
-/// Directly after the frame line: hold, place, one of them twice, both; and right after the head.
+/// Directly after the frame line or the supply line: hold, place, one of them twice, both; and right after the head.
 pub fn in_its_place(rng: &mut Rng) -> Vec<u8> {
     const LINES: &[&[&str]] = &[
         &["(tie hold)"],
@@ -115,12 +118,11 @@ pub fn in_its_place(rng: &mut Rng) -> Vec<u8> {
         &["(tie place)", "(tie hold)"],
     ];
     let mut station = any_station(rng);
-    station.head.drain(1..station.busy);
     let lines = rng.pick(LINES);
-    station.head.splice(1..1, lines.iter().map(|&line| line.to_owned()));
+    station.head.splice(station.tie..station.busy, lines.iter().map(|&line| line.to_owned()));
     // A second tie line is an event: with it nothing else is left of the head, mostly.
     if lines.len() > 1 && rng.chance(70) {
-        station.head.truncate(1 + lines.len());
+        station.head.truncate(station.tie + lines.len());
     }
     if rng.chance(50) {
         let line = tie_line(rng);
@@ -129,14 +131,15 @@ pub fn in_its_place(rng: &mut Rng) -> Vec<u8> {
     station.bytes()
 }
 
-/// A tie line for which the head is refused: before the frame line, in place of it, or `(tie place)` directly after it.
+/// A tie line for which the head is refused: before the frame line, in place of it, or `(tie place)` where hold has its
+/// place.
 pub fn out_of_place(rng: &mut Rng) -> Vec<u8> {
     let mut station = any_station(rng);
     match rng.below(4) {
         0 => station.head.insert(0, tie_line(rng)),
         1 => station.head[0] = tie_line(rng),
         _ => {
-            station.head.splice(1..station.busy, ["(tie place)".to_owned()]);
+            station.head.splice(station.tie..station.busy, ["(tie place)".to_owned()]);
         }
     }
     station.bytes()
@@ -147,7 +150,7 @@ pub fn anywhere(rng: &mut Rng) -> Vec<u8> {
     let mut station = any_station(rng);
     for _ in 0..rng.within(1..=3) {
         let line = tie_line(rng);
-        insert(rng, &mut station, line);
+        insert_anywhere(rng, &mut station, line);
     }
     station.bytes()
 }
@@ -159,7 +162,7 @@ pub fn damaged(rng: &mut Rng) -> Vec<u8> {
         return without_end(rng, station);
     }
     let line = (*rng.pick(LACKING_FORM)).to_owned();
-    insert(rng, &mut station, line);
+    insert_anywhere(rng, &mut station, line);
     station.bytes()
 }
 
@@ -173,20 +176,4 @@ fn without_end(rng: &mut Rng, mut station: Station) -> Vec<u8> {
     let mut bytes = station.bytes();
     bytes.pop();
     bytes
-}
-
-fn insert(rng: &mut Rng, station: &mut Station, line: String) {
-    let (busy, presets, head) = (station.busy, station.presets, station.head.len());
-    let at = match rng.below(9) {
-        0 => 0,
-        1 | 2 => 1,
-        3 => rng.within(busy..=presets),
-        4 => rng.within(presets..=head),
-        _ => {
-            let at = rng.within(0..=station.events.len());
-            station.events.insert(at, line);
-            return;
-        }
-    };
-    station.head.insert(at, line);
 }

@@ -140,6 +140,7 @@ demand-3 h st es start = record {
   capacity = λ j jobs here. callClaim h st es start j jobs here .capacity;
   excess = λ j jobs n here q. callClaim h st es start j jobs here .excess n (took h st es start j jobs here n q);
   evicted = λ j jobs n here q. callClaim h st es start j jobs here .evicted n (took h st es start j jobs here n q);
+  frees = λ j jobs here. callClaim h st es start j jobs here .frees;
   order = λ j jobs n here q. callClaim h st es start j jobs here .order n (took h st es start j jobs here n q);
   rule = λ j jobs n here. rule-at h st es start j jobs here n;
   slots = λ j jobs n here. slots-at h st es start j jobs here n;

@@ -18,7 +18,7 @@ use Rattle.laws.proofs.Comparisons.{ge-of}
 use Rattle.station.specs.Head.{Head, Job}
 use Rattle.station.specs.Refusal.{Refusal, numberOf, noForm, outOfLimits, outOfPlace, numberUsed, clockBack, callNotFeasible, tooMany, notWellFormed}
 use Rattle.station.specs.Refusal.{try, firstOf}
-use Rattle.station.specs.Form.{Form, frameLine, busyLine, presetLine, clockLine, callLine, tieLine, print, form}
+use Rattle.station.specs.Form.{Form, frameLine, busyLine, presetLine, clockLine, callLine, tieLine, supplyLine, print, form}
 use Rattle.station.proofs.Theorems.{form-had, first-none, first-of-none, append-none, append-left-none, Never, end, skip, never-first}
 use Rattle.placing.specs.Table.{cell}
 use Rattle.placing.specs.Valid.{clockIn}
@@ -184,6 +184,7 @@ asks-tie (some (busyLine b p)) hold q = cc
 asks-tie (some (presetLine p)) hold q = cc
 asks-tie (some (clockLine t)) hold q = cc
 asks-tie (some (callLine p)) hold q = cc
+asks-tie (some (supplyLine k)) hold q = cc
 asks-tie (some (tieLine next)) hold q = let same : next ≡ hold = cc in ap (λ (b : Bool). some (tieLine b)) same
 
 pub tie-line : (l : List ℕ) (hold : Bool) → asked (line l) ≡ setTie hold → l ≡ print (tieLine hold)
@@ -221,6 +222,7 @@ line-fault (some (presetLine p)) r q = inr cc
 line-fault (some (clockLine t)) r q = inl cc
 line-fault (some (callLine p)) r q = inl cc
 line-fault (some (tieLine hold)) r q = inl cc
+line-fault (some (supplyLine k)) r q = inr cc
 
 fault-is : (e : Event) (r : Refusal) → asked e ≡ fault r → (r ≡ noForm) ⊎ (r ≡ outOfPlace)
 fault-is (line l) r q = line-fault (form l) r q

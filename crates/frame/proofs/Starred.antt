@@ -1,8 +1,8 @@
 -- The starred frames of document 01, "Frames to try": one list of cases, each a station text, its whole listing and, where the case is about fitting, what
 -- that says of every placement; and one fact, that all hold. Beside them the other frames to try of that list that a text can state, and all frames of
--- docs/CALLS.md: against versions 1 to 3 of the manual's page, and against readings that mislead; and frames with ties, of document 02, 2026-02.
+-- docs/CALLS.md: against versions 1 to 3 of the manual's page, and against readings that mislead; and frames with ties and with a supply, of document 02, 2026-02 and 2026-03.
 --
--- In order: cases and when one holds (`Case`, `Meaning`, `Holds`); `starred`, `others`, `refuting`, `misleading`, `tied`; from an answer to its meaning; `frames-hold`.
+-- In order: cases and when one holds (`Case`, `Meaning`, `Holds`); `starred`, `others`, `refuting`, `misleading`, `tied`, `supplied`; from an answer to its meaning; `frames-hold`.
 -- Assumes nothing.
 use Prim.Native.Nat.{ℕ, _≤_}
 use Prim.Native.String.{String}
@@ -231,6 +231,40 @@ tied =
     "(granted 9 0)\n(tie hold)\n(refused 4 4)\n(refused 5 1)\n(refused 6 2)\n(taken 0)\n(slot 1 c2)\n(slot 2 c2)\n(slot 3 c1)\n"
     ∷ []
 
+-- ---- frames with a supply: document 02, 2026-03
+
+unfoldable pub supplied : List Case
+supplied =
+    -- "k less the cells held by presets and calls": one job finds a motor beside two required cells, two do not
+    means (loses 1 (job 9 1 ∷ []) 0) "(frame 1 4)\n(supply 3)\n(preset 1 0 1 0)\n(preset 2 0 1 0)\n(call (9 1))\n" "(granted 1 0)\n(granted 2 0)\n(taken 0)\n(slot 1 m1 m2 c9 0)\n"
+    ∷ means (no-placement 1 (job 9 1 ∷ job 8 1 ∷ [])) "(frame 1 4)\n(supply 3)\n(preset 1 0 1 0)\n(preset 2 0 1 0)\n(call (9 1) (8 1))\n"
+    "(granted 1 0)\n(granted 2 0)\n(refused 5 7)\n(slot 1 m1 m2 0 0)\n"
+    -- earlier calls hold their motors; a lost cell frees one, though a bridge is empty
+    ∷ shows "(frame 1 3)\n(supply 2)\n(call (7 1) (8 1))\n(call (9 1))\n" "(taken 0)\n(refused 4 7)\n(slot 1 c7 c8 0)\n"
+    ∷ means (loses 1 (job 9 1 ∷ []) 1) "(frame 1 3)\n(supply 2)\n(preset 1 0 1 0)\n(preset 2 0 0 1)\n(call (9 1))\n" "(granted 1 0)\n(granted 2 1)\n(taken 1)\n(slot 1 m1 c9 0)\n"
+    -- a busy cell draws nothing; the chosen take the lowest free bridges, and the others stay empty
+    ∷ means a-plan "(frame 1 3)\n(supply 1)\n(busy 1 (1 1))\n(preset 1 0 1 0)\n" "(granted 1 0)\n(slot 1 - m1 0)\n"
+    ∷ means a-plan "(frame 2 3)\n(supply 2)\n(preset 1 0 1 0)\n(preset 2 0 1 0)\n(preset 3 0 1 0)\n" "(granted 1 0)\n(granted 2 0)\n(granted 3 0)\n(slot 1 m1 m2 0)\n(slot 2 m3 0 0)\n"
+    -- required slots for which no motor is left do not fit
+    ∷ means no-plan "(frame 1 2)\n(supply 1)\n(preset 1 0 1 0)\n(preset 2 0 1 0)\n" "(refused 4 5)\n"
+    -- "k from 1 to 8"; above B it has no effect
+    ∷ shows "(frame 1 1)\n(supply 0)\n" "(refused 2 2)\n"
+    ∷ shows "(frame 1 1)\n(supply 9)\n" "(refused 2 2)\n"
+    ∷ shows "(frame 1 1)\n(supply 03)\n" "(refused 2 1)\n"
+    ∷ shows "(frame 1 2)\n(supply 8)\n(call (1 1) (2 1))\n" "(taken 0)\n(slot 1 c1 c2)\n"
+    -- it "stands right after the frame line": on line 1, a second one, after the tie line, a busy line, a preset and an event it is out of its place, whatever k
+    ∷ shows "(supply 1)\n" "(refused 1 3)\n"
+    ∷ shows "(frame 1 1)\n(supply 1)\n(supply 99)\n" "(refused 3 3)\n"
+    ∷ shows "(frame 1 1)\n(tie hold)\n(supply 99)\n" "(refused 3 3)\n"
+    ∷ shows "(frame 1 1)\n(busy 1 (1 1))\n(supply 99)\n" "(refused 3 3)\n"
+    ∷ shows "(frame 1 1)\n(preset 1 0 0 0)\n(supply 99)\n" "(refused 3 3)\n"
+    ∷ shows "(frame 1 1)\n(clock 1)\n(supply 99)\n(supply 1)\n" "(now 1)\n(refused 3 3)\n(refused 4 3)\n(slot 1 0)\n"
+    -- "the place of a head's tie line is then right after it"
+    ∷ shows "(frame 3 2)\n(supply 1)\n(tie hold)\n(call (5 1) (6 2))\n" "(taken 0)\n(slot 1 c6 0)\n(slot 2 c6 0)\n(slot 3 c5 0)\n"
+    ∷ shows "(frame 1 1)\n(supply 1)\n(tie place)\n" "(refused 3 3)\n"
+    ∷ shows "(frame 1 1)\n(supply 1)\n(tie hold)\n(tie hold)\n" "(tie hold)\n(slot 1 0)\n"
+    ∷ []
+
 -- ---- from the answers, which compute, to their meaning, by the claims about plan and call
 
 abbrev isGranted : PlanAnswer → Bool
@@ -296,6 +330,14 @@ tied-compute =
     (refl, tt) and (refl, tt) and (refl, tt) and (refl, tt) and (refl, tt) and (refl, refl) and (refl, refl) and (refl, refl) and (refl, tt) and (refl, tt) and (refl, tt) and (refl, tt)
     and (refl, tt) and (refl, tt) and (refl, tt) and end
 
--- Every starred frame comes out as document 01 says, and so do the others; every frame of docs/CALLS.md comes out as that page says, and those with ties as document 02 does.
-pub frames-hold : All Holds starred × All Holds others × All Holds refuting × All Holds misleading × All Holds tied
-frames-hold = (all-hold starred-compute, all-hold others-compute, all-hold refuting-compute, all-hold misleading-compute, all-hold tied-compute)
+supplied-compute : All Computes supplied
+unfolding lists supplied
+supplied-compute =
+    (refl, refl) and (refl, refl) and (refl, tt) and (refl, refl) and (refl, refl) and (refl, refl) and (refl, refl) and (refl, refl) and (refl, refl) and (refl, refl) and (refl, tt)
+    and (refl, refl) and (refl, refl) and (refl, refl) and (refl, refl) and (refl, refl) and (refl, tt) and (refl, tt) and (refl, refl) and (refl, tt) and end
+
+-- Every starred frame comes out as document 01 says, and so do the others; every frame of docs/CALLS.md comes out as that page says, and those with ties and with a supply as document 02
+-- does.
+pub frames-hold : All Holds starred × All Holds others × All Holds refuting × All Holds misleading × All Holds tied × All Holds supplied
+frames-hold =
+    (all-hold starred-compute, all-hold others-compute, all-hold refuting-compute, all-hold misleading-compute, all-hold tied-compute, all-hold supplied-compute)

@@ -4,26 +4,25 @@
 -- In order: texts: lines after an event, the limits of a clock and of a call at both edges, the causes of a head and of an event two at a time, the order of
 -- loss (`texts-list`); events on a lent table, by the listed order 8, 2, 11, 1, 3, 2, 4, 9, 6, 7 (`events-answered`), and with preset records
 -- (`records-answered`); the order of ties that is lent, met and left (`orders-met`, `orders-left`); what a list handed over may start from (`starts-pass`); the moments of a list
--- (`between-ends`); the planner before there were ties (`before-listed`, `no-tie-met`); a text beside short lent things (`texts-end`), and a text of events (`events-end`); the entries that write lines (`lines-answered`).
+-- (`between-ends`); the planner before there were ties and a supply (`before-listed`, `five-met`, `asked-met`); a text beside short lent things (`texts-end`), and a text of events (`events-end`); the entries that write lines (`lines-answered`).
 -- Assumes nothing.
-use Prim.Native.Nat.{ℕ, zero, suc}
-use mathlib.Core.Path.{_≡_, refl, sym, _∙_, ap}
+use Prim.Native.Nat.{ℕ, zero, suc, _≤_}
+use mathlib.Core.Path.{_≡_, refl, sym, ap}
 use mathlib.Core.Bool.{Bool, true, false}
 use mathlib.Core.Option.{none, some}
 use mathlib.Core.List.{List, [], _∷_, _++_, map}
 use native.Mathlib.Omega.{arith}
 use lib.ListN.{length, take, replicate}
-use Rattle.laws.proofs.Tests.{clash, none-some}
-use Rattle.station.specs.Head.{Head, Job}
-use Rattle.station.specs.Refusal.{noForm, outOfLimits, outOfPlace, numberUsed, clockBack, callNotFeasible, tooShort, tooMany, textTooLong, notWellFormed}
+use Rattle.laws.proofs.Tests.{none-some}
+use Rattle.station.specs.Head.{Head, Job, withSupply}
+use Rattle.station.specs.Refusal.{numberOf, noForm, outOfLimits, outOfPlace, numberUsed, clockBack, callNotFeasible, tooShort, tooMany, textTooLong, notWellFormed}
 use Rattle.station.specs.Text.{bytes, lines}
-use Rattle.station.specs.Form.{Form, tieLine, isTie}
 use Rattle.station.specs.Wrote.{moved}
 use Rattle.station.specs.WriteHead as write
 use Rattle.station.specs.declared.types.Head as record-of-head
 use Rattle.placing.specs.Table.{callCell}
 use Rattle.placing.proofs.Examples.{jobCells, recordsTo}
-use Rattle.frame.specs.Event.{Event, line, clock, call, Answer, clockNow, tieNow, taken, refused, eventOf}
+use Rattle.frame.specs.Event.{Event, line, clock, call, Asked, setClock, setTie, placeJobs, fault, Answer, clockNow, tieNow, taken, refused, eventOf}
 use Rattle.placing.specs.State.{State, stateOf}
 use Rattle.frame.specs.EventDone.{eventMeant}
 use Rattle.frame.specs.EventEntry.{eventOnSlice}
@@ -34,7 +33,8 @@ use Rattle.frame.specs.TextDone.{wholeWithOutput, listed, refusedAt, hol
 use Rattle.frame.specs.TextEntry.{wholeOnSlice}
 use Rattle.frame.specs.EventsDone.{EventsOutcome, eventsMeant}
 use Rattle.frame.specs.Listing.{listingOf}
-use Rattle.frame.specs.Before.{readBefore, headBefore, servedBefore, leftBefore, planBefore, carriedBefore, eventBefore, runBefore, withPlanBefore, withHeadBefore, wholeBefore, NoTieLine}
+use Rattle.placing.specs.Uncapped.{Uncapped, needsUncapped, grantsUncapped, evictedUncapped, fitsUncapped}
+use Rattle.frame.specs.Before.{readBefore, headBefore, servedBefore, leftBefore, planBefore, ownCausesBefore, carriedBefore, eventBefore, runBefore, withPlanBefore, withHeadBefore, wholeBefore, FiveForms, FiveAsked}
 use Rattle.frame.specs.declared.types.Answer.the-variants as reply
 use Rattle.frame.specs.WriteListing.{listingCause, listingMeant}
 use Rattle.frame.specs.WroteLine.{lineWritten, answerWritten, grantWritten, slotWritten}
@@ -92,7 +92,7 @@ lent l = take 512 (l ++ replicate 512 0)
 
 -- a frame with nothing busy and no presets
 abbrev bare : ℕ → ℕ → Head
-bare s b = record { slots = s; bridges = b; hold = false; busy = replicate 8 0; presets = [] }
+bare s b = record { slots = s; bridges = b; supply = 0; hold = false; busy = replicate 8 0; presets = [] }
 
 abbrev job : ℕ → ℕ → Job
 job n c = record { number = n; slots = c }
@@ -130,6 +130,13 @@ events =
     ∷ answers (refused 0 outOfLimits) (bare 1 9) (lent []) 1 (line (bytes "(tie hold)\n"))
     ∷ answers (refused 0 notWellFormed) (bare 1 1) (lent []) 3 (line (bytes "(tie place)\n"))
     ∷ answers (refused 0 noForm) (bare 1 1) (lent []) 1 (line (bytes "(tie hold)"))
+    -- a supply line is no event, whatever its k; a supply that no text yields is 2, before 11; a table above the cap is 11, at the cap it passes
+    ∷ answers (refused 0 outOfPlace) (bare 1 1) (lent []) 1 (line (bytes "(supply 1)\n"))
+    ∷ answers (refused 0 outOfPlace) (bare 1 1) (lent []) 1 (line (bytes "(supply 99)\n"))
+    ∷ answers (refused 0 noForm) (bare 1 1) (lent []) 1 (line (bytes "(supply)\n"))
+    ∷ answers (refused 0 outOfLimits) (withSupply (bare 1 1) 9) (lent (7 ∷ [])) 1 (clock 1)
+    ∷ answers (refused 0 notWellFormed) (withSupply (bare 1 2) 1) (lent (callCell 7 ∷ callCell 8 ∷ [])) 2 (clock 2)
+    ∷ answers (clockNow 2) (withSupply (bare 1 2) 2) (lent (callCell 7 ∷ callCell 8 ∷ [])) 2 (clock 2)
     -- "no job outside a text"; 2 before 4, 4 before 9, 9 before 7
     ∷ answers (refused 0 outOfLimits) (bare 1 1) (lent []) 1 (call [])
     ∷ answers (refused 0 outOfLimits) (bare 1 1) (lent []) 1 (call (job 5 1 ∷ job 5 65 ∷ []))
@@ -147,7 +154,7 @@ events-answered = refl
 
 -- a head record of one slot and one bridge that counts so many presets
 abbrev counting : ℕ → record-of-head.Head
-counting n = record { slots = 1; bridges = 1; hold = false; busy = replicate 8 0; count = n }
+counting n = record { slots = 1; bridges = 1; supply = 0; hold = false; busy = replicate 8 0; count = n }
 
 abbrev clockOne : Event
 clockOne = line (bytes "(clock 1)\n")
@@ -202,28 +209,54 @@ starts-pass = (refl, refl, λ p. p, λ p. p)
 pub between-ends : (es : List Event) (P : ℕ → ℕ → Type 0) → Between es P → P 0 (length es)
 between-ends es P all = all 0 (length es) (omega arith) (omega arith)
 
--- ---- the planner before there were ties
+-- ---- the planner before there were ties and a supply
 
--- As document 01 has it: a tie line is none of the five forms, in a head and after one; of equal ones the earlier line goes first, in a plan and in a call.
+-- As document 01 has it: a tie line and a supply line are none of the five forms, in a head and after one; of equal ones the earlier line goes first, in a plan and in a call; every free bridge
+-- is used.
 pub before-listed : (listingOf (wholeBefore (bytes "(frame 1 1)\n(tie hold)\n") blank) ≡ bytes "(refused 2 1)\n")
     × (listingOf (wholeBefore (bytes "(frame 1 1)\n(clock 1)\n(tie hold)\n") blank) ≡ bytes "(now 1)\n(refused 3 1)\n(slot 1 0)\n")
+    × (listingOf (wholeBefore (bytes "(frame 1 1)\n(supply 1)\n") blank) ≡ bytes "(refused 2 1)\n")
+    × (listingOf (wholeBefore (bytes "(frame 1 1)\n(clock 1)\n(supply 1)\n") blank) ≡ bytes "(now 1)\n(refused 3 1)\n(slot 1 0)\n")
+    × (listingOf (wholeBefore (bytes "(frame 1 3)\n(preset 1 0 0 1)\n(preset 2 0 0 1)\n(call (5 1) (6 1))\n(call (7 2))\n") blank)
+    ≡ bytes "(granted 1 1)\n(granted 2 1)\n(taken 1)\n(refused 5 7)\n(slot 1 o1 c5 c6)\n")
     × (listingOf (wholeBefore (bytes "(frame 6 1)\n(preset 1 0 1 0)\n(preset 2 0 2 0)\n(call (5 1) (6 2))\n") blank)
     ≡ bytes "(granted 1 0)\n(granted 2 0)\n(taken 0)\n(slot 1 m2)\n(slot 2 m1)\n(slot 3 m2)\n(slot 4 c6)\n(slot 5 c5)\n(slot 6 c6)\n")
-unfolding lists readBefore headBefore servedBefore leftBefore planBefore carriedBefore eventBefore runBefore withPlanBefore withHeadBefore wholeBefore
-before-listed = (refl, refl, refl)
+unfolding
+    lists readBefore headBefore servedBefore leftBefore needsUncapped grantsUncapped evictedUncapped fitsUncapped planBefore ownCausesBefore carriedBefore eventBefore runBefore withPlanBefore
+    withHeadBefore wholeBefore
+before-listed = (refl, refl, refl, refl, refl, refl)
 
--- What `place-as-before` asks of a text can be met, and a text with a tie line does not meet it.
-pub no-tie-met : NoTieLine (lines (bytes "(frame 1 1)\n(clock 1)\n")) × (NoTieLine (lines (bytes "(frame 1 1)\n(tie hold)\n")) → ⊥)
+-- What `place-as-before` asks of a text can be met, and a text with a tie line or a supply line does not meet it.
+pub five-met : FiveForms (lines (bytes "(frame 1 1)\n(clock 1)\n"))
+    × (FiveForms (lines (bytes "(frame 1 1)\n(tie hold)\n")) → ⊥)
+    × (FiveForms (lines (bytes "(frame 1 1)\n(supply 8)\n")) → ⊥)
 unfolding lists
-no-tie-met = (met, λ p. p 1 true refl)
+five-met = (met, λ p. none-some (sym (p 1)), λ p. none-some (sym (p 1)))
   where
-    other : {f : Form} {hold : Bool} → isTie f ≡ false → some f ≡ some (tieLine hold) → ⊥
-    other {f} {hold} e q = let same : f ≡ tieLine hold = cc in clash (sym (ap isTie same) ∙ e)
+    met : FiveForms (lines (bytes "(frame 1 1)\n(clock 1)\n"))
+    met zero = refl
+    met (suc zero) = refl
+    met (suc (suc j)) = refl
 
-    met : NoTieLine (lines (bytes "(frame 1 1)\n(clock 1)\n"))
-    met zero hold q = other refl q
-    met (suc zero) hold q = other refl q
-    met (suc (suc j)) hold q = absurd (none-some q)
+-- So it is with what `run-as-before` asks of events and of a head: a tie line and a supply line ask for something else, and a supply below the bridges is a cap, one for each bridge is none.
+abbrev cause : Asked → ℕ
+cause (setClock t) = 0
+cause (setTie hold) = 0
+cause (placeJobs jobs) = 0
+cause (fault r) = numberOf r
+
+pub asked-met : FiveAsked (line (bytes "(clock 1)\n") ∷ clock 2 ∷ [])
+    × (FiveAsked (line (bytes "(tie place)\n") ∷ []) → ⊥)
+    × (FiveAsked (line (bytes "(supply 8)\n") ∷ []) → ⊥)
+    × Uncapped (withSupply (bare 1 2) 2)
+    × (Uncapped (withSupply (bare 1 2) 1) → ⊥)
+unfolding lists
+asked-met = (met, λ p. let e : _≡_ {A = ℕ} 0 1 = ap cause (p 0) in omega arith, λ p. let e : _≡_ {A = ℕ} 3 1 = ap cause (p 0) in omega arith, omega arith, λ p. let l : 2 ≤ 1 = p in omega arith)
+  where
+    met : FiveAsked (line (bytes "(clock 1)\n") ∷ clock 2 ∷ [])
+    met zero = refl
+    met (suc zero) = refl
+    met (suc (suc j)) = refl
 
 -- ---- a text beside lent things that are too short: 10, then 8, then the head's
 

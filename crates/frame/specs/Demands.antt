@@ -1,5 +1,5 @@
 -- The three demands as statements about `wholeOf`, `headOf`, `textOf`, `planOf`, `eventOf` and `runOf`, each a record whose fields are document 01's
--- sentences in their order, and those of document 02, 2026-02, on the order of ties. That they hold for all texts, tables, starts and lists of events is `demand-1`, `demand-2` and
+-- sentences in their order, and those of document 02, 2026-02 on the order of ties and 2026-03 on the supply. That they hold for all texts, tables, starts and lists of events is `demand-1`, `demand-2` and
 -- `demand-3` in proofs/Demands.antt.
 -- Assumes nothing.
 use Prim.Native.Nat.{ℕ, suc, _+_, _≤_, _<_}
@@ -20,10 +20,10 @@ use Rattle.placing.specs.Table.{Cells, cell, cells, Each, holding, isBusy, isMa
 use Rattle.placing.specs.State.{State, stateOf, withTable, withClock, withOrder}
 use Rattle.placing.specs.Valid.{ValidPlan, ValidCall, usable, jobAt, lost, lostUpTo, optionalCount}
 use Rattle.placing.specs.Plan.{GrantRule, tieOf, planned}
-use Rattle.placing.specs.Call.{emptyCount, evictionOrder, InEvictionOrder, slotsOf, inSet, evictedSet, called}
-use Rattle.placing.specs.Capacity.{CallByCapacity, GreatestExcess, longestJobs, emptyCapacity}
+use Rattle.placing.specs.Call.{freeNumberFrom, evictionOrder, InEvictionOrder, slotsOf, inSet, evictedSet, called}
+use Rattle.placing.specs.Capacity.{CallByCapacity, GreatestExcess, longestJobs, freeCapacity}
 use Rattle.placing.specs.Outcomes.{Cost, costOf, PlanAnswer, planOf, CallAnswer, calledState, callOf}
-use Rattle.placing.specs.Claims.{Running, SamePast, PresetsRule, Fits, JobsRule, LeastCall, beforeSeven}
+use Rattle.placing.specs.Claims.{Frees, Running, SamePast, PresetsRule, Fits, JobsRule, LeastCall, beforeSeven}
 use Rattle.frame.specs.Event.{Event, line, setClock, setTie, placeJobs, asked, Answer, clockNow, tieNow, taken, refused, Outcome, Run, clockState, tieState, eventCauses, runOf}
 use Rattle.frame.specs.Text.{Whole, notRead, notPlanned, ran, startOf, eventsOf, wholeOf}
 use Rattle.frame.specs.Listing.{answerLine}
@@ -178,15 +178,17 @@ pub record Demand3 (h : Head) (st : State) (es : List Event) : Type 0 where
       × ((u : List ℕ) → ValidCall h (stateAt h st es j .clock) jobs (cellsAt h st es j) (cell h u) → ⊥))
   pub seven-is-a-call : (j : ℕ) → j < length es → answerAt h st es j ≡ refused 0 callNotFeasible → (jobs : List Job) × CallAt es j jobs
   -- "Needs fit exactly if, for every r, the r largest needs together do not exceed" the room for r: so it is with the valid placements of a call that meets no cause tried before 7; and what an
-  -- accepted call loses is the greatest excess over the room in the empty cells, which every valid placement loses at least
+  -- accepted call loses is the greatest excess over the room for r without loss, which every valid placement loses at least
   pub capacity : (j : ℕ) (jobs : List Job) → CallAt es j jobs → firstOf (beforeSeven h jobs (stateAt h st es j)) ≡ none
       → CallByCapacity h (stateAt h st es j .clock) jobs (cellsAt h st es j)
   pub excess : (j : ℕ) (jobs : List Job) (n : Cost) → CallAt es j jobs → answerAt h st es j ≡ taken n
-      → GreatestExcess (longestJobs jobs) (emptyCapacity h (stateAt h st es j .clock) (cellsAt h st es j)) (n .count)
+      → GreatestExcess (longestJobs jobs) (freeCapacity h (stateAt h st es j .clock) (cellsAt h st es j)) (n .count)
   -- "An accepted call leaves a valid one, that of the rules above": the first of the smallest sets is lost, and the jobs go by the placing rule
   pub evicted : (j : ℕ) (jobs : List Job) (n : Cost) → CallAt es j jobs → answerAt h st es j ≡ taken n
-      → FirstSmallest (Fits h jobs) (emptyCount h (stateAt h st es j .clock) (cellsAt h st es j))
+      → FirstSmallest (Fits h jobs) (freeNumberFrom h (stateAt h st es j .clock) (cellsAt h st es j))
       (slotsOf (evictionOrder h (stateAt h st es j .clock) (cellsAt h st es j))) (evictedSet h (stateAt h st es j .clock) jobs (cellsAt h st es j))
+  -- "A lost cell frees one motor": what a set adds to the free numbers there is what losing it frees
+  pub frees : (j : ℕ) (jobs : List Job) → CallAt es j jobs → firstOf (beforeSeven h jobs (stateAt h st es j)) ≡ none → Frees h (stateAt h st es j .clock) (cellsAt h st es j)
   pub order : (j : ℕ) (jobs : List Job) (n : Cost) → CallAt es j jobs → answerAt h st es j ≡ taken n
       → InEvictionOrder h (stateAt h st es j .clock) (cellsAt h st es j) (evictionOrder h (stateAt h st es j .clock) (cellsAt h st es j))
   pub rule : (j : ℕ) (jobs : List Job) (n : Cost) → CallAt es j jobs → answerAt h st es j ≡ taken n

@@ -1,4 +1,4 @@
--- One event on the running frame, and a list of events. Document 01, "The station text", "Causes" and "What demand 3 speaks of"; document 02, 2026-02.
+-- One event on the running frame, and a list of events. Document 01, "The station text", "Causes" and "What demand 3 speaks of"; document 02, 2026-02 and 2026-03.
 -- Assumes nothing.
 use Prim.Native.Nat.{ℕ}
 use mathlib.Core.Bool.{Bool, not}
@@ -7,7 +7,7 @@ use mathlib.Core.List.{List, [], _∷_, _++_}
 use lib.Dec.{ltb}
 use Rattle.station.specs.Head.{Head, Job}
 use Rattle.station.specs.Refusal.{Refusal, noForm, outOfLimits, outOfPlace, clockBack, try, firstOf}
-use Rattle.station.specs.Form.{Form, frameLine, busyLine, presetLine, clockLine, callLine, tieLine, jobsOf, form}
+use Rattle.station.specs.Form.{Form, frameLine, busyLine, presetLine, clockLine, callLine, tieLine, supplyLine, jobsOf, form}
 use Rattle.placing.specs.Table.{cell}
 use Rattle.placing.specs.Valid.{clockIn}
 use Rattle.placing.specs.State.{State, withClock, withOrder}
@@ -42,7 +42,7 @@ pub data Asked : Type 0 where
   placeJobs : List Job → Asked
   fault : Refusal → Asked
 
--- "a line that is not one of the five forms, or lacks its end", which are six since 2026-02; "A head line after an event is out of place."
+-- "a line that is not one of the five forms, or lacks its end", which are six since 2026-02 and seven since 2026-03; "A head line after an event is out of place."
 abbrev pub askedByForm : Option Form → Asked
 askedByForm none = fault noForm
 askedByForm (some (frameLine s b)) = fault outOfPlace
@@ -51,6 +51,7 @@ askedByForm (some (presetLine p)) = fault outOfPlace
 askedByForm (some (clockLine t)) = setClock t
 askedByForm (some (callLine p)) = placeJobs (jobsOf p)
 askedByForm (some (tieLine hold)) = setTie hold
+askedByForm (some (supplyLine k)) = fault outOfPlace
 
 abbrev pub asked : Event → Asked
 asked (line l) = askedByForm (form l)

@@ -1,7 +1,7 @@
 -- Laws of counts: how many of the numbers below a bound pass a test.
 --
 -- In order: a test as a number (`bit`), a comparison in terms that omega reads (`bit-ltb`); counts of tests that are equal, imply one another, hold nowhere or everywhere, and what
--- a count that is not 0 has found; a count split by a second test, of one or the other, and of the smaller numbers; a test passed at most once, and the one selected term; one number
+-- a count that is not 0 has found; a count split by a second test, of one or the other, and of the smaller numbers; a test passed at most once, or at most k times, and the one selected term; one number
 -- for each that passes. One number more is in Loops, the count of what comes before in an order in Order.
 -- Assumes nothing.
 use Prim.Native.Nat.{ℕ, zero, suc, _+_, _-_, _*_, _≤_, _<_, min, zero-le}
@@ -136,6 +136,16 @@ pub count-le-bit : (n : ℕ) (p : ℕ → Bool) (b : Bool) → ((i j : ℕ) → 
     → ((i : ℕ) → i < n → p i ≡ true → b ≡ true) → count n p ≤ bit b
 count-le-bit n p true once only-if = count-once n p once
 count-le-bit n p false once only-if = omega (arith, count-none n p (λ i l. not-true (p i) (λ e. clash (sym (only-if i l e)))))
+
+-- what is counted only while fewer than k are is counted at most k times
+pub count-capped : (n k : ℕ) (p : ℕ → Bool) → ((i : ℕ) → i < n → p i ≡ true → count i p < k) → count n p ≤ k
+unfolding sum
+count-capped zero k p f = zero-le
+count-capped (suc n) k p f = go (count-capped n k p (λ i l. f i (omega arith))) (is (p n))
+  where
+    go : count n p ≤ k → Is (p n) → count n p + bit (p n) ≤ k
+    go few (is-true e) = omega (arith, f n (omega arith) e, ap bit e)
+    go few (is-false e) = omega (arith, ap bit e)
 
 -- at most one number is z
 pub count-eqb-le : (n z : ℕ) → count n (λ s. eqb s z) ≤ 1

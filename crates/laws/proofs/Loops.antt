@@ -3,7 +3,7 @@
 -- In order: sums, counts; whether some number passes a test; whether every number does; the lowest. Capacities with one slot more are in Capacities, numbers stored one by one in
 -- Stores.
 -- Assumes nothing.
-use Prim.Native.Nat.{ℕ, _+_, min}
+use Prim.Native.Nat.{ℕ, _+_, _≤_, _<_, min}
 use native.Mathlib.Numerals.{add-one}
 use native.Mathlib.Omega.{arith}
 use mathlib.Core.Path.{_≡_, refl, _∙_, ap}
@@ -24,6 +24,16 @@ sum-more n f = rw (add-one n) refl
 
 pub count-more : (n : ℕ) (p : ℕ → Bool) → count (n + 1) p ≡ count n p + bit (p n)
 count-more n p = sum-more n (λ i. bit (p i))
+
+-- and where only the first n count, of one number more among them, and past them
+pub count-here : (n b : ℕ) (p : ℕ → Bool) → b < n → count (min (b + 1) n) p ≡ count (min b n) p + bit (p b)
+count-here n b p l =
+    let next : min (b + 1) n ≡ b + 1 = omega arith in
+    let now : min b n ≡ b = omega arith in
+    omega (arith, ap (λ (k : ℕ). count k p) next, ap (λ (k : ℕ). count k p) now, count-more b p)
+
+pub count-past : (n b : ℕ) (p : ℕ → Bool) → n ≤ b → count (min (b + 1) n) p ≡ count (min b n) p
+count-past n b p l = ap (λ (k : ℕ). count k p) (let same : min (b + 1) n ≡ min b n = omega arith in same)
 
 -- whether some number below n passes a test
 pub some-none : (p : ℕ → Bool) → ltb 0 (count 0 p) ≡ false

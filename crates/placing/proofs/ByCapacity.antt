@@ -21,8 +21,8 @@ use Rattle.station.specs.Head.{Head, Job, Valid}
 use Rattle.placing.specs.Table.{Cells, Each, WellFormed, cell, cells, isOptional}
 use Rattle.placing.specs.Valid.{ValidCall, lost}
 use Rattle.placing.specs.Plan.{mandatories, planFreeCount, planFits, planned}
-use Rattle.placing.specs.Call.{lengths, emptyCount, usableCount, callShort, callFits, evictedSet, called}
-use Rattle.placing.specs.Capacity.{PlanByCapacity, CallByCapacity, GreatestExcess, largestMandatory, planCapacity, longestJobs, callCapacity, emptyCapacity}
+use Rattle.placing.specs.Call.{lengths, freeNumberFrom, usableCount, callShort, callFits, evictedSet, called}
+use Rattle.placing.specs.Capacity.{PlanByCapacity, CallByCapacity, GreatestExcess, largestMandatory, planCapacity, longestJobs, callCapacity, freeCapacity}
 use Rattle.placing.specs.Outcomes.{written}
 use Rattle.placing.proofs.CountedCells.{cells-ext}
 use Rattle.placing.proofs.WellFormed.{validPlan-ext, validCall-ext}
@@ -55,11 +55,11 @@ plan-by-capacity h valid = record {
 
 -- by how much the jobs exceed the empty cells is the greatest excess
 pub greatest-excess : (h : Head) (clock : ℕ) (jobs : List Job) (t : Cells)
-    → GreatestExcess (longestJobs jobs) (emptyCapacity h clock t) (callShort h jobs (emptyCount h clock t))
+    → GreatestExcess (longestJobs jobs) (freeCapacity h clock t) (callShort h jobs (freeNumberFrom h clock t))
 greatest-excess h clock jobs t =
     record {
-      bounds = excess-bounds (length (lengths jobs)) (at (lengths jobs)) (h .slots) (emptyCount h clock t);
-      reached = excess-reached (length (lengths jobs)) (at (lengths jobs)) (h .slots) (emptyCount h clock t);
+      bounds = excess-bounds (length (lengths jobs)) (at (lengths jobs)) (h .slots) (freeNumberFrom h clock t);
+      reached = excess-reached (length (lengths jobs)) (at (lengths jobs)) (h .slots) (freeNumberFrom h clock t);
     }
 
 module _ (h : Head) (clock : ℕ) (jobs : List Job) (t : Cells) (valid : Valid h) (formed : WellFormed h t) (good : Good h t jobs) where

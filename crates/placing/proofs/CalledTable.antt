@@ -3,43 +3,44 @@
 -- In order: what one change keeps and makes (`change-keeps`, `change-kept`, `change-call`, `change-gone`); how many jobs have a number. Then any table whose cells
 -- changed so: its busy and mandatory cells (`changed-keeps-fixed`, `changed-kept-fixed`), optional cells (`changed-optional`,
 -- `changed-optional-count`), call cells (`changed-call`, `changed-new-call`, `changed-other-calls`, `changed-jobCount`), and that it is
--- well-formed (`changed-wellFormed`). Then the table of the rule, `called`, whatever the order of ties: its changes (`called-changes`), the free cells
--- (`callFree-count`) and that the jobs are placed there (`called-placed`), the cells of a job (`called-in-slot`, `called-above`), the cells it loses (`called-lost`,
+-- well-formed (`changed-wellFormed`). Then the table of the rule, `called`, whatever the order of ties: its changes (`called-changes`), what a set of lost cells frees (`set-frees`), the free cells
+-- (`callFree-count`) and that the jobs are placed there (`called-placed`), no more than are free (`called-within`) and fed (`called-supplied`), the cells of a job (`called-in-slot`, `called-above`), the cells it loses (`called-lost`,
 -- `called-count`, `called-upto`), and that it is well-formed and valid (`called-wellFormed`, `called-exact`, `called-valid`); who has a cell in each slot (`called-rule`).
 -- That no valid table loses fewer cells is not here.
 -- Assumes nothing.
 use Prim.Native.Nat.{ℕ, _+_, _≤_, _<_}
 use native.Mathlib.Omega.{arith}
-use mathlib.Core.Path.{_≡_, sym, _∙_, ap}
+use mathlib.Core.Path.{_≡_, refl, sym, _∙_, ap}
 use mathlib.Core.Logic.{_⊎_, inl, inr}
 use mathlib.Core.Bool.{Bool, true, false, not, _&&_, _||_, and-true}
 use mathlib.Core.List.{List}
 use lib.ListN.{length, length-map}
 use lib.Dec.{ltb, leb, eqb}
-use Rattle.laws.specs.Sums.{bit, sum, count}
+use Rattle.laws.specs.Sums.{bit, only, sum, count}
 use Rattle.laws.specs.Lists.{at}
 use Rattle.laws.specs.Placement.{Placed, everywhere, Ties, TotalTies, nobody, lrtf}
 use Rattle.laws.specs.Eviction.{added, ones}
-use Rattle.laws.proofs.Tests.{Is, is-true, is-false, is, clash, not-true, test-ext, left-of, right-of, or-left, or-right, or-cases, and-implied}
+use Rattle.laws.proofs.Tests.{Is, is-true, is-false, is, clash, not-true, test-ext, left-of, right-of, or-left, or-right, or-cases, and-implied, both, not-is-true, false-of-not, neither-right}
 use Rattle.laws.proofs.Comparisons.{lt-of, ge-of, eq-of, eqb-self, eqb-yes, eqb-no}
 use Rattle.laws.proofs.Every.{injective-below}
 use Rattle.laws.proofs.Sums.{sum-ext, sum-le, sum-add, sum-const, sum-swap, sum-two}
-use Rattle.laws.proofs.Counts.{bit-le, count-ext, count-none, count-some, count-or, count-eqb-le}
+use Rattle.laws.proofs.Counts.{bit-le, count-ext, count-imp, count-none, count-some, count-eqb-le}
 use Rattle.laws.proofs.Placement.{lrtf-step, shown-rule}
 use Rattle.laws.proofs.Eviction.{searched-long}
 use Rattle.station.specs.Head.{Head, Job, Valid}
 use Rattle.placing.specs.Table.{Cells, Each, WellFormed, cells, holding, kindOf, numberIn, mandatoryCell, optionalCell, callCell, isEmpty}
-use Rattle.placing.specs.Table.{isBusy, isMandatory, isOptional, isCall, numberAt, hasPreset, hasJob, jobCount}
+use Rattle.placing.specs.Table.{isBusy, isMandatory, isOptional, isCall, isHeld, numberAt, hasPreset, hasJob, jobCount, heldCells, motors, freeNumber, cleared}
 use Rattle.placing.specs.Valid.{Change, same, filled, evicted, ValidCall, usable, jobAt, lost, lostUpTo, optionalCount, priorityOf}
 use Rattle.placing.specs.Plan.{placing}
-use Rattle.placing.specs.Call.{CellPlace, evictionOrder, slotsOf, inSet, emptyFree, emptyCount, lengths, callShort, evictedSet, callFits, callFree, callFreeCount, isEvictable}
+use Rattle.placing.specs.Call.{CellPlace, evictionOrder, slotsOf, inSet, emptyFree, freeNumberFrom, lengths, callShort, evictedSet, callFits, callFree, callFreeCount, isEvictable}
 use Rattle.placing.specs.Call.{called}
-use Rattle.placing.specs.Claims.{cellsOfJob, JobsRule}
+use Rattle.placing.specs.Claims.{Frees, cellsOfJob, JobsRule}
 use Rattle.placing.proofs.CountedCells.{cells-pos, cells-ext, cells-imp, cells-split, kindOf-call, isOptional-call, evictable-optional}
 use Rattle.placing.proofs.CountedCells.{lost-was, lost-now, is-lost, numberAt-lt}
 use Rattle.placing.proofs.NewJobs.{Good, Placeable, placeable-of, above, above-new, new-usable, length-lengths, at-lengths, hasJob-of}
 use Rattle.placing.proofs.CallShort.{call-shortage, rule-placed}
-use Rattle.placing.proofs.Placing.{PlacedCell, kept, unused, written, placing-cases, placing-job}
+use Rattle.placing.proofs.FreeNumber.{cleared-held, freed-from, from-ext, unevicted, call-free-least, call-free-motors}
+use Rattle.placing.proofs.Placing.{PlacedCell, kept, unused, written, placing-cases, placing-count, placing-job}
 use Rattle.placing.proofs.EvictionOrder.{in-set-evictable, set-size, set-in-slot}
 
 -- ---- one change
@@ -311,9 +312,9 @@ module _ (h : Head) (clock : ℕ) (jobs : List Job) (t u : Cells) (high : (i : �
         go (evicted x y p) (filled x′ y′ j lj q) = sym e ∙ ap numberIn p
         go p (evicted x y q) = ap numberIn q
 
-    -- such a table is well-formed, if each job stands at most once in a slot
-    pub changed-wellFormed : jobCount h u ≤ 64 → OnceInSlot h clock jobs u → WellFormed h u
-    changed-wellFormed few single =
+    -- such a table is well-formed, if each job stands at most once in a slot and the supply feeds what is held
+    pub changed-wellFormed : jobCount h u ≤ 64 → OnceInSlot h clock jobs u → ((s : ℕ) → s < h .slots → heldCells h u s ≤ motors h) → WellFormed h u
+    changed-wellFormed few single fed =
         record {
           kinds = changed-kinds;
           plain = changed-plain;
@@ -330,6 +331,7 @@ module _ (h : Head) (clock : ℕ) (jobs : List Job) (t u : Cells) (high : (i : �
           most = λ i l. omega (arith, changed-optional-le (numberAt h i) (numberAt-lt h valid i l), wf .most i l);
           jobs = few;
           apart = changed-apart;
+          supplied = fed;
         }
 
 -- ---- the table that the call leaves
@@ -392,14 +394,17 @@ module _ (ties : Ties) (h : Head) (clock : ℕ) (jobs : List Job) (t : Cells) wh
       go (unused f e) = let p = free-was h clock jobs t s b f in emptied e (p .0) (p .1)
       go (written f i k c e) = let p = free-was h clock jobs t s b f in filled (p .0) (fillable (p .1)) i (rw (length-lengths jobs) at k) e
 
+-- a set of evictable cells, lost, frees one motor for each
+pub set-frees : (h : Head) (clock : ℕ) (t : Cells) → Valid h → WellFormed h t → Frees h clock t
+set-frees h clock t valid wf d s l =
+    set-in-slot h clock t valid wf (freeNumberFrom h clock t) d s l
+    ∙ sym (freed-from h clock t s (inSet (evictionOrder h clock t) d) (λ b m e. in-set-evictable h clock t d s b e .0) (wf .supplied s l))
+
 module _ (h : Head) (clock : ℕ) (jobs : List Job) (t : Cells) (valid : Valid h) (wf : WellFormed h t) where
-  -- the free cells of a slot are the empty ones with those of the evicted set
+  -- so what is free in a slot for the jobs is what was free, and one for each cell of the evicted set
   pub callFree-count : (s : ℕ) → s < h .slots
-      → callFreeCount h clock jobs t s ≡ added (emptyCount h clock t) (slotsOf (evictionOrder h clock t)) (evictedSet h clock jobs t) s
-  callFree-count s l =
-      count-or (h .bridges) (λ b. emptyFree clock t s b) (λ b. isEvicted h clock jobs t s b)
-      (λ b m f. not-true _ (λ e. free-not-optional h clock jobs t s b f (evicted-was h clock jobs t s b e .1)))
-      ∙ sym (set-in-slot h clock t valid wf (emptyCount h clock t) (evictedSet h clock jobs t) s l)
+      → callFreeCount h clock jobs t s ≡ added (freeNumberFrom h clock t) (slotsOf (evictionOrder h clock t)) (evictedSet h clock jobs t) s
+  callFree-count s l = sym (set-frees h clock t valid wf (evictedSet h clock jobs t) s l)
 
 -- under a total order of ties
 module _ (ties : Ties) (o : TotalTies ties) (h : Head) (clock : ℕ) (jobs : List Job) (t : Cells) (valid : Valid h) (wf : WellFormed h t) where
@@ -416,7 +421,36 @@ module _ (ties : Ties) (o : TotalTies ties) (h : Head) (clock : ℕ) (jobs : Lis
       ))
     where
       free : ℕ → ℕ
-      free = added (emptyCount h clock t) (slotsOf (evictionOrder h clock t)) (evictedSet h clock jobs t)
+      free = added (freeNumberFrom h clock t) (slotsOf (evictionOrder h clock t)) (evictedSet h clock jobs t)
+
+-- the jobs of a slot are no more than the cells that are free there
+called-within : (ties : Ties) → TotalTies ties → (h : Head) (clock : ℕ) (jobs : List Job) (t : Cells) (s : ℕ)
+    → count (length (lengths jobs)) (λ i. isPlaced ties h clock jobs t i s) ≤ count (h .bridges) (λ b. callFree h clock jobs t s b)
+called-within ties o h clock jobs t s =
+    omega (arith, lrtf-step ties o nobody (lengths jobs) (callFreeCount h clock jobs t) s .fits, call-free-least h clock jobs t s)
+
+-- with those that are held and not evicted they are no more than the supply feeds
+called-supplied : (ties : Ties) → TotalTies ties → (h : Head) (clock : ℕ) (jobs : List Job) (t : Cells) (s : ℕ) → heldCells h t s ≤ motors h
+    → heldCells h (called ties h clock jobs t) s ≤ motors h
+unfolding called placing
+called-supplied ties o h clock jobs t s fed =
+    omega (
+      arith,
+      placing-count (length (lengths jobs)) (callFree h clock jobs t) (λ i r. isPlaced ties h clock jobs t i r) (λ i r. callCell (jobAt jobs i .number)) t s (h .bridges)
+          (called-within ties o h clock jobs t s) isHeld refl,
+      count-imp (length (lengths jobs)) (λ i. isPlaced ties h clock jobs t i s && isHeld (callCell (jobAt jobs i .number))) (λ i. isPlaced ties h clock jobs t i s)
+          (λ i l. left-of (isPlaced ties h clock jobs t i s) (isHeld (callCell (jobAt jobs i .number)))),
+      lrtf-step ties o nobody (lengths jobs) (callFreeCount h clock jobs t) s .fits,
+      count-imp (h .bridges) (λ b. not (callFree h clock jobs t s b) && isHeld (t s b)) (λ b. isHeld (unevicted h clock jobs t s b)) (λ b m. stays b),
+      call-free-motors h clock jobs t s fed,
+    )
+  where
+    stays : (b : ℕ) → (not (callFree h clock jobs t s b) && isHeld (t s b)) ≡ true → isHeld (unevicted h clock jobs t s b) ≡ true
+    stays b e =
+        let held : isHeld (t s b) ≡ true = right-of (not (callFree h clock jobs t s b)) (isHeld (t s b)) e in
+        let other : callFree h clock jobs t s b ≡ false = false-of-not _ (left-of (not (callFree h clock jobs t s b)) (isHeld (t s b)) e) in
+        cleared-held h (isEvicted h clock jobs t) t s b
+        ∙ both (isHeld (t s b)) (not (isEvicted h clock jobs t s b)) held (not-is-true _ (neither-right (emptyFree clock t s b) (isEvicted h clock jobs t s b) other))
 
 -- the cells of a job, whose number is in none of the slots that the call may use
 module _ (ties : Ties) (o : TotalTies ties) (h : Head) (clock : ℕ) (jobs : List Job) (t : Cells) (can : Placeable h clock t jobs) (i : ℕ) (k : i < length jobs) where
@@ -426,7 +460,7 @@ module _ (ties : Ties) (o : TotalTies ties) (h : Head) (clock : ℕ) (jobs : Lis
   unfolding called placing
   called-in-slot s l late =
       placing-job (length (lengths jobs)) (callFree h clock jobs t) (λ j r. isPlaced ties h clock jobs t j r) (λ j r. callCell (jobAt jobs j .number)) t s (h .bridges)
-      (lrtf-step ties o nobody (lengths jobs) (callFreeCount h clock jobs t) s .fits) (λ w. eqb w (callCell n))
+      (called-within ties o h clock jobs t s) (λ w. eqb w (callCell n))
       (eqb-no 0 (callCell n) (λ e. omega arith)) i (rw (length-lengths jobs) k)
       (λ j m ne. eqb-no (callCell (jobAt jobs j .number)) (callCell n)
       (λ e. ne (injective-below (length jobs) (λ x. jobAt jobs x .number) (can .distinct) j i (rw (length-lengths jobs) at m) k (omega arith))))
@@ -437,7 +471,7 @@ module _ (ties : Ties) (o : TotalTies ties) (h : Head) (clock : ℕ) (jobs : Lis
       n : ℕ
       n = jobAt jobs i .number
 
-  -- in a slot gone by no cell is free, so that it is not placed there
+  -- in a slot gone by nothing is free, so that it is not placed there
   gone-unplaced : (s : ℕ) → usable clock s ≡ false → isPlaced ties h clock jobs t i s ≡ false
   gone-unplaced s gone =
       not-true (isPlaced ties h clock jobs t i s) (λ e.
@@ -445,8 +479,7 @@ module _ (ties : Ties) (o : TotalTies ties) (h : Head) (clock : ℕ) (jobs : Lis
         arith,
         count-some (length (lengths jobs)) (λ j. isPlaced ties h clock jobs t j s) i (rw (length-lengths jobs) k) e,
         lrtf-step ties o nobody (lengths jobs) (callFreeCount h clock jobs t) s .fits,
-        count-none (h .bridges) (λ b. callFree h clock jobs t s b)
-            (λ b m. not-true (callFree h clock jobs t s b) (λ f. clash (sym (free-was h clock jobs t s b f .0) ∙ gone))),
+        ap (λ (c : Bool). only c (freeNumber h (unevicted h clock jobs t) s)) gone,
       ))
 
   -- from the clock on as many cells as it needs
@@ -503,7 +536,7 @@ module _ (ties : Ties) (o : TotalTies ties) (h : Head) (clock : ℕ) (jobs : Lis
     where
       long : length (evictedSet h clock jobs t) ≡ length (evictionOrder h clock t)
       long =
-          searched-long (callShort h jobs) (emptyCount h clock t) (slotsOf (evictionOrder h clock t))
+          searched-long (callShort h jobs) (freeNumberFrom h clock t) (slotsOf (evictionOrder h clock t))
           ∙ length-map (evictionOrder h clock t) (λ (z : CellPlace). z .slot)
 
   pub called-upto : (p : ℕ)
@@ -533,6 +566,7 @@ module _ (ties : Ties) (o : TotalTies ties) (h : Head) (clock : ℕ) (jobs : Lis
       changed-wellFormed h clock jobs t u (good .high) (called-changes ties h clock jobs t) can valid wf
       (omega (arith, changed-jobCount h clock jobs t u (good .high) (called-changes ties h clock jobs t), good .few))
       (λ i k s l late. omega (arith, called-in-slot ties o h clock jobs t can i k s l late, bit-le (isPlaced ties h clock jobs t i s)))
+      (λ s l. called-supplied ties o h clock jobs t s (wf .supplied s l))
 
   pub called-exact : callFits h clock jobs t ≡ true → (i : ℕ) → i < length jobs
       → holding h (called ties h clock jobs t) (callCell (jobAt jobs i .number)) ≡ jobAt jobs i .slots
@@ -547,10 +581,9 @@ pub called-rule : (ties : Ties) → TotalTies ties → (h : Head) (clock : ℕ) 
     → (w : Cells) → Each h (λ s b. called ties h clock jobs t s b ≡ w s b) → (s : ℕ) → s < h .slots → JobsRule ties h clock jobs t w s
 called-rule ties o h clock jobs t valid wf good w equal s l =
     shown-rule ties o (lengths jobs) (callFreeCount h clock jobs t) s (length jobs) (λ i. jobAt jobs i .slots) (cellsOfJob h jobs w)
-    (count (h .bridges) (λ b. emptyFree clock t s b || lost t w s b)) (length-lengths jobs) (λ i k. at-lengths jobs i)
-    (count-ext (h .bridges) (λ b. callFree h clock jobs t s b) (λ b. emptyFree clock t s b || lost t w s b)
-    (λ b m. ap (λ (c : Bool). emptyFree clock t s b || c)
-    (sym (called-lost ties o h clock jobs t valid wf good s b l m) ∙ ap (λ (v : ℕ). isOptional (t s b) && not (isOptional v)) (equal s b l m))))
+    (freeNumberFrom h clock (cleared (lost t w) t) s) (length-lengths jobs) (λ i k. at-lengths jobs i)
+    (from-ext h clock t s (isEvicted h clock jobs t) (lost t w)
+    (λ b m. sym (called-lost ties o h clock jobs t valid wf good s b l m) ∙ ap (λ (v : ℕ). isOptional (t s b) && not (isOptional v)) (equal s b l m)))
     (λ i k r m. count-ext (h .bridges) (λ b. eqb (w r b) (callCell (jobAt jobs i .number))) (λ b. eqb (called ties h clock jobs t r b) (callCell (jobAt jobs i .number)))
     (λ b n. ap (λ (v : ℕ). eqb v (callCell (jobAt jobs i .number))) (sym (equal r b (omega arith) n)))
     ∙ called-everywhere ties o h clock jobs t valid wf good i k r (omega arith))

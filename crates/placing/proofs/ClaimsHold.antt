@@ -30,7 +30,7 @@ use Rattle.placing.specs.State.{State, withOrder, wellFormedFrame}
 use Rattle.placing.specs.Valid.{ValidPlan, ValidCall, jobAt, lost, lostUpTo, optionalOf, priorityOf}
 use Rattle.placing.specs.Plan.{planFits, mandatories, needsFrom, grants, tieOf, planned, rank}
 use Rattle.placing.specs.Call.{evictionOrder, InEvictionOrder, inSet, evictedSet, callFits, called}
-use Rattle.placing.specs.Capacity.{GreatestExcess, longestJobs, emptyCapacity}
+use Rattle.placing.specs.Capacity.{GreatestExcess, longestJobs, freeCapacity}
 use Rattle.placing.specs.Outcomes.{Cost, costOf, written, PlanAnswer, PlanOutcome, planCauses, planOf, frameCauses, jobCauses, jobsOutside}
 use Rattle.placing.specs.Outcomes.{jobsUsed, jobsTooMany, callCauses, CallAnswer, CallOutcome, calledState, callOf}
 use Rattle.placing.specs.Claims.{Running, SamePast, PresetsRule, BestPlan, PlanClaim, LeastCall, CallClaim, JobsRule, beforeSeven, optionalOfFirst}
@@ -43,7 +43,7 @@ use Rattle.placing.proofs.Placing.{tie-total}
 use Rattle.placing.proofs.PlanTheorem.{plan-fits-of-valid, planned-valid, planned-optional, planned-rule, planned-best}
 use Rattle.placing.proofs.EvictionOrder.{order-is}
 use Rattle.placing.proofs.LeastEviction.{valid-fits, fewest-upto, evicted-first-smallest}
-use Rattle.placing.proofs.CalledTable.{called-lost, called-count, called-upto, called-rule, called-valid}
+use Rattle.placing.proofs.CalledTable.{set-frees, called-lost, called-count, called-upto, called-rule, called-valid}
 use Rattle.placing.proofs.CallByNumbers.{evicts-excess}
 use Rattle.placing.proofs.ByCapacity.{plan-by-capacity, greatest-excess, call-by-capacity}
 
@@ -447,7 +447,7 @@ module _ (h : Head) (jobs : List Job) (st : State) where
         (own-least .reported
         ∙ cells-ext h (λ s b. lost (cell h (st .table)) ownCall s b) (λ s b. lost (cell h (st .table)) cellsLeft s b) cellsLeft-lost)
 
-    taken-excess : GreatestExcess (longestJobs jobs) (emptyCapacity h (st .clock) (cell h (st .table))) (n .count)
+    taken-excess : GreatestExcess (longestJobs jobs) (freeCapacity h (st .clock) (cell h (st .table))) (n .count)
     taken-excess =
         rw (taken-count ∙ evicts-excess h (st .clock) jobs (cell h (st .table)) (taken-passes .0 .valid) (taken-passes .0 .wellFormed .cells) taken-fits)
         (greatest-excess h (st .clock) jobs (cell h (st .table)))
@@ -490,6 +490,7 @@ call-claim h jobs st = record {
   slots = taken-slots h jobs st;
   order = taken-order h jobs st;
   evicted = λ n q. evicted-first-smallest h (st .clock) jobs (cell h (st .table)) (taken-fits h jobs st n q);
+  frees = λ e. let r = passes h jobs st e .0 in set-frees h (st .clock) (cell h (st .table)) (r .valid) (r .wellFormed .cells);
   lost-cells = taken-lost h jobs st;
   reported = taken-reported h jobs st;
   least = taken-least h jobs st;

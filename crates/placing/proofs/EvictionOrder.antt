@@ -3,7 +3,7 @@
 -- In order: what every place of a walk has, and every two of them (`all-downward`, `pairwise-downward`); weights of places (`weight-downward`); sets
 -- of places and their weights; the set of a test (`those`, `length-those`); rank and priority of a preset's number (`rankOf-lt`,
 -- `rankOf-injective`, `priorityOf-le`).
--- Then the eviction order: a set's cells are evictable (`in-set-evictable`), and no more of a slot than the call may use (`added-usable`); each evictable cell stands in it once
+-- Then the eviction order: a set's cells are evictable (`in-set-evictable`), and no more of a slot than it has bridges (`added-few`) or the call may use (`added-usable`); each evictable cell stands in it once
 -- (`weight-order`, `order-once`); it is document 01's order (`order-is`); a set as its cells (`set-weight`, `set-size`, `set-in-slot`); the set of a test (`in-those`); the marks of a
 -- priority (`marked-cells`, `order-rising`).
 -- Assumes nothing.
@@ -21,17 +21,18 @@ use Rattle.laws.specs.Eviction.{added, ones, evictedIn, marked, Rising, high, l
 use Rattle.laws.proofs.Tests.{Is, is-true, is-false, is, clash, test-ext, both, left-of, right-of, or-left, or-right, or-cases}
 use Rattle.laws.proofs.Comparisons.{lt-of, ge-of, le-of, eq-of, eqb-self, leb-yes, eqb-no, eqb-comm}
 use Rattle.laws.proofs.Sums.{only-or, only-le-self, sum-ext, sum-le, sum-zero, sum-swap, sum-point, sum-only-eqb, sum-only-eqb-le}
-use Rattle.laws.proofs.Counts.{bit-le, only-bit, only-bit-comm, count-or}
+use Rattle.laws.proofs.Counts.{bit-le, only-bit, only-bit-comm, count-le, count-or}
 use Rattle.laws.proofs.Lists.{All, none, more, Pairwise, empty, first, all-imp, all-append, pairwise-imp, pairwise-append, pairwise-at}
 use Rattle.laws.proofs.Order.{order-of-position, position-below, position-injective, ascending-total}
 use Rattle.laws.proofs.Eviction.{added-at}
 use Rattle.station.specs.Head.{Head, Valid, presetAt}
-use Rattle.placing.specs.Table.{Cells, WellFormed, cells, presetCount, numberAt, numberIn, hasPreset, isEmpty, isMandatory, isOptional}
+use Rattle.placing.specs.Table.{Cells, WellFormed, cells, presetCount, numberAt, numberIn, hasPreset, isEmpty, isMandatory, isOptional, heldCells, motors, freeNumber}
 use Rattle.placing.specs.Valid.{usable, priorityOf}
 use Rattle.placing.specs.Plan.{rank}
 use Rattle.placing.specs.Call.{CellPlace, noPlace, downward, rankOf, rankAt, isEvictable, evictable, evictionOrder, EvictedBefore, occurs, InEvictionOrder}
-use Rattle.placing.specs.Call.{slotsOf, inSet, emptyFree, emptyCount, usableCount}
+use Rattle.placing.specs.Call.{slotsOf, inSet, freeNumberFrom, usableCount}
 use Rattle.placing.proofs.CountedCells.{area, area-ext, area-add, area-zero, preset-with, numberAt-low, priorityOf-is, rankOf-is, evictable-optional}
+use Rattle.placing.proofs.FreeNumber.{freed-from}
 
 -- ---- walks down
 
@@ -433,19 +434,24 @@ module _ (h : Head) (clock : ℕ) (t : Cells) where
       in-one : sum (h .slots) (λ r. sum (h .bridges) (part r)) ≡ count (h .bridges) (λ b. evictable h clock t s b)
       in-one = sum-in-slot (h .slots) (h .bridges) (evictable h clock t) s l
 
-  -- an empty cell is none that may be evicted
-  pub empty-apart : (s b : ℕ) → emptyFree clock t s b ≡ true → evictable h clock t s b ≡ false
-  empty-apart s b e =
-      ap (λ (v : ℕ). usable clock s && isEvictable h v) (eq-of (t s b) 0 (right-of (usable clock s) (isEmpty (t s b)) e)) ∙ and-false (usable clock s)
-
-  -- with any set of the order a slot has no more free cells than the call may use there
-  pub added-usable : (d : List Bool) (s : ℕ) → s < h .slots → added (emptyCount h clock t) (slotsOf order) d s ≤ usableCount h clock t s
-  added-usable d s l =
+  -- nor more in all than it has bridges
+  pub added-few : (d : List Bool) (s : ℕ) → s < h .slots → added (freeNumberFrom h clock t) (slotsOf order) d s ≤ h .bridges
+  added-few d s l =
       omega (
         arith,
-        added-evictable (emptyCount h clock t) d s l,
-        count-or (h .bridges) (λ b. emptyFree clock t s b) (λ b. evictable h clock t s b) (λ b m. empty-apart s b),
+        added-evictable (freeNumberFrom h clock t) d s l,
+        only-le-self (usable clock s) (freeNumber h t s),
+        count-or (h .bridges) (λ b. isEmpty (t s b)) (λ b. evictable h clock t s b) (λ b m. empty-apart b),
+        count-le (h .bridges) (λ b. isEmpty (t s b) || evictable h clock t s b),
       )
+    where
+      -- an empty cell is none that may be evicted
+      empty-apart : (b : ℕ) → isEmpty (t s b) ≡ true → evictable h clock t s b ≡ false
+      empty-apart b e = ap (λ (v : ℕ). usable clock s && isEvictable h v) (eq-of (t s b) 0 e) ∙ and-false (usable clock s)
+
+  -- with any set of the order a slot has no more free cells than the call may use there, where no more cells are held than the supply feeds
+  pub added-usable : (d : List Bool) (s : ℕ) → s < h .slots → heldCells h t s ≤ motors h → added (freeNumberFrom h clock t) (slotsOf order) d s ≤ usableCount h clock t s
+  added-usable d s l fed = omega (arith, added-evictable (freeNumberFrom h clock t) d s l, freed-from h clock t s (evictable h clock t) (λ b m e. e) fed)
 
   module _ (valid : Valid h) (formed : WellFormed h t) where
     listed-preset : (s b : ℕ) → Listed h clock t s b → hasPreset h (numberIn (t s b)) ≡ true

@@ -22,19 +22,19 @@ use Rattle.laws.specs.Grants.{granted, turn, most}
 use Rattle.laws.specs.Eviction.{added, searched, ones}
 use Rattle.laws.proofs.Placement.{placed-fits}
 use Rattle.laws.proofs.Excess.{excess-none}
-use Rattle.station.specs.Head.{Head, Preset, Job, withTie, valid, hasNumber, allInLimits, allDistinct, masksIn}
+use Rattle.station.specs.Head.{Head, Preset, Job, withSupply, withTie, valid, hasNumber, allInLimits, allDistinct, masksIn}
 use Rattle.station.specs.Refusal.{Refusal, firstOf, outOfLimits, numberUsed, mandatoryNotFeasible, callNotFeasible, tooShort, tooMany, notWellFormed}
 use Rattle.station.proofs.Theorems.{valid-of}
 use Rattle.station.specs.declared.types.Preset as record-of-preset
 use Rattle.station.specs.declared.types.Head as record-of-head
 use Rattle.station.specs.declared.types.Job as record-of-job
 use Rattle.station.specs.declared.types.Refusal.the-variants.{TooShort}
-use Rattle.placing.specs.Table.{cell, cells, wellFormed}
+use Rattle.placing.specs.Table.{cell, cells, laidOut, wellFormed}
 use Rattle.placing.specs.State.{State, stateOf}
 use Rattle.placing.specs.Valid.{ValidPlan, ValidCall, lost}
 use Rattle.placing.specs.Plan.{planFreeCount, grants, planned, placing, needsFrom}
-use Rattle.placing.specs.Call.{emptyCount, called, evictedSet, evictionOrder, downward, inSet, callFits}
-use Rattle.placing.specs.Capacity.{longestJobs, emptyCapacity, callCapacity, largestMandatory, planCapacity}
+use Rattle.placing.specs.Call.{freeNumberFrom, called, evictedSet, evictionOrder, downward, inSet, callFits}
+use Rattle.placing.specs.Capacity.{longestJobs, freeCapacity, callCapacity, largestMandatory, planCapacity}
 use Rattle.placing.specs.Outcomes.{cost, written, planOf, CallAnswer, CallOutcome, PlanAnswer, PlanOutcome, callOf}
 use Rattle.placing.specs.Causes.{callJobs}
 use Rattle.placing.specs.PlanDone.{PlanDone, planMeant}
@@ -57,23 +57,23 @@ plans h t = planOf h t
 unfoldable pub calls : Head → List Job → State → CallOutcome
 unfolding
     sum greatest every tabulate served atSlot added searched ones valid hasNumber allInLimits allDistinct masksIn firstOf
-    wellFormed placing called evictedSet evictionOrder downward inSet callFits written callOf
+    laidOut wellFormed placing called evictedSet evictionOrder downward inSet callFits written callOf
 calls h jobs st = callOf h jobs st
 
 -- ---- presets and jobs
 
-abbrev noBusy : List ℕ
+abbrev pub noBusy : List ℕ
 noBusy = replicate 8 0
 
-abbrev preset : ℕ → ℕ → ℕ → ℕ → Preset
+abbrev pub preset : ℕ → ℕ → ℕ → ℕ → Preset
 preset n p m o = record { number = n; priority = p; mandatory = m; optional = o }
 
-abbrev job : ℕ → ℕ → Job
+abbrev pub job : ℕ → ℕ → Job
 job n c = record { number = n; slots = c }
 
--- a head with the order of ties by place
-abbrev headOf : ℕ → ℕ → List ℕ → List Preset → Head
-headOf s b busy presets = record { slots = s; bridges = b; hold = false; busy = busy; presets = presets }
+-- a head without a supply line, with the order of ties by place
+abbrev pub headOf : ℕ → ℕ → List ℕ → List Preset → Head
+headOf s b busy presets = record { slots = s; bridges = b; supply = 0; hold = false; busy = busy; presets = presets }
 
 -- ---- the plan's ties and bridges: S 3, B 2, three presets of m 2
 
@@ -186,15 +186,15 @@ unfolding plans
 planned-3111 = refl
 
 -- the empty cells are 3, 1, 1, 1
-pub free-3111 : tabulate 4 (emptyCount frame3111 1 (cell frame3111 table3111)) ≡ 3 ∷ 1 ∷ 1 ∷ 1 ∷ []
+pub free-3111 : tabulate 4 (freeNumberFrom frame3111 1 (cell frame3111 table3111)) ≡ 3 ∷ 1 ∷ 1 ∷ 1 ∷ []
 unfolding tabulate sum
 free-3111 = refl
 
 -- No placement in the empty cells alone exists.
-pub no-empty-placement : (a : ℕ → ℕ → Bool) → Placed everywhere 2 (at (3 ∷ 3 ∷ [])) 4 (emptyCount frame3111 1 (cell frame3111 table3111)) a → ⊥
+pub no-empty-placement : (a : ℕ → ℕ → Bool) → Placed everywhere 2 (at (3 ∷ 3 ∷ [])) 4 (freeNumberFrom frame3111 1 (cell frame3111 table3111)) a → ⊥
 unfolding sum greatest
 no-empty-placement a p =
-    let z : excess 2 (at (3 ∷ 3 ∷ [])) 4 (emptyCount frame3111 1 (cell frame3111 table3111)) ≡ 0 = placed-fits p in
+    let z : excess 2 (at (3 ∷ 3 ∷ [])) 4 (freeNumberFrom frame3111 1 (cell frame3111 table3111)) ≡ 0 = placed-fits p in
     omega arith
 
 takes-one : callOf frame3111 threeAndThree (stateOf table3111 1 false) .answer ≡ CallAnswer.taken (cost 1)
@@ -214,14 +214,14 @@ one-goes = goes frame3111 1 false threeAndThree table3111 1 takes-one
 
 -- docs/CALLS.md, the worked frame: of its empty cells, and with the optional cell; the two jobs exceed the first at 2, and nowhere the other
 pub capacity-3111 : (tabulate 4 (longestJobs threeAndThree) ≡ 0 ∷ 3 ∷ 6 ∷ 6 ∷ [])
-    × (tabulate 4 (emptyCapacity frame3111 1 (cell frame3111 table3111)) ≡ 0 ∷ 4 ∷ 5 ∷ 6 ∷ [])
+    × (tabulate 4 (freeCapacity frame3111 1 (cell frame3111 table3111)) ≡ 0 ∷ 4 ∷ 5 ∷ 6 ∷ [])
     × (tabulate 4 (callCapacity frame3111 1 (cell frame3111 table3111)) ≡ 0 ∷ 4 ∷ 6 ∷ 7 ∷ [])
 unfolding tabulate sum
 capacity-3111 = (refl, refl, refl)
 
 -- a slot gone by has no room, the clock's own slot has; the longest job first, wherever it stands in the call
 pub capacity-clock : (tabulate 4 (callCapacity frame3111 2 (cell frame3111 table3111)) ≡ 0 ∷ 3 ∷ 4 ∷ 4 ∷ [])
-    × (tabulate 4 (emptyCapacity frame3111 2 (cell frame3111 table3111)) ≡ 0 ∷ 3 ∷ 3 ∷ 3 ∷ [])
+    × (tabulate 4 (freeCapacity frame3111 2 (cell frame3111 table3111)) ≡ 0 ∷ 3 ∷ 3 ∷ 3 ∷ [])
 unfolding tabulate sum
 capacity-clock = (refl, refl)
 
@@ -255,7 +255,7 @@ plan-3121 = plan-by-capacity plan3121 (valid-of plan3121 refl) .fits .1 (excess-
 -- ---- held from two sides: the tables, heads and jobs of the cases below
 
 -- a lent table of 512 cells that begins so
-abbrev lent : List ℕ → List ℕ
+abbrev pub lent : List ℕ → List ℕ
 lent l = take 512 (l ++ replicate 512 0)
 
 -- k call cells, numbered n + 1 to n + k
@@ -352,6 +352,9 @@ planCases =
     ∷ stops-plan (bare 1 0) 512 outOfLimits
     ∷ grants-all (bare 1 8) 512 []
     ∷ stops-plan (bare 1 9) 512 outOfLimits
+    -- "`(supply k)`, k from 1 to 8", above B too
+    ∷ grants-all (withSupply (bare 1 1) 8) 512 []
+    ∷ stops-plan (withSupply (bare 1 1) 9) 512 outOfLimits
     -- busy cells inside the frame only
     ∷ grants-all (headOf 1 1 (1 ∷ replicate 7 0) []) 512 []
     ∷ stops-plan (headOf 1 1 (2 ∷ replicate 7 0) []) 512 outOfLimits
@@ -447,7 +450,7 @@ calls-answered = refl
 
 -- a head record that counts so many presets, and n records with the numbers n down to 1
 abbrev counting : ℕ → record-of-head.Head
-counting n = record { slots = 1; bridges = 1; hold = false; busy = noBusy; count = n }
+counting n = record { slots = 1; bridges = 1; supply = 0; hold = false; busy = noBusy; count = n }
 
 unfoldable pub recordsTo : ℕ → List record-of-preset.Preset
 recordsTo zero = []

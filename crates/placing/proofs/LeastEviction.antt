@@ -12,23 +12,24 @@ use mathlib.Core.Bool.{Bool, true, false, not, _&&_, _||_}
 use mathlib.Core.List.{List}
 use lib.ListN.{length, length-map}
 use lib.Dec.{ltb, leb, eqb}
-use Rattle.laws.specs.Sums.{sum, count}
+use Rattle.laws.specs.Sums.{only, sum, count}
 use Rattle.laws.specs.Lists.{at}
 use Rattle.laws.specs.Placement.{Placed, everywhere}
 use Rattle.laws.specs.Eviction.{added, ones, FirstSmallest}
-use Rattle.laws.proofs.Tests.{clash, both, left-of, right-of, or-left, or-right, or-cases, and-implied}
+use Rattle.laws.proofs.Tests.{Is, is-true, is-false, is, clash, both, left-of, right-of, or-left, or-right, or-cases, and-implied, not-is-true, false-of-not}
 use Rattle.laws.proofs.Comparisons.{eq-of, eqb-yes}
-use Rattle.laws.proofs.Counts.{count-ext, count-imp, count-or, count-le-bit}
+use Rattle.laws.proofs.Counts.{count-ext, count-imp, count-none, count-split, count-le-bit}
 use Rattle.laws.proofs.Cells.{cells-within, placed-of-cells}
 use Rattle.laws.proofs.Eviction.{searched-long, searched-best, searched-fewest, searched-weight, searched-first, first-smallest-of-iff}
 use Rattle.station.specs.Head.{Head, Job, Valid}
-use Rattle.placing.specs.Table.{Cells, Each, WellFormed, cells, isEmpty, isOptional, numberIn, callCell, emptyCell}
+use Rattle.placing.specs.Table.{Cells, Each, WellFormed, cells, isEmpty, isOptional, isHeld, numberIn, callCell, freeNumber, cleared}
 use Rattle.placing.specs.Valid.{ValidCall, Change, same, filled, evicted, usable, jobAt, lost, lostUpTo, priorityOf}
-use Rattle.placing.specs.Call.{CellPlace, evictable, evictionOrder, slotsOf, inSet, emptyFree, emptyCount, lengths, callShort, evictedSet, isEvictable}
+use Rattle.placing.specs.Call.{CellPlace, evictable, evictionOrder, slotsOf, inSet, emptyFree, freeNumberFrom, lengths, callShort, evictedSet, isEvictable}
 use Rattle.placing.specs.Call.{callFits}
 use Rattle.placing.specs.Claims.{Fits}
-use Rattle.placing.proofs.CountedCells.{cells-ext, numberIn-call, isOptional-call, lost-was, lost-now, is-lost, optional-evictable}
+use Rattle.placing.proofs.CountedCells.{cells-ext, numberIn-call, isOptional-call, isCall-call, lost-was, lost-now, is-lost, optional-evictable}
 use Rattle.placing.proofs.WellFormed.{once-cell}
+use Rattle.placing.proofs.FreeNumber.{held-call, empty-unheld, cleared-empty, cleared-held, freed-from}
 use Rattle.placing.proofs.NewJobs.{Good, Placeable, placeable-of, above, above-new, length-lengths, at-lengths}
 use Rattle.placing.proofs.CallShort.{call-shortage, short-fits}
 use Rattle.placing.proofs.EvictionOrder.{those, length-those, set-size, set-in-slot, in-those, marked-cells, order-rising}
@@ -63,21 +64,76 @@ module _ (h : Head) (clock : ℕ) (jobs : List Job) (t u : Cells) where
     job : (i : ℕ) → i < length (lengths jobs) → i < length jobs
     job i l = omega (arith, length-lengths jobs)
 
-    -- the jobs' cells of a slot are at most those that were empty and those that are lost
-    pub jobs-in-slot : (s : ℕ) → s < h .slots
-        → sum (length (lengths jobs)) (λ i. count (h .bridges) (λ b. own i s b)) ≤ count (h .bridges) (λ b. emptyFree clock t s b || lost t u s b)
-    jobs-in-slot s ls =
-        cells-within (length (lengths jobs)) (h .bridges) (λ i b. own i s b) (λ b. emptyFree clock t s b || lost t u s b)
-        (λ b lb. count-le-bit (length (lengths jobs)) (λ i. own i s b) (emptyFree clock t s b || lost t u s b)
+    -- the jobs' cells of a slot are at most those that pass a test which each of them passes
+    in-slot : (f : ℕ → Bool) (s : ℕ) → ((i b : ℕ) → i < length jobs → b < h .bridges → own i s b ≡ true → f b ≡ true)
+        → sum (length (lengths jobs)) (λ i. count (h .bridges) (λ b. own i s b)) ≤ count (h .bridges) f
+    in-slot f s pass =
+        cells-within (length (lengths jobs)) (h .bridges) (λ i b. own i s b) f
+        (λ b lb. count-le-bit (length (lengths jobs)) (λ i. own i s b) (f b)
         (λ i j k l p q. can .distinct j i k (job j l) (omega (arith, own-cell i s b p .1, own-cell j s b q .1)))
-        (λ i l e. let has = own-cell i s b e in job-cell-free can i s b (job i l) ls lb (has .0) (changes s b ls lb) (has .1)))
+        (λ i l. pass i b (job i l) lb))
 
-    -- A table that gives each job its length in cells from the clock on places the jobs in the cells that were empty and those that it loses.
+    -- what is left of t without the lost cells
+    abbrev spared : Cells
+    spared = cleared (lost t u) t
+
+    -- a cell of a job was empty or is lost, and is held only now
+    job-cell : (i s b : ℕ) → i < length jobs → s < h .slots → b < h .bridges → own i s b ≡ true → (isEmpty (spared s b) ≡ true) × (isHeld (u s b) ≡ true)
+    job-cell i s b l ls lb e =
+        let has = own-cell i s b e in (
+          cleared-empty h (lost t u) t s b ∙ free-or-lost (or-cases (emptyFree clock t s b) (lost t u s b) (job-cell-free can i s b l ls lb (has .0) (changes s b ls lb) (has .1))),
+          ap isHeld (has .1) ∙ held-call (callCell (jobAt jobs i .number)) (isCall-call (jobAt jobs i .number) (omega (arith, can .high i l))),
+        )
+      where
+        free-or-lost : (emptyFree clock t s b ≡ true) ⊎ (lost t u s b ≡ true) → (isEmpty (t s b) || lost t u s b) ≡ true
+        free-or-lost (inl p) = or-left (isEmpty (t s b)) (lost t u s b) (right-of (usable clock s) (isEmpty (t s b)) p)
+        free-or-lost (inr p) = or-right (isEmpty (t s b)) (lost t u s b) p
+
+    -- what is held and not lost is held afterwards
+    held-after : (s b : ℕ) → s < h .slots → b < h .bridges → isHeld (spared s b) ≡ true → isHeld (u s b) ≡ true
+    held-after s b ls lb e =
+        let now : (isHeld (t s b) && not (lost t u s b)) ≡ true = sym (cleared-held h (lost t u) t s b) ∙ e in
+        go (left-of (isHeld (t s b)) (not (lost t u s b)) now) (false-of-not (lost t u s b) (right-of (isHeld (t s b)) (not (lost t u s b)) now)) (changes s b ls lb)
+      where
+        go : isHeld (t s b) ≡ true → lost t u s b ≡ false → Change clock jobs s (t s b) (u s b) → isHeld (u s b) ≡ true
+        go p q (same d) = ap isHeld d ∙ p
+        go p q (filled a o j lj d) = ap isHeld d ∙ held-call (callCell (jobAt jobs j .number)) (isCall-call (jobAt jobs j .number) (omega (arith, can .high j lj)))
+        go p q (evicted a o d) = absurd (clash (sym (is-lost t u s b o (ap isOptional d)) ∙ q))
+
+    -- The jobs' cells of a slot are at most its free number without the lost cells: they were empty or are lost, and a sound table obeys the cap.
+    pub jobs-in-slot : (s : ℕ) → s < h .slots
+        → sum (length (lengths jobs)) (λ i. count (h .bridges) (λ b. own i s b)) ≤ freeNumberFrom h clock (cleared (lost t u) t) s
+    jobs-in-slot s ls = go (is (usable clock s))
+      where
+        new : ℕ → Bool
+        new b = isHeld (u s b) && not (isHeld (spared s b))
+
+        go : Is (usable clock s) → sum (length (lengths jobs)) (λ i. count (h .bridges) (λ b. own i s b)) ≤ only (usable clock s) (freeNumber h spared s)
+        go (is-true e) =
+            omega (
+              arith,
+              ap (λ (c : Bool). only c (freeNumber h spared s)) e,
+              in-slot (λ b. isEmpty (spared s b)) s (λ i b l lb d. job-cell i s b l ls lb d .0),
+              in-slot new s (λ i b l lb d. let w = job-cell i s b l ls lb d in
+                  both (isHeld (u s b)) (not (isHeld (spared s b))) (w .1) (not-is-true (isHeld (spared s b)) (empty-unheld (spared s b) (w .0)))),
+              formed .supplied s ls,
+              count-split (h .bridges) (λ b. isHeld (u s b)) (λ b. isHeld (spared s b)),
+              count-imp (h .bridges) (λ b. isHeld (spared s b)) (λ b. isHeld (u s b) && isHeld (spared s b))
+                  (λ b lb d. both (isHeld (u s b)) (isHeld (spared s b)) (held-after s b ls lb d) d),
+            )
+        go (is-false e) =
+            omega (
+              arith,
+              in-slot (λ b. false) s (λ i b l lb d. absurd (clash (sym (own-cell i s b d .0) ∙ e))),
+              count-none (h .bridges) (λ b. false) (λ b lb. refl),
+            )
+
+    -- A table that gives each job its length in cells from the clock on places the jobs in what is free without the cells that it loses.
     pub free-of-valid : ((i : ℕ) → i < length jobs → above h clock u (callCell (jobAt jobs i .number)) ≡ jobAt jobs i .slots)
-        → Placed everywhere (length (lengths jobs)) (at (lengths jobs)) (h .slots) (λ s. count (h .bridges) (λ b. emptyFree clock t s b || lost t u s b))
+        → Placed everywhere (length (lengths jobs)) (at (lengths jobs)) (h .slots) (freeNumberFrom h clock (cleared (lost t u) t))
         (λ i s. ltb 0 (count (h .bridges) (λ b. own i s b)))
     free-of-valid exact =
-        placed-of-cells everywhere (length (lengths jobs)) (h .slots) (h .bridges) own (λ s. count (h .bridges) (λ b. emptyFree clock t s b || lost t u s b))
+        placed-of-cells everywhere (length (lengths jobs)) (h .slots) (h .bridges) own (freeNumberFrom h clock (cleared (lost t u) t))
         (at (lengths jobs)) row jobs-in-slot (λ i l. exact i (job i l) ∙ sym (at-lengths jobs i)) (λ i s l ls e. refl)
       where
         row : (i s : ℕ) → i < length (lengths jobs) → s < h .slots → count (h .bridges) (λ b. own i s b) ≤ 1
@@ -98,11 +154,6 @@ module _ (h : Head) (clock : ℕ) (jobs : List Job) (t u : Cells) where
   lost-evictable s b (evicted a o e) q = both (usable clock s) (isEvictable h (t s b)) a (optional-evictable h (t s b) (lost-was t u s b q))
 
 -- ---- the lost cells as a set of the eviction order
-
--- an empty cell is not optional, so it is not lost
-empty-not-lost : (clock : ℕ) (t u : Cells) (s b : ℕ) → emptyFree clock t s b ≡ true → lost t u s b ≡ false
-empty-not-lost clock t u s b e =
-    ap (λ (v : ℕ). isOptional v && not (isOptional (u s b))) (eq-of (t s b) emptyCell (right-of (usable clock s) (isEmpty (t s b)) e))
 
 -- a set of the eviction order has as many tests as the list of its slots
 length-those-slots : (q : ℕ → ℕ → Bool) (zs : List CellPlace) → length (those q zs) ≡ length (slotsOf zs)
@@ -126,36 +177,35 @@ module _ (h : Head) (clock : ℕ) (jobs : List Job) (t u : Cells)
       ∙ cells-ext h (λ s b. inSet (evictionOrder h clock t) (lostSet h clock t u) s b) (λ s b. lost t u s b) lost-set
 
   -- with the lost cells the call fits
-  pub lost-set-fits : callShort h jobs (added (emptyCount h clock t) (slotsOf (evictionOrder h clock t)) (lostSet h clock t u)) ≡ 0
+  pub lost-set-fits : callShort h jobs (added (freeNumberFrom h clock t) (slotsOf (evictionOrder h clock t)) (lostSet h clock t u)) ≡ 0
   lost-set-fits =
       go (free-of-valid h clock jobs t u (placeable-of h t jobs formed good clock) (w .wellFormed) (w .changes)
       (λ i l. above-new h clock jobs t u good (w .changes) i l ∙ w .exact i l))
     where
       free : (s : ℕ) → s < h .slots
-          → added (emptyCount h clock t) (slotsOf (evictionOrder h clock t)) (lostSet h clock t u) s
-          ≡ count (h .bridges) (λ b. emptyFree clock t s b || lost t u s b)
+          → added (freeNumberFrom h clock t) (slotsOf (evictionOrder h clock t)) (lostSet h clock t u) s ≡ freeNumberFrom h clock (cleared (lost t u) t) s
       free s l =
-          set-in-slot h clock t valid formed (emptyCount h clock t) (lostSet h clock t u) s l
-          ∙ ap (λ (n : ℕ). emptyCount h clock t s + n)
+          set-in-slot h clock t valid formed (freeNumberFrom h clock t) (lostSet h clock t u) s l
+          ∙ ap (λ (n : ℕ). freeNumberFrom h clock t s + n)
           (count-ext (h .bridges) (λ b. inSet (evictionOrder h clock t) (lostSet h clock t u) s b) (λ b. lost t u s b) (λ b m. lost-set s b l m))
-          ∙ sym (count-or (h .bridges) (λ b. emptyFree clock t s b) (λ b. lost t u s b) (λ b m. empty-not-lost clock t u s b))
+          ∙ sym (freed-from h clock t s (lost t u) (λ b m. lost-evictable h clock jobs t u s b (w .changes s b l m)) (formed .supplied s l))
 
       go : {a : ℕ → ℕ → Bool}
-          → Placed everywhere (length (lengths jobs)) (at (lengths jobs)) (h .slots) (λ s. count (h .bridges) (λ b. emptyFree clock t s b || lost t u s b)) a
-          → callShort h jobs (added (emptyCount h clock t) (slotsOf (evictionOrder h clock t)) (lostSet h clock t u)) ≡ 0
+          → Placed everywhere (length (lengths jobs)) (at (lengths jobs)) (h .slots) (freeNumberFrom h clock (cleared (lost t u) t)) a
+          → callShort h jobs (added (freeNumberFrom h clock t) (slotsOf (evictionOrder h clock t)) (lostSet h clock t u)) ≡ 0
       go {a} P =
-          short-fits h jobs (added (emptyCount h clock t) (slotsOf (evictionOrder h clock t)) (lostSet h clock t u)) .1
+          short-fits h jobs (added (freeNumberFrom h clock t) (slotsOf (evictionOrder h clock t)) (lostSet h clock t u)) .1
           (a, record { exact = P .exact; within = λ s l. omega (arith, P .within s l, free s l); allowed = P .allowed })
 
   -- A valid table exists only where the call fits.
   pub valid-fits : callFits h clock jobs t ≡ true
   unfolding callFits evictedSet
   valid-fits =
-      eqb-yes (callShort h jobs (added (emptyCount h clock t) (slotsOf (evictionOrder h clock t)) (evictedSet h clock jobs t))) 0
+      eqb-yes (callShort h jobs (added (freeNumberFrom h clock t) (slotsOf (evictionOrder h clock t)) (evictedSet h clock jobs t))) 0
       (omega (
         arith,
         lost-set-fits,
-        searched-best (h .slots) (callShort h jobs) (call-shortage h jobs) (emptyCount h clock t)
+        searched-best (h .slots) (callShort h jobs) (call-shortage h jobs) (freeNumberFrom h clock t)
             (slotsOf (evictionOrder h clock t)) (lostSet h clock t u) (length-those-slots (λ s b. lost t u s b) (evictionOrder h clock t)),
       ))
 
@@ -173,7 +223,7 @@ module _ (h : Head) (clock : ℕ) (jobs : List Job) (t u : Cells)
         here,
         marked-cells h clock t valid formed better (lostSet h clock t u),
         marked-cells h clock t valid formed better (evictedSet h clock jobs t),
-        searched-weight (h .slots) (callShort h jobs) (call-shortage h jobs) (emptyCount h clock t) (slotsOf (evictionOrder h clock t))
+        searched-weight (h .slots) (callShort h jobs) (call-shortage h jobs) (freeNumberFrom h clock t) (slotsOf (evictionOrder h clock t))
             (lostSet h clock t u) (those better (evictionOrder h clock t)) (order-rising h clock t valid formed p)
             (length-those-slots better (evictionOrder h clock t)) (length-those-slots (λ s b. lost t u s b) (evictionOrder h clock t)) lost-set-fits,
       )
@@ -185,7 +235,7 @@ module _ (h : Head) (clock : ℕ) (jobs : List Job) (t u : Cells)
       omega (
         arith,
         lost-set-size,
-        searched-fewest (h .slots) (callShort h jobs) (call-shortage h jobs) (emptyCount h clock t)
+        searched-fewest (h .slots) (callShort h jobs) (call-shortage h jobs) (freeNumberFrom h clock t)
             (slotsOf (evictionOrder h clock t)) (lostSet h clock t u) 0
             (length-those-slots (λ s b. lost t u s b) (evictionOrder h clock t)) lost-set-fits,
       )
@@ -194,11 +244,11 @@ module _ (h : Head) (clock : ℕ) (jobs : List Job) (t u : Cells)
 
 -- The evicted set is, of the smallest sets with which the call fits, the one whose list comes first.
 pub evicted-first-smallest : (h : Head) (clock : ℕ) (jobs : List Job) (t : Cells) → callFits h clock jobs t ≡ true
-    → FirstSmallest (Fits h jobs) (emptyCount h clock t) (slotsOf (evictionOrder h clock t)) (evictedSet h clock jobs t)
+    → FirstSmallest (Fits h jobs) (freeNumberFrom h clock t) (slotsOf (evictionOrder h clock t)) (evictedSet h clock jobs t)
 unfolding callFits evictedSet
 evicted-first-smallest h clock jobs t e =
     first-smallest-of-iff (λ y. callShort h jobs y ≡ 0) (Fits h jobs) (λ y. short-fits h jobs y)
-    (emptyCount h clock t) (slotsOf (evictionOrder h clock t)) (evictedSet h clock jobs t)
-    (searched-first (h .slots) (callShort h jobs) (call-shortage h jobs) (emptyCount h clock t) (slotsOf (evictionOrder h clock t))
-    (evictedSet h clock jobs t) (searched-long (callShort h jobs) (emptyCount h clock t) (slotsOf (evictionOrder h clock t)))
-    (eq-of (callShort h jobs (added (emptyCount h clock t) (slotsOf (evictionOrder h clock t)) (evictedSet h clock jobs t))) 0 e))
+    (freeNumberFrom h clock t) (slotsOf (evictionOrder h clock t)) (evictedSet h clock jobs t)
+    (searched-first (h .slots) (callShort h jobs) (call-shortage h jobs) (freeNumberFrom h clock t) (slotsOf (evictionOrder h clock t))
+    (evictedSet h clock jobs t) (searched-long (callShort h jobs) (freeNumberFrom h clock t) (slotsOf (evictionOrder h clock t)))
+    (eq-of (callShort h jobs (added (freeNumberFrom h clock t) (slotsOf (evictionOrder h clock t)) (evictedSet h clock jobs t))) 0 e))

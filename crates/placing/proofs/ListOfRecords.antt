@@ -53,7 +53,7 @@ module _ (head : Head) (ps qs : List Preset) (agree : take 32 ps ≡ take 32 qs)
   same-head : leb (head .count) 32 ≡ true → headIn head ps ≡ headIn head qs
   same-head e =
       let few : head .count ≤ 32 = le-of (head .count) 32 e in
-      ap (λ (l : List Preset). record { slots = head .slots; bridges = head .bridges; hold = head .hold; busy = head .busy; presets = map presetIn l })
+      ap (λ (l : List Preset). record { slots = head .slots; bridges = head .bridges; supply = head .supply; hold = head .hold; busy = head .busy; presets = map presetIn l })
       (sym (take-take (head .count) 32 ps few) ∙ ap (take (head .count)) agree ∙ take-take (head .count) 32 qs few)
 
   same-plan : (t : List ℕ) → planMeant head ps t ≡ planMeant head qs t

@@ -1,65 +1,32 @@
 -- Laws of a slot's mask of free bridges.
 --
--- In order: the bits of a number, lowest first (`taken-..`), and how many the first ones are (`ones-low`); the bits of the mask of a test
+-- In order: the bits of a number, lowest first (`taken-..`); the bits of the mask of a test
 -- (`hasBit-mask`); the lowest bit that is set (`lowest`, `none-below-lowest`, `some-lowest`), and what is left without it
 -- (`cleared`).
 -- Assumes nothing.
 use Prim.Native.Nat.{ℕ, zero, suc, _+_, _-_, _*_, _/_, _%_, _^_, _<_}
 use native.Mathlib.Nat.{pow-suc}
-use native.Mathlib.Numerals.{one-add, add-one}
+use native.Mathlib.Numerals.{one-add}
 use native.Mathlib.Omega.{arith}
 use mathlib.Core.Path.{_≡_, refl, sym, _∙_, ap}
 use mathlib.Core.Logic.{_⊎_, inl, inr}
 use mathlib.Core.Bool.{Bool, true, false, not, _&&_, and-true}
-use lib.Count.{ones, ones-step, trailingZeros, trailing-of-zero}
+use lib.Count.{trailingZeros, trailing-of-zero}
 use lib.Bits.{bitAnd, and-step, and-self}
 use lib.Dec.{eqb, eqb·suc-zero, eqb·suc-suc}
-use lib.Pow.{shr-shr, field, mod-mod-pow}
-use Rattle.laws.specs.Sums.{bit, sum, count}
+use lib.Pow.{shr-shr}
+use Rattle.laws.specs.Sums.{bit}
 use Rattle.laws.proofs.Tests.{Is, is-true, is-false, is}
 use Rattle.laws.proofs.Comparisons.{eq-of, ne-of, eqb-yes, eqb-no}
-use Rattle.laws.proofs.Sums.{sum-ext, sum-first}
 use Rattle.station.specs.Head.{hasBit}
 use Rattle.placing.specs.method.Mask.{bridgeMask}
 use Rattle.placing.proofs.BridgeMask.{mask-first}
 
 -- ---- the bits of a number
 
-bit-hasBit : (m : ℕ) → bit (hasBit m 0) ≡ m % 2
-bit-hasBit m = go (is (eqb (m / 2 ^ 0 % 2) 1))
-  where
-    go : Is (eqb (m / 2 ^ 0 % 2) 1) → bit (hasBit m 0) ≡ m % 2
-    go (is-true e) = rw e (let l = eq-of (m / 2 ^ 0 % 2) 1 e in omega arith)
-    go (is-false e) = rw e (let l : m / 2 ^ 0 % 2 ≡ 1 → ⊥ = ne-of (m / 2 ^ 0 % 2) 1 e in omega arith)
-
 pub hasBit-half : (m b : ℕ) → hasBit m (suc b) ≡ hasBit (m / 2) b
 hasBit-half m b =
     ap (λ (n : ℕ). eqb (n % 2) 1) (ap (λ (k : ℕ). m / 2 ^ k) (sym (one-add b)) ∙ sym (shr-shr m 1 b))
-
--- the first n bits of a number have as many ones as are set
-pub ones-low : (n m : ℕ) → ones (m % 2 ^ n) ≡ count n (hasBit m)
-unfolding sum ones
-ones-low zero m = let z : m % 2 ^ 0 ≡ 0 = omega arith in rw z none
-  where
-    none : ones 0 ≡ 0
-    none = refl
-ones-low (suc n) m =
-    omega (
-      arith,
-      ones-step (m % 2 ^ suc n),
-      low,
-      ap ones half,
-      ones-low n (m / 2),
-      bit-hasBit m,
-      sum-first n (λ b. bit (hasBit m b)),
-      sum-ext n (λ b. bit (hasBit m (suc b))) (λ b. bit (hasBit (m / 2) b)) (λ b l. ap bit (hasBit-half m b)),
-    )
-  where
-    half : m % 2 ^ suc n / 2 ≡ m / 2 % 2 ^ n
-    half = ap (λ (j : ℕ). m % 2 ^ j / 2) (sym (add-one n)) ∙ field m n 1
-
-    low : m % 2 ^ suc n % 2 ≡ m % 2
-    low = ap (λ (j : ℕ). m % 2 ^ j % 2) (sym (add-one n)) ∙ mod-mod-pow m n 1
 
 -- ---- the mask of a test
 

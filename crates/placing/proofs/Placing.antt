@@ -17,7 +17,7 @@ use Rattle.laws.proofs.Counts.{bit-le, count-none, one-selected}
 use Rattle.laws.proofs.Order.{place-total, hold-total}
 use Rattle.laws.proofs.Cells.{takes-one-job, slot-holding}
 use Rattle.placing.specs.Table.{Cells}
-use Rattle.placing.specs.Plan.{placing, freeCount, tieOf}
+use Rattle.placing.specs.Plan.{placing, tieOf}
 
 -- the order of ties by `(tie hold)` or `(tie place)` is one of those that the laws speak of
 pub tie-total : (hold : Bool) → TotalTies (tieOf hold)
@@ -55,7 +55,7 @@ module _ (k : ℕ) (f a : ℕ → ℕ → Bool) (v : ℕ → ℕ → ℕ) (t : C
       go (is-true e) (inl w) = unused e (of-free e ∙ w)
       go (is-true e) (inr (i, l, d, w)) = written e i l (right-of (f s b) (job i) (left-of (f s b && job i) _ d)) (of-free e ∙ w)
 
-  module _ (bridges : ℕ) (within : count k (λ i. a i s) ≤ freeCount bridges f s) where
+  module _ (bridges : ℕ) (within : count k (λ i. a i s) ≤ count bridges (λ b. f s b)) where
     -- how many cells of the slot pass a test: the jobs placed there whose value does, and the cells that were not free
     pub placing-count : (q : ℕ → Bool) → q 0 ≡ false
         → count bridges (λ b. q (placing k f a v t s b)) ≡ count k (λ i. a i s && q (v i s)) + count bridges (λ b. not (f s b) && q (t s b))

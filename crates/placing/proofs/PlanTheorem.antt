@@ -19,10 +19,10 @@ use Rattle.laws.specs.Sums.{bit, only, sum, count}
 use Rattle.laws.specs.Lists.{at}
 use Rattle.laws.specs.Placement.{Criterion, everywhere, capacity, Ties, TotalTies, tiePlace, nobody, lrtf}
 use Rattle.laws.specs.Grants.{granted, raised}
-use Rattle.laws.proofs.Tests.{Is, is-true, is-false, is, clash, not-true, left-of, right-of, false-of-not, true-of-not, or-cases}
+use Rattle.laws.proofs.Tests.{Is, is-true, is-false, is, clash, not-true, left-of, right-of, false-of-not, true-of-not, or-cases, fails-right}
 use Rattle.laws.proofs.Comparisons.{lt-of, ge-of, eq-of, eqb-self, ne-of, ltb-no, eqb-yes, eqb-no}
 use Rattle.laws.proofs.Sums.{sum-ext, sum-add, sum-two}
-use Rattle.laws.proofs.Counts.{bit-le, count-ext, count-none, bit-pos, count-some, count-split, count-or, count-once, count-le-bit}
+use Rattle.laws.proofs.Counts.{bit-le, count-ext, count-imp, count-none, bit-pos, count-some, count-split, count-or, count-once, count-le-bit}
 use Rattle.laws.proofs.Lists.{length-tabulate, at-tabulate, tabulate-ext}
 use Rattle.laws.proofs.Order.{position-below, position-injective, ascending-total, place-total}
 use Rattle.laws.proofs.Placement.{criterion-less, criterion-of-placed, excess-of-criterion, broken-of-excess, criterion-of-excess, left-got, fits-placed}
@@ -32,14 +32,15 @@ use Rattle.laws.proofs.Grants.{at-raised, at-raised-other, Premises, granted-lo
 use Rattle.laws.proofs.Grants.{granted-high, granted-best}
 use Rattle.station.specs.Head.{Head, Preset, Valid, busyAt, presetAt, noPreset}
 use Rattle.placing.specs.Table.{Cells, Each, WellFormed, holding, kindOf, numberIn, busyCell, mandatoryCell, optionalCell, callCell, isBusy}
-use Rattle.placing.specs.Table.{isMandatory, isOptional, isCall, presetCount, numberAt, hasPreset, hasJob}
+use Rattle.placing.specs.Table.{isMandatory, isOptional, isCall, isHeld, presetCount, numberAt, hasPreset, hasJob, heldCells, motors}
 use Rattle.placing.specs.Valid.{ValidPlan, optionalOf}
 use Rattle.placing.specs.Plan.{rank, mandatories, optionals, planFree, planFreeCount, planFits, PlanFeasible, needWith, needsWith, GrantRule}
 use Rattle.placing.specs.Plan.{needs, needsFrom, grants, planCell, planned}
 use Rattle.placing.specs.Claims.{cellsOfPreset, PresetsRule}
 use Rattle.placing.proofs.CountedCells.{cells-none, isBusy-no, numberIn-mandatory, numberIn-optional, hasPreset-of, numberAt-low, numberAt-lt}
-use Rattle.placing.proofs.CountedCells.{index-unique}
-use Rattle.placing.proofs.Placing.{PlacedCell, kept, unused, written, placing-cases, placing-job}
+use Rattle.placing.proofs.CountedCells.{index-unique, kindOf-mandatory, kind-test}
+use Rattle.placing.proofs.FreeNumber.{held-mandatory, held-optional, plan-free-is}
+use Rattle.placing.proofs.Placing.{PlacedCell, kept, unused, written, placing-cases, placing-count, placing-job}
 
 -- ---- when needs fit
 
@@ -123,15 +124,28 @@ module _ (h : Head) (valid : Valid h) (u : Cells) (w : WellFormed h u) where
         w .once s a b m r z (own-number i s a l d ∙ sym (own-number i s b l e)),
       ))
 
-  own-single : (s b : ℕ) → s < h .slots → b < h .bridges → count (presetCount h) (λ i. own i s b) ≤ bit (planFree h s b)
-  own-single s b l m =
-      count-le-bit (presetCount h) (λ i. own i s b) (planFree h s b)
-      (λ i j r z d c. omega (arith, index-unique h valid i j (omega arith) z (sym (own-number i s b (omega arith) d) ∙ own-number j s b z c)))
-      (λ i r. own-free i s b l m)
+  own-single : (c : Bool) (s b : ℕ) → ((i : ℕ) → i < presetCount h → own i s b ≡ true → c ≡ true) → count (presetCount h) (λ i. own i s b) ≤ bit c
+  own-single c s b =
+      count-le-bit (presetCount h) (λ i. own i s b) c
+      (λ i j r z d e. omega (arith, index-unique h valid i j (omega arith) z (sym (own-number i s b (omega arith) d) ∙ own-number j s b z e)))
 
-  -- the presets' cells of a slot are at most its free bridges
+  own-held : (i s b : ℕ) → i < presetCount h → own i s b ≡ true → isHeld (u s b) ≡ true
+  own-held i s b l e = go (own-cell i s b e)
+    where
+      go : PresetValue h i (u s b) → isHeld (u s b) ≡ true
+      go (inl d) = held-mandatory (u s b) (eqb-yes (kindOf (u s b)) 2 (ap kindOf d ∙ kindOf-mandatory (numberAt h i) (numberAt-lt h valid i l)))
+      go (inr d) = held-optional (u s b) (ap isOptional d ∙ kind-test 3 3 (numberAt h i) (numberAt-lt h valid i l))
+
+  -- the presets' cells of a slot are at most its free number: none is busy, and the supply feeds them all
   own-slot : (s : ℕ) → s < h .slots → sum (presetCount h) (λ i. count (h .bridges) (λ b. own i s b)) ≤ planFreeCount h s
-  own-slot s l = cells-within (presetCount h) (h .bridges) (λ i b. own i s b) (λ b. planFree h s b) (λ b m. own-single s b l m)
+  own-slot s l =
+      omega (
+        arith,
+        cells-within (presetCount h) (h .bridges) (λ i b. own i s b) (λ b. planFree h s b) (λ b m. own-single (planFree h s b) s b (λ i r. own-free i s b l m)),
+        cells-within (presetCount h) (h .bridges) (λ i b. own i s b) (λ b. isHeld (u s b)) (λ b m. own-single (isHeld (u s b)) s b (λ i r. own-held i s b r)),
+        w .supplied s l,
+        plan-free-is h s,
+      )
 
   own-count : (i : ℕ) → i < presetCount h → sum (h .slots) (λ s. count (h .bridges) (λ b. own i s b)) ≡ presetAt h i .mandatory + optionalOf h u i
   unfolding own
@@ -297,13 +311,30 @@ module _ (ties : Ties) (o : TotalTies ties) (h : Head) (valid : Valid h) (start 
             (λ s b l m. eqb-no (planned ties h s b) (callCell n) (λ e. omega (arith, planned-kind s b))),
       ))
 
+  -- the presets of a slot are no more than its free bridges, nor than the supply feeds
+  planned-within : (s : ℕ) → count (length (needs h)) (λ i. had ties h i s) ≤ count (h .bridges) (λ b. planFree h s b)
+  planned-within s = omega (arith, lrtf-step ties o nobody (needs h) (planFreeCount h) s .fits, plan-free-is h s)
+
+  planned-supplied : (s : ℕ) → heldCells h (planned ties h) s ≤ motors h
+  unfolding planned
+  planned-supplied s =
+      omega (
+        arith,
+        placing-count (length (needs h)) (planFree h) (λ i r. had ties h i r) (planCell ties h (needs h)) (λ s b. busyCell) s (h .bridges) (planned-within s) isHeld refl,
+        count-imp (length (needs h)) (λ i. had ties h i s && isHeld (planCell ties h (needs h) i s)) (λ i. had ties h i s)
+            (λ i l. left-of (had ties h i s) (isHeld (planCell ties h (needs h) i s))),
+        count-none (h .bridges) (λ b. not (planFree h s b) && isHeld busyCell) (λ b m. fails-right (not (planFree h s b)) (isHeld busyCell) refl),
+        lrtf-step ties o nobody (needs h) (planFreeCount h) s .fits,
+        plan-free-is h s,
+      )
+
   -- the cells of one preset in a slot, by a test that only cells with its number pass
   planned-count : (i s : ℕ) → i < presetCount h → (q : ℕ → Bool) → ((w : ℕ) → q w ≡ true → numberIn w ≡ numberAt h i)
       → count (h .bridges) (λ b. q (planned ties h s b)) ≡ bit (had ties h i s && q (presetCell h i (early ties h i s)))
   unfolding planned
   planned-count i s l q only-own =
       placing-job (length (needs h)) (planFree h) (λ j r. had ties h j r) (planCell ties h (needs h)) (λ s b. busyCell) s (h .bridges)
-      (lrtf-step ties o nobody (needs h) (planFreeCount h) s .fits) q
+      (planned-within s) q
       (plain 0 refl) i (omega (arith, needs-long h valid start)) (λ j m. others j (omega (arith, needs-long h valid start)))
       (λ b m e. plain busyCell refl)
       ∙ ap (λ (w : ℕ). bit (had ties h i s && q w)) (planCell-is ties h i s)
@@ -431,6 +462,7 @@ planned-valid ties o {h} valid start =
             );
         jobs = omega (arith, count-none 256 (λ n. hasJob h (planned ties h) n) (λ n l. planned-no-job ties o h valid start n));
         apart = λ n l e. absurd (clash (sym e ∙ planned-no-job ties o h valid start n));
+        supplied = λ s l. planned-supplied ties o h valid start s;
       };
       no-calls = λ s b l m. planned-no-call ties o h valid start s b;
     }

@@ -1,10 +1,14 @@
--- What the layer above cites of this one's laws: nothing else of proofs/ is its own but Examples.antt, for frames that compute.
+-- What the layer above cites of this one's laws: nothing else of proofs/ is its own but Examples.antt and SupplyExamples.antt, for frames that compute.
 -- Assumes nothing.
 
 -- the claims about plan and call
 pub use Rattle.placing.proofs.ClaimsHold.{plan-granted, plan-claim, plan-only-five, nine-counts-all, call-accepted, call-claim}
 -- the room for r
 pub use Rattle.placing.proofs.ByCapacity.{plan-by-capacity, call-by-capacity}
+-- one motor for each lost cell; where the supply feeds every bridge, all is as it was without it
+pub use Rattle.placing.proofs.FreeNumber.{freed-number}
+pub use Rattle.placing.proofs.AsUncapped.{no-line-uncapped, plan-uncapped, called-call, cost-call, state-call, frame-causes, call-causes, call-uncapped}
+pub use Rattle.placing.proofs.AsUncapped.{fed-uncapped, plan-eight, frame-eight, causes-eight, cost-eight, state-eight}
 -- the causes of a running frame and of a call
 pub use Rattle.placing.proofs.WellFormedFrame.{clock-to, clock-is, clock-late}
 pub use Rattle.placing.proofs.Causes.{met, of-running, jobs-inside}

@@ -21,7 +21,7 @@ use Rattle.laws.proofs.Counts.{count-ext, count-imp, count-none, count-some, co
 use Rattle.station.specs.Head.{Head, Job, busyAt, presetAt}
 use Rattle.placing.specs.Table.{Cells, Each, WellFormed, holding, kindOf, numberIn, mandatoryCell, optionalCell, callCell, isBusy, isMandatory}
 use Rattle.placing.specs.Table.{isOptional, isCall, presetCount, numberAt, hasPreset, hasJob, jobCount, eachCell, onceIn, mandatoryBelow}
-use Rattle.placing.specs.Table.{wellFormed}
+use Rattle.placing.specs.Table.{laidOut, wellFormed, isHeld, heldCells, motors}
 use Rattle.placing.specs.Valid.{ValidPlan, ValidCall, Change, jobAt}
 use Rattle.placing.proofs.CountedCells.{holding-ext}
 
@@ -76,10 +76,11 @@ clauses h t =
     ∷ every (presetCount h) (λ i. leb (holding h t (optionalCell (numberAt h i))) (presetAt h i .optional))
     ∷ leb (jobCount h t) 64
     ∷ every 256 (λ n. not (hasJob h t n) || not (hasPreset h n))
+    ∷ every (h .slots) (λ s. leb (heldCells h t s) (motors h))
     ∷ []
 
 clauses-are : (h : Head) (t : Cells) → wellFormed h t ≡ conjunction (clauses h t)
-unfolding wellFormed
+unfolding wellFormed laidOut
 clauses-are h t = refl
 
 pub wellFormed-of : (h : Head) (t : Cells) → wellFormed h t ≡ true → WellFormed h t
@@ -104,6 +105,7 @@ wellFormed-of h t e =
           le-of (holding h t (optionalCell (numberAt h i))) (presetAt h i .optional) (every-all (presetCount h) _ (clause 8) i l);
       jobs = le-of (jobCount h t) 64 (clause 9);
       apart = λ n l j. false-of-not (hasPreset h n) (implied (hasJob h t n) (not (hasPreset h n)) (every-all 256 _ (clause 10) n l) j);
+      supplied = λ s l. le-of (heldCells h t s) (motors h) (every-all (h .slots) _ (clause 11) s l);
     }
   where
     clause : (i : ℕ) → getD (clauses h t) i true ≡ true
@@ -156,6 +158,7 @@ of-wellFormed h t w =
         (λ i l. leb-yes (holding h t (optionalCell (numberAt h i))) (presetAt h i .optional) (w .most i l))
         and leb-yes (jobCount h t) 64 (w .jobs)
         and all-every 256 _ (λ n l. implies (hasJob h t n) (not (hasPreset h n)) (λ j. not-is-true (hasPreset h n) (w .apart n l j)))
+        and all-every (h .slots) _ (λ s l. leb-yes (heldCells h t s) (motors h) (w .supplied s l))
         and end
 
 -- ---- the same cells in the frame
@@ -183,6 +186,8 @@ wellFormed-ext h t u e w =
       most = λ i l. omega (arith, holding-ext h t u e (optionalCell (numberAt h i)), w .most i l);
       jobs = omega (arith, count-ext 256 (λ n. hasJob h t n) (λ n. hasJob h u n) (λ n l. hasJob-ext h t u e n), w .jobs);
       apart = λ n l j. w .apart n l (hasJob-ext h t u e n ∙ j);
+      supplied = λ s l.
+          omega (arith, w .supplied s l, count-ext (h .bridges) (λ b. isHeld (t s b)) (λ b. isHeld (u s b)) (λ b m. ap isHeld (e s b l m)));
     }
 
 pub validPlan-ext : (h : Head) (t u : Cells) → Each h (λ s b. t s b ≡ u s b) → ValidPlan h t → ValidPlan h u

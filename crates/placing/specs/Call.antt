@@ -1,4 +1,4 @@
--- A call: which refinement cells it evicts and where its jobs go. Document 01, "What is granted, and where it goes"; document 02, 2026-02.
+-- A call: which refinement cells it evicts and where its jobs go. Document 01, "What is granted, and where it goes"; document 02, 2026-02 and 2026-03.
 -- Assumes nothing.
 use Prim.Native.Nat.{ℕ, zero, suc, _+_, _<_}
 use mathlib.Core.Path.{_≡_}
@@ -12,9 +12,9 @@ use Rattle.laws.specs.Lists.{at}
 use Rattle.laws.specs.Placement.{Ties, nobody, excess, lrtf}
 use Rattle.laws.specs.Eviction.{added, searched}
 use Rattle.station.specs.Head.{Head, Job}
-use Rattle.placing.specs.Table.{Cells, Each, cells, presetCount, numberAt, numberIn, isEmpty, isOptional, callCell}
+use Rattle.placing.specs.Table.{Cells, Each, cells, presetCount, numberAt, numberIn, isEmpty, isOptional, callCell, freeNumber, cleared}
 use Rattle.placing.specs.Valid.{usable, jobAt}
-use Rattle.placing.specs.Plan.{rank, placing, freeCount}
+use Rattle.placing.specs.Plan.{rank, placing}
 
 -- a cell by its place
 pub record CellPlace : Type 0 where
@@ -79,12 +79,13 @@ inSet (z ∷ zs) (c ∷ d) s b = (c && eqb (z .slot) s && eqb (z .bridge) b) || 
 abbrev pub emptyFree : ℕ → Cells → ℕ → ℕ → Bool
 emptyFree clock t s b = usable clock s && isEmpty (t s b)
 
-abbrev pub emptyCount : Head → ℕ → Cells → ℕ → ℕ
-emptyCount h clock t = freeCount (h .bridges) (emptyFree clock t)
+-- how many of them it may fill in a slot: the free number of the slot, none in one gone by
+abbrev pub freeNumberFrom : Head → ℕ → Cells → ℕ → ℕ
+freeNumberFrom h clock t s = only (usable clock s) (freeNumber h t s)
 
--- all the cells that it may use: "It may use empty cells and refinement cells"
+-- and how many where all that it may evict is lost: "It may use empty cells and refinement cells"
 abbrev pub usableCount : Head → ℕ → Cells → ℕ → ℕ
-usableCount h clock t = freeCount (h .bridges) (λ s b. emptyFree clock t s b || evictable h clock t s b)
+usableCount h clock t = freeNumberFrom h clock (cleared (evictable h clock t) t)
 
 abbrev pub lengths : List Job → List ℕ
 lengths jobs = map (λ (j : Job). j .slots) jobs
@@ -96,20 +97,21 @@ callShort h jobs x = excess (length (lengths jobs)) (at (lengths jobs)) (h .slot
 -- The evicted set, found by walking the refinement cells in eviction order and taking each one that helps. That it is document 01's, "of the smallest
 -- sets with which the call fits .. the one whose list comes first", is proved.
 unfoldable pub evictedSet : Head → ℕ → List Job → Cells → List Bool
-evictedSet h clock jobs t = searched (callShort h jobs) (emptyCount h clock t) (slotsOf (evictionOrder h clock t))
+evictedSet h clock jobs t = searched (callShort h jobs) (freeNumberFrom h clock t) (slotsOf (evictionOrder h clock t))
 
 -- whether the call fits with the evicted set
 unfoldable pub callFits : Head → ℕ → List Job → Cells → Bool
 callFits h clock jobs t =
-    eqb (callShort h jobs (added (emptyCount h clock t) (slotsOf (evictionOrder h clock t)) (evictedSet h clock jobs t))) 0
+    eqb (callShort h jobs (added (freeNumberFrom h clock t) (slotsOf (evictionOrder h clock t)) (evictedSet h clock jobs t))) 0
 
 -- the cells that the jobs may use: empty ones and evicted ones
 abbrev pub callFree : Head → ℕ → List Job → Cells → ℕ → ℕ → Bool
 callFree h clock jobs t s b = emptyFree clock t s b || inSet (evictionOrder h clock t) (evictedSet h clock jobs t) s b
 
--- how many they are in a slot
+-- how many of them they fill in a slot at the most: its free number with the evicted cells empty. "A lost cell frees one motor, so under a cap it may end empty while a job takes another
+-- bridge of its slot."
 abbrev pub callFreeCount : Head → ℕ → List Job → Cells → ℕ → ℕ
-callFreeCount h clock jobs t = freeCount (h .bridges) (callFree h clock jobs t)
+callFreeCount h clock jobs t = freeNumberFrom h clock (cleared (inSet (evictionOrder h clock t) (evictedSet h clock jobs t)) t)
 
 -- "Jobs are then placed by the rule above over the empty and lost cells, in the call's order", under an order of ties. The jobs are new: nobody has a cell before.
 unfoldable pub called : Ties → Head → ℕ → List Job → Cells → Cells

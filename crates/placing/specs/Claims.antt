@@ -1,10 +1,10 @@
--- What is claimed of plan and call: the meaning of their answers. Document 01, "What demand 3 speaks of"; document 02, 2026-02. The claims speak of the very functions that the
+-- What is claimed of plan and call: the meaning of their answers. Document 01, "What demand 3 speaks of"; document 02, 2026-02 and 2026-03. The claims speak of the very functions that the
 -- entries are held to, `planOf` and `callOf`; that they hold for all inputs is proved in proofs/Theorems.antt.
 -- Assumes nothing.
 use Prim.Native.Nat.{ℕ, _+_, _-_, _*_, _≤_, _<_}
 use mathlib.Core.Path.{_≡_}
 use mathlib.Core.Logic.{_↔_}
-use mathlib.Core.Bool.{Bool, _||_}
+use mathlib.Core.Bool.{Bool}
 use mathlib.Core.Option.{Option, none}
 use mathlib.Core.List.{List, _++_}
 use lib.ListN.{length, drop}
@@ -12,16 +12,16 @@ use lib.Dec.{ltb, eqb}
 use Rattle.laws.specs.Sums.{sum, count, only}
 use Rattle.laws.specs.Lists.{at}
 use Rattle.laws.specs.Placement.{Placed, Ties, TotalTies, holders, SlotRule, everywhere}
-use Rattle.laws.specs.Eviction.{FirstSmallest}
+use Rattle.laws.specs.Eviction.{added, FirstSmallest}
 use Rattle.station.specs.Limits.{worstPriority, leastCells}
 use Rattle.station.specs.Head.{Head, Job, Valid, withTie, presetAt}
 use Rattle.station.specs.Refusal.{Refusal, mandatoryNotFeasible, callNotFeasible, firstOf}
-use Rattle.placing.specs.Table.{Cells, cell, cells, Each, presetCount, numberAt, numberIn, callCell}
+use Rattle.placing.specs.Table.{Cells, cell, cells, Each, presetCount, numberAt, numberIn, callCell, cleared}
 use Rattle.placing.specs.State.{State, withOrder, WellFormedFrame}
 use Rattle.placing.specs.Valid.{ValidPlan, ValidCall, jobAt, lost, lostUpTo, optionalOf}
 use Rattle.placing.specs.Plan.{rank, planFreeCount, tieOf, planned}
-use Rattle.placing.specs.Call.{evictionOrder, InEvictionOrder, slotsOf, inSet, emptyFree, emptyCount, lengths, evictedSet, called}
-use Rattle.placing.specs.Capacity.{PlanByCapacity, CallByCapacity, GreatestExcess, longestJobs, emptyCapacity}
+use Rattle.placing.specs.Call.{evictionOrder, InEvictionOrder, slotsOf, inSet, freeNumberFrom, lengths, evictedSet, called}
+use Rattle.placing.specs.Capacity.{PlanByCapacity, CallByCapacity, GreatestExcess, longestJobs, freeCapacity}
 use Rattle.placing.specs.Outcomes.{Cost, PlanAnswer, planOf, frameCauses, jobCauses, CallAnswer, callOf, joining}
 
 -- A running frame that 8, a head record's 2 and 11 let pass: a lent table of 512 cells or more, a head that some text yields, "any sound table and clock".
@@ -84,6 +84,12 @@ pub record PlanClaim (h : Head) (t : List ℕ) : Type 0 where
 abbrev pub Fits : Head → List Job → (ℕ → ℕ) → Type 0
 Fits h jobs x = (a : ℕ → ℕ → Bool) × Placed everywhere (length (lengths jobs)) (at (lengths jobs)) (h .slots) x a
 
+-- "A lost cell frees one motor": with a set d of the evictable cells lost, each adds one to the free number of its slot, which is then that of the table without them.
+abbrev pub Frees : Head → ℕ → Cells → Type 0
+Frees h clock t =
+    (d : List Bool) (s : ℕ) → s < h .slots
+    → added (freeNumberFrom h clock t) (slotsOf (evictionOrder h clock t)) d s ≡ freeNumberFrom h clock (cleared (inSet (evictionOrder h clock t) d) t) s
+
 -- how many cells job i has in slot s of the table u
 abbrev pub cellsOfJob : Head → List Job → Cells → ℕ → ℕ → ℕ
 cellsOfJob h jobs u i s = count (h .bridges) (λ b. eqb (u s b) (callCell (jobAt jobs i .number)))
@@ -94,7 +100,7 @@ cellsOfJob h jobs u i s = count (h .bridges) (λ b. eqb (u s b) (callCell (jobAt
 abbrev pub JobsRule : Ties → Head → ℕ → List Job → Cells → Cells → ℕ → Type 0
 JobsRule ties h clock jobs t u s =
     SlotRule (ties s (holders (length jobs) (λ i r. ltb 0 (cellsOfJob h jobs u i r)) s)) (length jobs) (λ i. jobAt jobs i .slots - sum s (λ r. cellsOfJob h jobs u i r))
-    (count (h .bridges) (λ b. emptyFree clock t s b || lost t u s b)) (λ i. ltb 0 (cellsOfJob h jobs u i s))
+    (freeNumberFrom h clock (cleared (lost t u) t) s) (λ i. ltb 0 (cellsOfJob h jobs u i s))
 
 -- the causes tried before 7
 abbrev pub beforeSeven : Head → List Job → State → List (Option Refusal)
@@ -124,7 +130,9 @@ pub record CallClaim (h : Head) (jobs : List Job) (st : State) : Type 0 where
   pub order : (n : Cost) → callOf h jobs st .answer ≡ CallAnswer.taken n → InEvictionOrder h (st .clock) (cell h (st .table)) (evictionOrder h (st .clock) (cell h (st .table)))
   -- "The lost cells: of the smallest sets with which the call fits, each written as a list in the order of loss, the one whose list comes first."
   pub evicted : (n : Cost) → callOf h jobs st .answer ≡ CallAnswer.taken n
-      → FirstSmallest (Fits h (joining h st jobs)) (emptyCount h (st .clock) (cell h (st .table))) (slotsOf (evictionOrder h (st .clock) (cell h (st .table)))) (evictedSet h (st .clock) (joining h st jobs) (cell h (st .table)))
+      → FirstSmallest (Fits h (joining h st jobs)) (freeNumberFrom h (st .clock) (cell h (st .table))) (slotsOf (evictionOrder h (st .clock) (cell h (st .table)))) (evictedSet h (st .clock) (joining h st jobs) (cell h (st .table)))
+  -- what a set adds to the free numbers there is what losing it frees
+  pub frees : firstOf (beforeSeven h jobs st) ≡ none → Frees h (st .clock) (cell h (st .table))
   -- and the cells that are lost in the table left are those of this set, and no other
   pub lost-cells : (n : Cost) → callOf h jobs st .answer ≡ CallAnswer.taken n
       → Each h (λ s b. lost (cell h (st .table)) (cell h (callOf h jobs st .after .table)) s b
@@ -140,9 +148,9 @@ pub record CallClaim (h : Head) (jobs : List Job) (st : State) : Type 0 where
   pub nine : (n : Cost) → callOf h jobs st .answer ≡ CallAnswer.taken n
       → (u : List ℕ) → lostUpTo h (cell h (st .table)) (cell h u) worstPriority ≡ cells h (λ s b. lost (cell h (st .table)) (cell h u) s b)
   -- a valid placement of a call that meets no cause tried before 7 exists exactly if, for every r, its r longest jobs do not exceed the room for r; every one loses at least the excess over the
-  -- empty cells; and what is lost is the greatest excess
+  -- room for r without loss; and what is lost is the greatest excess
   pub capacity : firstOf (beforeSeven h jobs st) ≡ none → CallByCapacity h (st .clock) jobs (cell h (st .table))
-  pub excess : (n : Cost) → callOf h jobs st .answer ≡ CallAnswer.taken n → GreatestExcess (longestJobs jobs) (emptyCapacity h (st .clock) (cell h (st .table))) (n .count)
+  pub excess : (n : Cost) → callOf h jobs st .answer ≡ CallAnswer.taken n → GreatestExcess (longestJobs jobs) (freeCapacity h (st .clock) (cell h (st .table))) (n .count)
   -- all this of the table that the rule makes with any order of ties; and 7 and the cost do not depend on the order
   pub any-order : (n : Cost) → callOf h jobs st .answer ≡ CallAnswer.taken n → (ties : Ties) → TotalTies ties
       → LeastCall ties h (st .clock) (joining h st jobs) n (cell h (st .table)) (called ties h (st .clock) (joining h st jobs) (cell h (st .table)))

@@ -1,4 +1,4 @@
--- The plan: rank, grants, and where the presets go. Document 01, "What is granted, and where it goes"; document 02, 2026-02.
+-- The plan: rank, grants, and where the presets go. Document 01, "What is granted, and where it goes"; document 02, 2026-02 and 2026-03.
 -- Assumes nothing.
 use Prim.Native.Nat.{ℕ, _+_, _-_, _≤_, _<_}
 use mathlib.Core.Path.{_≡_}
@@ -6,21 +6,17 @@ use mathlib.Core.Bool.{Bool, true, false, not, cond}
 use mathlib.Core.List.{List, map}
 use lib.ListN.{length}
 use lib.Dec.{ltb, eqb}
-use Rattle.laws.specs.Sums.{only, count, position, ascending}
+use Rattle.laws.specs.Sums.{only, position, ascending}
 use Rattle.laws.specs.Lists.{at, tabulate}
 use Rattle.laws.specs.Placement.{Placed, everywhere, Ties, tiePlace, tieHold, nobody, left, lrtf, excess}
 use Rattle.laws.specs.Cells.{slotCell}
 use Rattle.laws.specs.Grants.{granted}
 use Rattle.station.specs.Head.{Head, Preset, busyAt, presetAt}
-use Rattle.placing.specs.Table.{Cells, presetCount, numberAt, mandatoryCell, optionalCell, busyCell}
-
--- how many of a slot's bridges pass a test
-abbrev pub freeCount : ℕ → (ℕ → ℕ → Bool) → ℕ → ℕ
-freeCount bridges f s = count bridges (λ b. f s b)
+use Rattle.placing.specs.Table.{Cells, presetCount, numberAt, mandatoryCell, optionalCell, busyCell, freeNumber, bareTable}
 
 -- The table after k jobs got their cells among the free cells f, where `a i s` says that job i has one in slot s: "The chosen, in file order, take the free bridges in ascending
 -- order." A free cell that nobody takes is empty, and one that is not free keeps what stands there. `v i s` is what job i writes in slot s. Who has a cell in which slot is
--- for the caller to say; by the rule it is `lrtf`.
+-- for the caller to say; by the rule it is `lrtf`, which chooses no more of them than the free number says, so that under a cap free cells may be left over.
 unfoldable pub placing : ℕ → (ℕ → ℕ → Bool) → (ℕ → ℕ → Bool) → (ℕ → ℕ → ℕ) → Cells → Cells
 placing k f a v t s b = slotCell k (λ i. a i s) (λ d. f s d) (λ i. v i s) (λ d. t s d) b
 
@@ -38,8 +34,9 @@ optionals h = map (λ (p : Preset). p .optional) (h .presets)
 abbrev pub planFree : Head → ℕ → ℕ → Bool
 planFree h s b = not (busyAt h s b)
 
+-- how many of them it may fill in a slot: the free number of the table with nothing placed
 abbrev pub planFreeCount : Head → ℕ → ℕ
-planFreeCount h = freeCount (h .bridges) (planFree h)
+planFreeCount h = freeNumber h (bareTable h)
 
 -- whether presets with these needs fit: "for every r, the r largest needs together do not exceed" the capacity for r
 abbrev pub planFits : Head → List ℕ → Bool
@@ -90,7 +87,7 @@ planCell ties h c i s =
     (optionalCell (numberAt h i))
 
 -- The table of the plan under an order of ties: "Placing, slot by slot from the first: as many presets as there are free bridges, those with the most slots still to get, never one
--- with none left." Before its first slot nobody has a cell.
+-- with none left", where since 2026-03 the free number says how many. Before its first slot nobody has a cell.
 unfoldable pub planned : Ties → Head → Cells
 unfolding placing
 planned ties h =

@@ -1,9 +1,9 @@
--- The table: its cells, and when it is well-formed (document 01: a sound table). Document 01, "The table".
+-- The table: its cells, the free number of a slot, and when it is well-formed (document 01: a sound table). Document 01, "The table"; document 02, 2026-03.
 -- Slots and bridges are counted from 0: `cell h t s b` is the paper's slot s + 1, bridge b + 1.
 -- Assumes nothing.
-use Prim.Native.Nat.{ℕ, _+_, _*_, _/_, _%_, _≤_, _<_}
+use Prim.Native.Nat.{ℕ, _+_, _-_, _*_, _/_, _%_, _≤_, _<_, min}
 use mathlib.Core.Path.{_≡_}
-use mathlib.Core.Bool.{Bool, true, false, not, _&&_, _||_, Bool·beq}
+use mathlib.Core.Bool.{Bool, true, false, not, cond, _&&_, _||_, Bool·beq}
 use mathlib.Core.List.{List}
 use lib.ListN.{length, getD}
 use lib.Dec.{ltb, leb, eqb}
@@ -92,9 +92,41 @@ isUsed h t n = hasPreset h n || hasJob h t n
 abbrev pub jobCount : Head → Cells → ℕ
 jobCount h t = count 256 (λ n. hasJob h t n)
 
+-- ---- the free number
+
+-- a cell that a preset or a call holds: kinds 2, 3 and 4. A busy cell draws nothing.
+abbrev pub isHeld : ℕ → Bool
+isHeld v = isMandatory v || isOptional v || isCall v
+
+-- how many cells of slot s are empty, and how many are "held by presets and calls"
+abbrev pub emptyCells : Head → Cells → ℕ → ℕ
+emptyCells h t s = count (h .bridges) (λ b. isEmpty (t s b))
+
+abbrev pub heldCells : Head → Cells → ℕ → ℕ
+heldCells h t s = count (h .bridges) (λ b. isHeld (t s b))
+
+-- how many motors the supply feeds in a slot: the k of `(supply k)`; "without it there is no cap", that is one motor for each bridge
+abbrev pub motors : Head → ℕ
+motors h = cond (eqb (h .supply) 0) (h .bridges) (h .supply)
+
+-- "In a slot, the free number becomes the smaller of the empty cells and k less the cells held by presets and calls." It is asked of any cells.
+abbrev pub freeNumber : Head → Cells → ℕ → ℕ
+freeNumber h t s = min (emptyCells h t s) (motors h - heldCells h t s)
+
+-- the table with nothing placed
+abbrev pub bareTable : Head → Cells
+bareTable h s b = cond (busyAt h s b) busyCell emptyCell
+
+-- a table with the cells of a test made empty
+abbrev pub cleared : (ℕ → ℕ → Bool) → Cells → Cells
+cleared f t s b = cond (f s b) emptyCell (t s b)
+
+-- ---- well-formed tables
+
 -- "A sound table has only the five kinds, busy cells just as the head says, in required and refinement cells only numbers of the head's
 -- presets, in call cells only 1 to 255, no number twice in a slot, exactly m required cells of each preset, all in slots before its
--- refinement cells, at most o refinement cells of each preset, and at most 64 job numbers, none of them a preset's."
+-- refinement cells, at most o refinement cells of each preset, and at most 64 job numbers, none of them a preset's." Under a cap, "Valid placements from then on obey the cap, and a sound
+-- table does too": presets and calls hold no more cells of a slot than the supply feeds motors.
 pub record WellFormed (h : Head) (t : Cells) : Type 0 where
   pub kinds : Each h (λ s b. kindOf (t s b) ≤ 4)
   pub plain : Each h (λ s b. kindOf (t s b) ≤ 1 → numberIn (t s b) ≡ 0)
@@ -108,6 +140,7 @@ pub record WellFormed (h : Head) (t : Cells) : Type 0 where
   pub most : (i : ℕ) → i < presetCount h → holding h t (optionalCell (numberAt h i)) ≤ presetAt h i .optional
   pub jobs : jobCount h t ≤ mostFrameJobs
   pub apart : (n : ℕ) → n < 256 → hasJob h t n ≡ true → hasPreset h n ≡ false
+  pub supplied : (s : ℕ) → s < h .slots → heldCells h t s ≤ motors h
 
 -- The same as a test, clause by clause. `first` is tested by counts: before a refinement cell of a preset stand all of its m required ones.
 abbrev pub eachCell : Head → (ℕ → ℕ → Bool) → Bool
@@ -119,8 +152,8 @@ onceIn h t s = every (h .bridges) (λ b. every b (λ a. not (eqb (numberIn (t s 
 abbrev pub mandatoryBelow : Head → Cells → ℕ → ℕ → ℕ
 mandatoryBelow h t n s = sum s (λ r. count (h .bridges) (λ b. eqb (t r b) (mandatoryCell n)))
 
-unfoldable pub wellFormed : Head → Cells → Bool
-wellFormed h t =
+unfoldable pub laidOut : Head → Cells → Bool
+laidOut h t =
     eachCell h (λ s b. leb (kindOf (t s b)) 4)
     && eachCell h (λ s b. not (leb (kindOf (t s b)) 1) || eqb (numberIn (t s b)) 0)
     && eachCell h (λ s b. Bool·beq (isBusy (t s b)) (busyAt h s b))
@@ -133,3 +166,7 @@ wellFormed h t =
     && every (presetCount h) (λ i. leb (holding h t (optionalCell (numberAt h i))) (presetAt h i .optional))
     && leb (jobCount h t) mostFrameJobs
     && every 256 (λ n. not (hasJob h t n) || not (hasPreset h n))
+
+-- these are document 01's clauses; with that of the cap:
+unfoldable pub wellFormed : Head → Cells → Bool
+wellFormed h t = laidOut h t && every (h .slots) (λ s. leb (heldCells h t s) (motors h))

@@ -28,7 +28,7 @@ ghost use Prim.Native.Nat.{ℕ, _<_, _≤_};
 ghost use lib.ListN.{length, getD};
 ghost use Rattle.station.specs.Limits.{mostJobs, leastCells};
 ghost use Rattle.station.specs.Types.{headIn, validRecord};
-ghost use Rattle.placing.specs.Table.{cell, callCell};
+ghost use Rattle.placing.specs.Table.{WellFormed, cell, callCell};
 ghost use Rattle.placing.specs.Valid.{jobAt};
 ghost use Rattle.placing.specs.Types.{jobsIn};
 ghost use Rattle.placing.specs.Outcomes.{jobsOutside};
@@ -80,8 +80,8 @@ fn carry_out(
     jobs: [Job; MOST_JOBS],
     n: usize,
 ) -> CallAnswer
-    ensures { λ r. ⌜ (validRecord head presets ≡ true → leastCells ≤ length (now (table .entry)) → n ≤ mostJobs → jobsOutside (jobsIn n jobs) ≡ false
-        → CallCarriedOut (headIn head presets) (jobsIn n jobs) (stateOf (now (table .entry)) clock hold) (now (table .exit)) r) ⌝ }
+    ensures { λ r. ⌜ (validRecord head presets ≡ true → leastCells ≤ length (now (table .entry)) → WellFormed (headIn head presets) (cell (headIn head presets) (now (table .entry)))
+        → n ≤ mostJobs → jobsOutside (jobsIn n jobs) ≡ false → CallCarriedOut (headIn head presets) (jobsIn n jobs) (stateOf (now (table .entry)) clock hold) (now (table .exit)) r) ⌝ }
 {
     let slots = head.slots;
     let bridges = head.bridges;
@@ -92,6 +92,7 @@ fn carry_out(
     }
     let count = found.count;
     let free = found.free;
+    let counts = found.counts;
     let never = [0u8; MOST_PLACED];
     let cells = job_cells(jobs);
     let clean = past_evicted(count, slots);
@@ -100,6 +101,7 @@ fn carry_out(
         slots,
         bridges,
         free,
+        counts,
         needs,
         n,
         never,
@@ -137,7 +139,7 @@ pub fn call_by_counts(
     let answer = carry_out(head, presets, table, clock, hold, jobs, n);
     mark_jobs(used, jobs, n);
     *admitted = *admitted + n;
-    *capacities = capacities_at(head.slots, head.bridges, table, clock);
+    *capacities = capacities_at(head, table, clock);
     answer
 }
 

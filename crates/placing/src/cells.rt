@@ -1,7 +1,7 @@
 // What a cell of the table is in code: kind × 256 + number. The kinds are 0 empty, 1 busy, both with number 0, 2 mandatory, 3 optional, 4 call.
 ghost use Prim.Native.Nat.{_<_};
 ghost use mathlib.Core.Path.{_≡_};
-ghost use Rattle.placing.specs.Table.{kindOf, numberIn, isOptional, isCall};
+ghost use Rattle.placing.specs.Table.{kindOf, numberIn, isOptional, isCall, isHeld};
 ghost use Rattle.placing.specs.method.Counts.{evictableCell};
 
 // A cell of the table: its kind times 256, and the number of the preset or job that has it.
@@ -53,6 +53,16 @@ pub(crate) fn is_evictable(v: Cell) -> bool
     ensures { λ r. ⌜ r ≡ evictableCell v ⌝ }
 {
     is_optional(v)
+}
+
+// Whether a preset or a call holds a cell.
+pub(crate) fn is_held(v: Cell) -> bool
+    ensures { λ r. ⌜ r ≡ isHeld v ⌝ }
+{
+    if v < MANDATORY {
+        return false;
+    }
+    v < VALUES
 }
 
 // Whether a cell is a call's.

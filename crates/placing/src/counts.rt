@@ -1,6 +1,6 @@
 // What a call's own causes are decided by, counted over the cells of the frame; and the numbers that a call adds.
 pub(crate) mod needs; // needs.rt: the lengths of a call's jobs
-pub mod usable; // usable.rt: the capacities of the cells that a call may use
+pub mod usable; // usable.rt: the capacities of what a call may fill
 pub(crate) mod causes; // causes.rt: the first cause that a call meets, by the counts
 
 use crate::cells::Cell;
@@ -28,7 +28,7 @@ ghost use Rattle.placing.specs.method.Jobs.{marked, jobNumber};
 ghost use Rattle.placing.specs.method.Counts.{Marks, Marked, MarkedBeside, CountsOf};
 
 // What a call's own causes are decided by: 1 at each number that a preset or a call cell has, the number of job numbers in the table, and the capacities for 0 to 8 jobs
-// of the cells that a call may use, the empty and the optional ones in slots from the clock on.
+// of what a call may fill: of each slot from the clock on the empty and the optional cells, but no more than the motors beside the cells that stay.
 pub struct Counts {
     pub used: [u8; 256],
     pub jobs: usize,
@@ -137,7 +137,7 @@ pub(crate) fn mark_jobs(used: &mut [u8; 256], jobs: [Job; MOST_JOBS], n: usize)
     }
 }
 
-// Counts a table and a clock: the numbers that are used, the job numbers, and the capacities of the cells that a call may use. It promises something of
+// Counts a table and a clock: the numbers that are used, the job numbers, and the capacities of what a call may fill. It promises something of
 // a head record that some text yields and a table that is not too short, and is safe for every other.
 pub fn counts_of(
     head: Head,
@@ -149,7 +149,7 @@ pub fn counts_of(
 {
     let slots = head.slots;
     let bridges = head.bridges;
-    let capacities = capacities_at(slots, bridges, table, clock);
+    let capacities = capacities_at(head, table, clock);
     let mut used = [0u8; 256];
     if !in_limits(slots, bridges, head.count, table.len()) {
         return Counts {

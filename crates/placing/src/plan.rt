@@ -98,6 +98,7 @@ fn write_plan(head: Head, presets: [Preset; MOST_PRESETS], table: &mut [Cell], g
     let needs = granted.needs;
     let first = granted.mandatory;
     let free = granted.free;
+    let counts = granted.counts;
     mark_busy(table, slots * bridges);
     let early = preset_cells(presets, count, MANDATORY);
     let late = preset_cells(presets, count, OPTIONAL);
@@ -108,6 +109,7 @@ fn write_plan(head: Head, presets: [Preset; MOST_PRESETS], table: &mut [Cell], g
         slots,
         bridges,
         free,
+        counts,
         needs,
         count,
         first,

@@ -12,7 +12,6 @@ use crate::rule::levels::choose;
 use crate::rule::levels::enter;
 use crate::rule::levels::held_after;
 use crate::rule::levels::highest;
-use crate::rule::masks::count_free;
 use crate::rule::row::write_row;
 use station::limits::MOST_LENGTH;
 use station::limits::MOST_SLOTS;
@@ -24,7 +23,7 @@ ghost use Rattle.laws.specs.Lists.{at};
 ghost use Rattle.station.specs.Limits.{mostLength};
 ghost use Rattle.placing.specs.method.Limits.{mostPlaced};
 ghost use Rattle.placing.specs.Plan.{tieOf};
-ghost use Rattle.placing.specs.method.Rule.{CleanFrom, placeable, placedWithin};
+ghost use Rattle.placing.specs.method.Rule.{CleanFrom, Fillable, placeable, placedWithin};
 
 // Whether none of the first k needs is above the longest job.
 fn needs_in(needs: &[u8; MOST_PLACED], k: usize) -> bool
@@ -60,7 +59,8 @@ fn placeable(
     in_limits(slots, bridges, 0, cells)
 }
 
-// Places jobs 0 to k - 1 with the needs into the free bridges, largest remaining time first, slot by slot from the first. Job i writes `early[i]` in its first
+// Places jobs 0 to k - 1 with the needs into the free bridges, largest remaining time first, slot by slot from the first: in each slot at most as many as `counts` says, which are to be no
+// more than are free there. Job i writes `early[i]` in its first
 // `first[i]` slots and `late[i]` in the others. A free bridge that nobody takes becomes 0; one that is not free keeps its cell, and so does all past the frame.
 // Of jobs that need the same the earlier one goes first; by `hold` those go before it that have a cell in the slot just before.
 // From slot `clean` on the free bridges are to be empty already: none is emptied there, and once every job has its cells, nothing is looked at there.
@@ -70,6 +70,7 @@ pub(crate) fn place(
     slots: usize,
     bridges: usize,
     free: [u8; MOST_SLOTS],
+    counts: [usize; MOST_SLOTS],
     needs: [u8; MOST_PLACED],
     k: usize,
     first: [u8; MOST_PLACED],
@@ -78,8 +79,8 @@ pub(crate) fn place(
     clean: usize,
     hold: bool,
 )
-    ensures { λ _. ⌜ (CleanFrom clean slots bridges free (now (table .entry))
-        → now (table .exit) ≡ placedWithin (tieOf hold) slots bridges free needs k first early late (now (table .entry))) ⌝ }
+    ensures { λ _. ⌜ (CleanFrom clean slots bridges free (now (table .entry)) → Fillable slots bridges free counts
+        → now (table .exit) ≡ placedWithin (tieOf hold) slots bridges free counts needs k first early late (now (table .entry))) ⌝ }
 {
     if !placeable(slots, bridges, &needs, k, table.len()) {
         return;
@@ -100,7 +101,7 @@ pub(crate) fn place(
         let mask = free[s];
         let mut chosen: u64 = 0;
         if mask != 0 {
-            chosen = choose(&mut levels, top, count_free(mask, bridges), held);
+            chosen = choose(&mut levels, top, counts[s], held);
             write_row(
                 table,
                 s * bridges,

@@ -1,7 +1,7 @@
 -- The layout of what is lent by worked examples, read and written, and the lengths at both edges. Each is by computing.
 --
 -- In order: the bytes of two preset records (`records-laid-out`); the sixteen numbers of a frame (`frame-laid-out`, `ties-laid-out`); 8 for what is too short, and 10 before it
--- (`lengths-tried`); what is returned of a refusal and of what is accepted (`numbers-returned`); the orders of ties after a text and after an event (`texts-tied`, `events-tied`);
+-- (`lengths-tried`); what is returned of a refusal and of what is accepted (`numbers-returned`); the orders of ties after a text and after an event (`texts-tied`, `events-tied`); the supply (`texts-supplied`, `frames-supplied`);
 -- rows read into a frame (`rows-tried`), and the causes of writing them (`write-tried`).
 -- Assumes nothing.
 use Prim.Native.Nat.{ℕ}
@@ -12,7 +12,7 @@ use mathlib.Core.Option.{none, some}
 use mathlib.Core.List.{List, [], _∷_, _++_, map}
 use lib.ListN.{take, replicate}
 use Rattle.laws.specs.Lists.{tabulate}
-use Rattle.station.specs.Refusal.{noForm, tooShort, outOfLimits, textTooLong, notWellFormed, noRow, firstOf}
+use Rattle.station.specs.Refusal.{noForm, tooShort, outOfLimits, mandatoryNotFeasible, textTooLong, notWellFormed, noRow, firstOf}
 use Rattle.station.specs.WriteHead as writing
 use Rattle.station.specs.Reading.{accepted, refused}
 use Rattle.station.specs.Head.{bareHead, valid, masksIn, allInLimits, allDistinct, hasNumber}
@@ -26,6 +26,7 @@ use Rattle.station.specs.declared.types.Head.{Head}
 use Rattle.station.specs.declared.types.Preset.{Preset}
 use Rattle.station.proofs.Examples.{reads}
 use Rattle.placing.specs.Outcomes.{cost, PlanAnswer}
+use Rattle.placing.specs.PlanDone.{planMeant}
 use Rattle.placing.proofs.Examples.{plans, calls}
 use Rattle.frame.specs.Event as event
 use Rattle.frame.specs.Event.{ownCauses, carriedOut, comesTo, runOf}
@@ -46,26 +47,26 @@ pub records-laid-out : (bytesOf two ≡ eight) × (take 2 (recordsIn eight) ≡ 
 unfolding bytesOf firstRecords
 records-laid-out = (refl, refl, refl)
 
--- 4 slots, 2 bridges, the second busy in slots 2 and 3, and 2 presets
+-- 4 slots, 2 bridges, a supply of 3, the second bridge busy in slots 2 and 3, and 2 presets
 abbrev head : Head
-head = record { slots = 4; bridges = 2; hold = false; busy = 0 ∷ 6 ∷ replicate 6 0; count = 2 }
+head = record { slots = 4; bridges = 2; supply = 3; hold = false; busy = 0 ∷ 6 ∷ replicate 6 0; count = 2 }
 
 -- with the clock 3: twelve numbers
 abbrev twelve : List ℕ
 twelve = 4 ∷ 2 ∷ 2 ∷ 3 ∷ 0 ∷ 6 ∷ replicate 6 0
 
--- and these at 12 to 15: of the orders of ties at 13 and 14, 0 is place and 1 and 7 are hold; 9 stands in the reserved places
+-- and these at 12 to 15: the supply; of the orders of ties at 13 and 14, 0 is place and 1 and 7 are hold; 9 stands in the reserved place
 abbrev ending : ℕ → ℕ → List ℕ
-ending tie force = twelve ++ (9 ∷ tie ∷ force ∷ 9 ∷ [])
+ending tie force = twelve ++ (3 ∷ tie ∷ force ∷ 9 ∷ [])
 
 pub frame-laid-out : (headOfNumbers (ending 0 7) ≡ head)
     × (headOfNumbers (ending 1 0) ≡ withHold head true)
     × (headOfNumbers (ending 7 0) ≡ withHold head true)
     × (map (λ (n : ℕ). holdOfNumbers (ending 0 n)) (0 ∷ 1 ∷ 7 ∷ []) ≡ false ∷ true ∷ true ∷ [])
     × (clockOfNumbers (ending 0 7) ≡ 3)
-    × (headOver head 3 (replicate 17 9) ≡ twelve ++ replicate 5 9)
-    × (numbersOver head 3 true (replicate 17 9) ≡ twelve ++ (0 ∷ 0 ∷ 1 ∷ 0 ∷ 9 ∷ []))
-    × (numbersOver (withHold head true) 3 false (replicate 17 9) ≡ twelve ++ (0 ∷ 1 ∷ 0 ∷ 0 ∷ 9 ∷ []))
+    × (headOver head 3 (replicate 17 9) ≡ twelve ++ (3 ∷ replicate 4 9))
+    × (numbersOver head 3 true (replicate 17 9) ≡ twelve ++ (3 ∷ 0 ∷ 1 ∷ 0 ∷ 9 ∷ []))
+    × (numbersOver (withHold head true) 3 false (replicate 17 9) ≡ twelve ++ (3 ∷ 1 ∷ 0 ∷ 0 ∷ 9 ∷ []))
     × (clockOver 5 (twelve ++ replicate 4 9) ≡ 4 ∷ 2 ∷ 2 ∷ 5 ∷ 0 ∷ 6 ∷ replicate 6 0 ++ replicate 4 9)
     × (masksOver (replicate 8 7) (twelve ++ replicate 5 9) ≡ 4 ∷ 2 ∷ 2 ∷ 3 ∷ replicate 8 7 ++ replicate 5 9)
 unfolding tabulate
@@ -113,9 +114,12 @@ numbers-returned = (refl, refl, refl, refl, refl, refl, refl, refl, refl, refl, 
 
 -- ---- ties: one slot and one bridge
 
--- a frame with the first clock and these numbers at 13 and 14, and 0 in the reserved places
+-- a frame with the first clock, this supply at 12 and these orders at 13 and 14, and 0 in the reserved place; and one without a supply
+abbrev fed : ℕ → ℕ → ℕ → List ℕ
+fed k tie force = 1 ∷ 1 ∷ 0 ∷ 1 ∷ replicate 8 0 ++ (k ∷ tie ∷ force ∷ 0 ∷ [])
+
 abbrev tied : ℕ → ℕ → List ℕ
-tied tie force = 1 ∷ 1 ∷ 0 ∷ 1 ∷ replicate 8 0 ++ (0 ∷ tie ∷ force ∷ 0 ∷ [])
+tied = fed 0
 
 -- what a text comes to beside a frame of sevens, and what it leaves of these
 abbrev sevens : List ℕ
@@ -124,15 +128,34 @@ sevens = replicate 16 7
 abbrev runs : String → List ℕ
 runs text = frameAfter (textOn (bytes text) sevens (replicate 128 0) (replicate 512 0) (replicate 8192 0)) sevens
 
--- A text that ran leaves both orders, as 0 or 1, and 0 at 12 and 15; one refused by 5 leaves the head's order at 13 and the others as they were, one refused otherwise all.
+-- A text that ran leaves both orders, as 0 or 1, and 0 at 15; one refused by 5 leaves the head's supply at 12, its order at 13 and the others as they were, one refused otherwise all.
 pub texts-tied : (runs "(frame 1 1)\n" ≡ tied 0 0)
     × (runs "(frame 1 1)\n(tie hold)\n" ≡ tied 1 1)
     × (runs "(frame 1 1)\n(tie hold)\n(tie place)\n" ≡ tied 1 0)
-    × (runs "(frame 1 1)\n(preset 1 1 2 0)\n" ≡ 1 ∷ 1 ∷ 1 ∷ 7 ∷ replicate 8 0 ++ (7 ∷ 0 ∷ 7 ∷ 7 ∷ []))
-    × (runs "(frame 1 1)\n(tie hold)\n(preset 1 1 2 0)\n" ≡ 1 ∷ 1 ∷ 1 ∷ 7 ∷ replicate 8 0 ++ replicate 4 7)
+    × (runs "(frame 1 1)\n(preset 1 1 2 0)\n" ≡ 1 ∷ 1 ∷ 1 ∷ 7 ∷ replicate 8 0 ++ (0 ∷ 0 ∷ 7 ∷ 7 ∷ []))
+    × (runs "(frame 1 1)\n(tie hold)\n(preset 1 1 2 0)\n" ≡ 1 ∷ 1 ∷ 1 ∷ 7 ∷ replicate 8 0 ++ (0 ∷ replicate 3 7))
     × (runs "(frame 1 1)\n(tie place)\n" ≡ sevens)
 unfolding reads plans calls jobsOf ownCauses carriedOut comesTo runOf wholeWithPlan wholeWithHead wholeOf wholeWithOutput textOn frameAfter
 texts-tied = (refl, refl, refl, refl, refl, refl)
+
+-- The supply at 12: that of a text that ran, above B too, and of one refused by 5; 0 where it has none, whatever stood there.
+pub texts-supplied : (runs "(frame 1 1)\n(supply 3)\n" ≡ fed 3 0 0)
+    × (runs "(frame 1 1)\n(supply 8)\n(tie hold)\n" ≡ fed 8 1 1)
+    × (runs "(frame 1 2)\n(supply 1)\n(preset 1 1 1 0)\n(preset 2 1 1 0)\n" ≡ 1 ∷ 2 ∷ 2 ∷ 7 ∷ replicate 8 0 ++ (1 ∷ 0 ∷ 7 ∷ 7 ∷ []))
+    × (runs "(frame 1 1)\n(supply 9)\n" ≡ sevens)
+unfolding reads plans calls jobsOf ownCauses carriedOut comesTo runOf wholeWithPlan wholeWithHead wholeOf wholeWithOutput textOn frameAfter
+texts-supplied = (refl, refl, refl, refl)
+
+-- It is read there: under a supply of 1 two cells of a slot of two bridges are above the cap, under 2 they are not; 9 is one that no text yields, and is tried before the table. A plan obeys it.
+abbrev twoBridges : ℕ → List ℕ
+twoBridges k = 1 ∷ 2 ∷ 0 ∷ 1 ∷ replicate 8 0 ++ (k ∷ 0 ∷ 0 ∷ 0 ∷ [])
+
+pub frames-supplied : (map (λ k. eventOn (twoBridges k) (replicate 128 0) (1025 ∷ 1026 ∷ replicate 510 0) (bytes "(clock 2)\n") .answer) (0 ∷ 1 ∷ 2 ∷ 8 ∷ 9 ∷ [])
+    ≡ event.clockNow 2 ∷ event.refused 0 notWellFormed ∷ event.clockNow 2 ∷ event.clockNow 2 ∷ event.refused 0 outOfLimits ∷ [])
+    × (map (λ k. planOn (1 ∷ 2 ∷ 2 ∷ 1 ∷ replicate 8 0 ++ (k ∷ 0 ∷ 0 ∷ 0 ∷ [])) (1 ∷ 0 ∷ 1 ∷ 0 ∷ 2 ∷ 0 ∷ 1 ∷ 0 ∷ replicate 120 0) (replicate 512 0) (replicate 32 0) .answer) (0 ∷ 1 ∷ 2 ∷ 9 ∷ [])
+    ≡ PlanAnswer.granted (0 ∷ 0 ∷ []) ∷ PlanAnswer.refused 0 mandatoryNotFeasible ∷ PlanAnswer.granted (0 ∷ 0 ∷ []) ∷ PlanAnswer.refused 0 outOfLimits ∷ [])
+unfolding reads plans calls jobsOf ownCauses carriedOut comesTo eventMeant eventOn planMeant planOn firstRecords
+frames-supplied = (refl, refl)
 
 -- an event line on it, and the frame afterwards
 abbrev meets : String → ℕ → ℕ → event.Outcome
@@ -153,14 +176,14 @@ unfolding reads plans calls jobsOf ownCauses carriedOut comesTo eventMeant event
 events-tied = (refl, refl, refl, refl, refl, refl, refl)
 
 abbrev frame : List ℕ
-frame = twelve ++ replicate 5 9
+frame = twelve ++ (8 ∷ replicate 4 9)
 
 abbrev records : List ℕ
 records = eight ++ replicate 120 0
 
 -- The rows of bridge 1, which touch, in place of bridge 2's busy slots: the masks at 4 to 11 are theirs, and every other number is as it was. The row at fault; at row 0 a head that no
 -- text yields, before any row; 8 before it, and 10 before that.
-pub rows-tried : (rowsFrame (rowsOn (bytes "1,3,3\r\n\"1\",1,2\r\n") frame records) frame ≡ 4 ∷ 2 ∷ 2 ∷ 3 ∷ 7 ∷ replicate 7 0 ++ replicate 5 9)
+pub rows-tried : (rowsFrame (rowsOn (bytes "1,3,3\r\n\"1\",1,2\r\n") frame records) frame ≡ 4 ∷ 2 ∷ 2 ∷ 3 ∷ 7 ∷ replicate 7 0 ++ (8 ∷ replicate 4 9))
     × (rowsOn (bytes "1,3,3\r\n9,9\r\n3,1,1\r\n") frame records ≡ refused 2 noRow)
     × (rowsOn (bytes "1,3,3\r\n3,1,1\r\n9,9\r\n") frame records ≡ refused 2 outOfLimits)
     × (rowsOn (bytes "9,9\r\n") (replicate 16 0) records ≡ refused 0 outOfLimits)

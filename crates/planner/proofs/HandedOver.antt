@@ -7,8 +7,8 @@ use native.Mathlib.Omega.{arith}
 use mathlib.Core.Path.{_≡_, refl, sym, _∙_, ap}
 use mathlib.Core.Bool.{Bool, true}
 use mathlib.Core.List.{List, [], _∷_, map}
-use lib.ListN.{length, getD}
-use lib.Seq.{length-sets}
+use lib.ListN.{length-set, length, getD}
+use lib.Seq.{sets, length-sets}
 use lib.Dec.{ltb, leb}
 use Rattle.laws.specs.Sums.{bit}
 use Rattle.laws.proofs.Tests.{both}
@@ -142,7 +142,10 @@ handed-on frame presets t {last = last} {ls = ls} start handed =
 
 -- writing a frame leaves its length
 frame-size : (hd : record-of-head.Head) (c : ℕ) (hold : Bool) (f : List ℕ) → length (numbersOver hd c hold f) ≡ length f
-frame-size hd c hold f = length-sets (headOver hd c f) 12 (0 ∷ bit (hd .hold) ∷ bit hold ∷ 0 ∷ []) ∙ length-sets f 0 (hd .slots ∷ hd .bridges ∷ hd .count ∷ c ∷ hd .busy)
+frame-size hd c hold f =
+    length-sets (headOver hd c f) 13 (bit (hd .hold) ∷ bit hold ∷ 0 ∷ [])
+    ∙ length-set (sets f 0 (hd .slots ∷ hd .bridges ∷ hd .count ∷ c ∷ hd .busy)) 12 (hd .supply)
+    ∙ length-sets f 0 (hd .slots ∷ hd .bridges ∷ hd .count ∷ c ∷ hd .busy)
 
 -- "It starts from an accepted head with its plan": a text that `planner_run_text` ran leaves such a start, its contract being the premises.
 pub ran-lets-pass : (text f p t out : List ℕ) {f₁ p₁ t₁ out₁ : List ℕ} {n r : ℕ} → TextLeaves (textOn text f p t out) f p t out f₁ p₁ t₁ out₁ n r

@@ -2,7 +2,7 @@
 --
 -- In order: a run of stores (`sets-cons`, `sets-four`, `sets-short`, `sets-past`); preset records: what was written is read back (`records-back`), what was read and is
 -- written changes nothing (`bytes-back`), nor does what was read behind other records (`bytes-over-rest`), and bytes past them stay (`bytes-past`); a frame: the places of its head
--- (`head-agrees`, `head-equal`), its reserved places are not looked at (`reserved-head`, `reserved-clock`, `reserved-hold`), what was written is read back (`head-back`, `clock-back`,
+-- (`head-agrees`, `head-equal`), its reserved place is not looked at (`reserved-head`, `reserved-clock`, `reserved-hold`), what was written is read back (`head-back`, `clock-back`,
 -- `hold-back`), numbers past it stay (`numbers-past`), the head and the clock that were read and are written change nothing (`head-same`), nor does a whole frame exactly if it stands
 -- as it is written (`AsWritten`, `as-written`, `numbers-back`, `back-written`); an order of ties alone, which stands already or is written (`TiePut`, `tie-put`, `tie-same`), and the
 -- head that was read, with its own (`read-same`); a clock and the order of ties in force, as an event leaves them (`run-others`, `run-length`, `run-head`, `run-clock`, `run-small`,
@@ -22,9 +22,9 @@ use Rattle.laws.proofs.Counts.{bit-le, bit-positive}
 use Rattle.laws.proofs.Stores.{sets-out}
 use Rattle.station.specs.declared.types.Preset.{Preset}
 use Rattle.station.specs.declared.types.Head.{Head}
-use Rattle.station.specs.Types.{withHold, withMasks}
+use Rattle.station.specs.Types.{withSupplied, withHold, withMasks}
 use Rattle.placing.specs.Valid.{firstClock}
-use Rattle.planner.specs.Layout.{firstRecords, bytesOf, bytesOver, frameNumbers, clockPlace, headTie, tieInForce, saysHold, headOfNumbers, clockOfNumbers, holdOfNumbers, headOver, tieOver, numbersOver, clockOver, started, masksOver}
+use Rattle.planner.specs.Layout.{firstRecords, bytesOf, bytesOver, frameNumbers, clockPlace, supplyPlace, headTie, tieInForce, saysHold, headOfNumbers, clockOfNumbers, holdOfNumbers, headOver, tieOver, numbersOver, clockOver, started, masksOver}
 
 -- ---- a run of stores
 
@@ -120,76 +120,85 @@ past-sets : (l : List ℕ) (k : ℕ) (vs : List ℕ) (i : ℕ) → k + length vs
 past-sets l k [] i h = refl
 past-sets l k (v ∷ vs) i h = past-sets (set l k v) (suc k) vs i (omega arith) ∙ getD-set-other l k i v 0 (omega arith)
 
--- The head is made of the numbers at its places: a frame that agrees there with another has the same head but for its order of ties.
+-- The head is made of the numbers at its places: a frame that agrees there with another has the same head but for its supply and its order of ties.
 module _ (l m : List ℕ) (at : (i : ℕ) → i < 12 → (i ≡ clockPlace → ⊥) → getD m i 0 ≡ getD l i 0) where
-  head-agrees : (hold : Bool) → saysHold (getD m headTie 0) ≡ hold → headOfNumbers m ≡ withHold (headOfNumbers l) hold
+  head-agrees : (k : ℕ) (hold : Bool) → getD m supplyPlace 0 ≡ k → saysHold (getD m headTie 0) ≡ hold → headOfNumbers m ≡ withHold (withSupplied (headOfNumbers l) k) hold
   unfolding tabulate
-  head-agrees hold tie =
-      rw (at 0 (omega arith) (λ e. omega arith), at 1 (omega arith) (λ e. omega arith), at 2 (omega arith) (λ e. omega arith), at 4 (omega arith) (λ e. omega arith), at 5 (omega arith) (λ e. omega arith), at 6 (omega arith) (λ e. omega arith), at 7 (omega arith) (λ e. omega arith), at 8 (omega arith) (λ e. omega arith), at 9 (omega arith) (λ e. omega arith), at 10 (omega arith) (λ e. omega arith), at 11 (omega arith) (λ e. omega arith), tie)
+  head-agrees k hold fed tie =
+      rw (at 0 (omega arith) (λ e. omega arith), at 1 (omega arith) (λ e. omega arith), at 2 (omega arith) (λ e. omega arith), at 4 (omega arith) (λ e. omega arith), at 5 (omega arith) (λ e. omega arith), at 6 (omega arith) (λ e. omega arith), at 7 (omega arith) (λ e. omega arith), at 8 (omega arith) (λ e. omega arith), at 9 (omega arith) (λ e. omega arith), at 10 (omega arith) (λ e. omega arith), at 11 (omega arith) (λ e. omega arith), fed, tie)
       refl
 
   -- and the same head where it agrees there too
-  head-equal : getD m headTie 0 ≡ getD l headTie 0 → headOfNumbers m ≡ headOfNumbers l
-  head-equal tie = head-agrees (saysHold (getD l headTie 0)) (ap saysHold tie)
+  head-equal : getD m supplyPlace 0 ≡ getD l supplyPlace 0 → getD m headTie 0 ≡ getD l headTie 0 → headOfNumbers m ≡ headOfNumbers l
+  head-equal fed tie = head-agrees (getD l supplyPlace 0) (saysHold (getD l headTie 0)) fed (ap saysHold tie)
 
--- The reserved places are not looked at: whatever is written there, the head, the clock and the order of ties in force are the same.
-module _ (l : List ℕ) (supply jobs : ℕ) where
-  reserved-at : (i : ℕ) → (i ≡ 12 → ⊥) → (i ≡ 15 → ⊥) → getD (set (set l 12 supply) 15 jobs) i 0 ≡ getD l i 0
-  reserved-at i a b = getD-set-other (set l 12 supply) 15 i jobs 0 b ∙ getD-set-other l 12 i supply 0 a
+-- The reserved place is not looked at: whatever is written there, the head, the clock and the order of ties in force are the same.
+module _ (l : List ℕ) (jobs : ℕ) where
+  reserved-at : (i : ℕ) → (i ≡ 15 → ⊥) → getD (set l 15 jobs) i 0 ≡ getD l i 0
+  reserved-at i b = getD-set-other l 15 i jobs 0 b
 
-  pub reserved-head : headOfNumbers (set (set l 12 supply) 15 jobs) ≡ headOfNumbers l
-  reserved-head =
-      head-equal l (set (set l 12 supply) 15 jobs) (λ i h k. reserved-at i (λ e. omega arith) (λ e. omega arith)) (reserved-at headTie (λ e. omega arith) (λ e. omega arith))
+  pub reserved-head : headOfNumbers (set l 15 jobs) ≡ headOfNumbers l
+  reserved-head = head-equal l (set l 15 jobs) (λ i h k. reserved-at i (λ e. omega arith)) (reserved-at supplyPlace (λ e. omega arith)) (reserved-at headTie (λ e. omega arith))
 
-  pub reserved-clock : clockOfNumbers (set (set l 12 supply) 15 jobs) ≡ clockOfNumbers l
-  reserved-clock = reserved-at 3 (λ e. omega arith) (λ e. omega arith)
+  pub reserved-clock : clockOfNumbers (set l 15 jobs) ≡ clockOfNumbers l
+  reserved-clock = reserved-at 3 (λ e. omega arith)
 
-  pub reserved-hold : holdOfNumbers (set (set l 12 supply) 15 jobs) ≡ holdOfNumbers l
-  reserved-hold = ap saysHold (reserved-at tieInForce (λ e. omega arith) (λ e. omega arith))
+  pub reserved-hold : holdOfNumbers (set l 15 jobs) ≡ holdOfNumbers l
+  reserved-hold = ap saysHold (reserved-at tieInForce (λ e. omega arith))
 
--- both orders of ties, with 0 in the reserved places beside them
+-- both orders of ties, with 0 in the reserved place beside them
 module _ (l : List ℕ) (kept hold : Bool) where
   abbrev both-orders : List ℕ
-  both-orders = sets l 12 (0 ∷ bit kept ∷ bit hold ∷ 0 ∷ [])
-
-  abbrev to-twelve : List ℕ
-  to-twelve = set l 12 0
+  both-orders = sets l 13 (bit kept ∷ bit hold ∷ 0 ∷ [])
 
   abbrev to-thirteen : List ℕ
-  to-thirteen = set to-twelve 13 (bit kept)
+  to-thirteen = set l 13 (bit kept)
 
-  orders-below : (i : ℕ) → i < 12 → getD both-orders i 0 ≡ getD l i 0
-  orders-below = below-sets l 12 (0 ∷ bit kept ∷ bit hold ∷ 0 ∷ [])
+  orders-below : (i : ℕ) → i < 13 → getD both-orders i 0 ≡ getD l i 0
+  orders-below = below-sets l 13 (bit kept ∷ bit hold ∷ 0 ∷ [])
 
   orders-head : frameNumbers ≤ length l → headOfNumbers both-orders ≡ withHold (headOfNumbers l) kept
   orders-head h =
-      let read : getD both-orders headTie 0 ≡ bit kept =
-      below-sets to-thirteen 14 (bit hold ∷ 0 ∷ []) 13 (omega arith) ∙ getD-set-same to-twelve 13 (bit kept) 0 (omega (arith, h, length-set l 12 0)) in
-      head-agrees l both-orders (λ i k n. orders-below i k) kept (ap saysHold read ∙ bit-positive kept)
+      let read : getD both-orders headTie 0 ≡ bit kept = below-sets to-thirteen 14 (bit hold ∷ 0 ∷ []) 13 (omega arith) ∙ getD-set-same l 13 (bit kept) 0 (omega (arith, h)) in
+      head-agrees l both-orders (λ i k n. orders-below i (omega arith)) (getD l supplyPlace 0) kept (orders-below supplyPlace (omega arith)) (ap saysHold read ∙ bit-positive kept)
 
   orders-hold : frameNumbers ≤ length l → holdOfNumbers both-orders ≡ hold
   orders-hold h =
       let read : getD both-orders tieInForce 0 ≡ bit hold =
       below-sets (set to-thirteen 14 (bit hold)) 15 (0 ∷ []) 14 (omega arith)
-      ∙ getD-set-same to-thirteen 14 (bit hold) 0 (omega (arith, h, length-set to-twelve 13 (bit kept), length-set l 12 0)) in
+      ∙ getD-set-same to-thirteen 14 (bit hold) 0 (omega (arith, h, length-set l 13 (bit kept))) in
       ap saysHold read ∙ bit-positive hold
 
 -- what was written is read back
 module _ (head : Head) (clock : ℕ) (hold : Bool) (l : List ℕ) (eight : length (head .busy) ≡ 8) where
-  numbers-are : frameNumbers ≤ length l → headOver head clock l ≡ head .slots ∷ head .bridges ∷ head .count ∷ clock ∷ (head .busy ++ drop 12 l)
+  -- without the supply
+  abbrev unfed : List ℕ
+  unfed = sets l 0 (head .slots ∷ head .bridges ∷ head .count ∷ clock ∷ head .busy)
+
+  numbers-are : frameNumbers ≤ length l → unfed ≡ head .slots ∷ head .bridges ∷ head .count ∷ clock ∷ (head .busy ++ drop 12 l)
   numbers-are h = sets-eq (head .slots ∷ head .bridges ∷ head .count ∷ clock ∷ head .busy) l 0 (omega (arith, eight)) ∙ rw eight refl
 
+  unfed-long : length unfed ≡ length l
+  unfed-long = length-sets l 0 (head .slots ∷ head .bridges ∷ head .count ∷ clock ∷ head .busy)
+
   head-long : frameNumbers ≤ length l → frameNumbers ≤ length (headOver head clock l)
-  head-long h = omega (arith, h, length-sets l 0 (head .slots ∷ head .bridges ∷ head .count ∷ clock ∷ head .busy))
+  head-long h = omega (arith, h, unfed-long, length-set unfed supplyPlace (head .supply))
+
+  fed-below : (i : ℕ) → i < 12 → getD (headOver head clock l) i 0 ≡ getD unfed i 0
+  fed-below i k = getD-set-other unfed supplyPlace i (head .supply) 0 (λ e. omega arith)
 
   pub head-back : frameNumbers ≤ length l → headOfNumbers (numbersOver head clock hold l) ≡ head
   unfolding tabulate
   head-back h =
       let masks : tabulate 8 (λ i. getD (head .busy ++ drop 12 l) i 0) ≡ head .busy = rw eight at (firsts-read (head .busy) (drop 12 l)) in
-      orders-head (headOver head clock l) (head .hold) hold (head-long h) ∙ rw (numbers-are h, masks) refl
+      orders-head (headOver head clock l) (head .hold) hold (head-long h)
+      ∙ ap (λ (g : Head). withHold g (head .hold))
+      (head-agrees unfed (headOver head clock l) (λ i k n. fed-below i k) (head .supply) (headOfNumbers (headOver head clock l) .hold)
+      (getD-set-same unfed supplyPlace (head .supply) 0 (omega (arith, h, unfed-long))) refl)
+      ∙ rw (numbers-are h, masks) refl
 
   pub clock-back : frameNumbers ≤ length l → clockOfNumbers (numbersOver head clock hold l) ≡ clock
-  clock-back h = orders-below (headOver head clock l) (head .hold) hold 3 (omega arith) ∙ rw (numbers-are h) refl
+  clock-back h = orders-below (headOver head clock l) (head .hold) hold 3 (omega arith) ∙ fed-below 3 (omega arith) ∙ rw (numbers-are h) refl
 
   pub hold-back : frameNumbers ≤ length l → holdOfNumbers (numbersOver head clock hold l) ≡ hold
   hold-back h = orders-hold (headOver head clock l) (head .hold) hold (head-long h)
@@ -197,19 +206,19 @@ module _ (head : Head) (clock : ℕ) (hold : Bool) (l : List ℕ) (eight : lengt
   -- numbers past a whole frame never change
   pub numbers-past : drop frameNumbers (numbersOver head clock hold l) ≡ drop frameNumbers l
   numbers-past =
-      sets-past frameNumbers (headOver head clock l) 12 (0 ∷ bit (head .hold) ∷ bit hold ∷ 0 ∷ []) (omega arith)
+      sets-past frameNumbers (headOver head clock l) 13 (bit (head .hold) ∷ bit hold ∷ 0 ∷ []) (omega arith)
+      ∙ drop-set-lt frameNumbers unfed supplyPlace (head .supply) (omega arith)
       ∙ sets-past frameNumbers l 0 (head .slots ∷ head .bridges ∷ head .count ∷ clock ∷ head .busy) (omega (arith, eight))
 
 -- writing the head but for its order of ties and the clock that were read changes nothing
 head-same : (l : List ℕ) → headOver (headOfNumbers l) (clockOfNumbers l) l ≡ l
 unfolding tabulate
 head-same l =
-    rw (set-getD l 0 0, set-getD l 1 0, set-getD l 2 0, set-getD l 3 0, set-getD l 4 0, set-getD l 5 0, set-getD l 6 0, set-getD l 7 0, set-getD l 8 0, set-getD l 9 0, set-getD l 10 0, set-getD l 11 0)
+    rw (set-getD l 0 0, set-getD l 1 0, set-getD l 2 0, set-getD l 3 0, set-getD l 4 0, set-getD l 5 0, set-getD l 6 0, set-getD l 7 0, set-getD l 8 0, set-getD l 9 0, set-getD l 10 0, set-getD l 11 0, set-getD l 12 0)
     refl
 
--- A frame as a text that ran leaves it: the reserved numbers are 0, and an order of ties is 0 or 1.
+-- A frame as a text that ran leaves it: the reserved number is 0, and an order of ties is 0 or 1.
 pub record AsWritten (l : List ℕ) : Type 0 where
-  pub supply : getD l 12 0 ≡ 0
   pub tie : getD l headTie 0 ≡ bit (saysHold (getD l headTie 0))
   pub tie-now : getD l tieInForce 0 ≡ bit (saysHold (getD l tieInForce 0))
   pub jobs : getD l 15 0 ≡ 0
@@ -228,16 +237,14 @@ bit-at (x ∷ l) (suc i) b = bit-at l i b
 put-same : (l : List ℕ) (i v : ℕ) → getD l i 0 ≡ v → set l i v ≡ l
 put-same l i v e = ap (set l i) (sym e) ∙ set-getD l i 0
 
-pub as-written : (l : List ℕ) (kept hold : Bool) → AsWritten (sets l 12 (0 ∷ bit kept ∷ bit hold ∷ 0 ∷ []))
+pub as-written : (l : List ℕ) (kept hold : Bool) → AsWritten (sets l 13 (bit kept ∷ bit hold ∷ 0 ∷ []))
 as-written l kept hold =
-    let l₁ = set l 12 0 in
-    let l₂ = set l₁ 13 (bit kept) in
+    let l₂ = set l 13 (bit kept) in
     let l₃ = set l₂ 14 (bit hold) in
     let thirteen = below-sets l₂ 14 (bit hold ∷ 0 ∷ []) 13 (omega arith) in
     let fourteen = below-sets l₃ 15 (0 ∷ []) 14 (omega arith) in
     record {
-      supply = below-sets l₁ 13 (bit kept ∷ bit hold ∷ 0 ∷ []) 12 (omega arith) ∙ zero-at l 12;
-      tie = thirteen ∙ bit-at l₁ 13 kept ∙ ap (λ (n : ℕ). bit (saysHold n)) (sym thirteen);
+      tie = thirteen ∙ bit-at l 13 kept ∙ ap (λ (n : ℕ). bit (saysHold n)) (sym thirteen);
       tie-now = fourteen ∙ bit-at l₂ 14 hold ∙ ap (λ (n : ℕ). bit (saysHold n)) (sym fourteen);
       jobs = zero-at l₃ 15;
     }
@@ -247,8 +254,8 @@ pub numbers-back : (l : List ℕ) → AsWritten l → numbersOver (headOfNumbers
 numbers-back l z =
     let kept = saysHold (getD l headTie 0) in
     let hold = holdOfNumbers l in
-    ap (λ (m : List ℕ). sets m 12 (0 ∷ bit kept ∷ bit hold ∷ 0 ∷ [])) (head-same l)
-    ∙ rw (put-same l 12 0 (z .supply), put-same l headTie (bit kept) (z .tie), put-same l tieInForce (bit hold) (z .tie-now), put-same l 15 0 (z .jobs)) refl
+    ap (λ (m : List ℕ). sets m 13 (bit kept ∷ bit hold ∷ 0 ∷ [])) (head-same l)
+    ∙ rw (put-same l headTie (bit kept) (z .tie), put-same l tieInForce (bit hold) (z .tie-now), put-same l 15 0 (z .jobs)) refl
 
 pub back-written : (l : List ℕ) → numbersOver (headOfNumbers l) (clockOfNumbers l) (holdOfNumbers l) l ≡ l → AsWritten l
 back-written l e = subst AsWritten e (as-written (headOver (headOfNumbers l) (clockOfNumbers l) l) (saysHold (getD l headTie 0)) (holdOfNumbers l))
@@ -311,7 +318,8 @@ module _ (c : ℕ) (hold : Bool) (l : List ℕ) where
   run-length = put-length (tie-put tieInForce hold (clockOver c l)) ∙ length-set l clockPlace c
 
   pub run-head : headOfNumbers run-on ≡ headOfNumbers l
-  run-head = head-equal l run-on (λ i h k. run-others i k (λ e. omega arith)) (run-others headTie (λ e. omega arith) (λ e. omega arith))
+  run-head =
+      head-equal l run-on (λ i h k. run-others i k (λ e. omega arith)) (run-others supplyPlace (λ e. omega arith) (λ e. omega arith)) (run-others headTie (λ e. omega arith) (λ e. omega arith))
 
   pub run-clock : frameNumbers ≤ length l → clockOfNumbers run-on ≡ c
   run-clock h = put-other clockPlace (λ e. omega arith) (tie-put tieInForce hold (clockOver c l)) ∙ getD-set-same l clockPlace c 0 (omega arith)
@@ -333,7 +341,8 @@ module _ (l : List ℕ) where
   started-others i a b = getD-set-other (clockOver firstClock l) tieInForce i (getD l headTie 0) 0 b ∙ getD-set-other l clockPlace i firstClock 0 a
 
   pub started-head : headOfNumbers (started l) ≡ headOfNumbers l
-  started-head = head-equal l (started l) (λ i h k. started-others i k (λ e. omega arith)) (started-others headTie (λ e. omega arith) (λ e. omega arith))
+  started-head =
+      head-equal l (started l) (λ i h k. started-others i k (λ e. omega arith)) (started-others supplyPlace (λ e. omega arith) (λ e. omega arith)) (started-others headTie (λ e. omega arith) (λ e. omega arith))
 
   pub started-clock : frameNumbers ≤ length l → clockOfNumbers (started l) ≡ firstClock
   started-clock h = getD-set-other (clockOver firstClock l) tieInForce clockPlace (getD l headTie 0) 0 (λ e. omega arith) ∙ getD-set-same l clockPlace firstClock 0 (omega arith)
@@ -353,7 +362,7 @@ masks-head ms (x ∷ y ∷ z ∷ []) eight h = absurd (omega arith)
 masks-head ms (x ∷ y ∷ z ∷ w ∷ l) eight h =
     let masks : tabulate 8 (λ i. getD (ms ++ drop 8 l) i 0) ≡ ms = rw eight at (firsts-read ms (drop 8 l)) in
     let there : sets l 0 ms ≡ ms ++ drop 8 l = sets-eq ms l 0 (omega (arith, eight)) ∙ rw eight refl in
-    rw (past-sets (x ∷ y ∷ z ∷ w ∷ l) 4 ms headTie (omega (arith, eight)), sets-four x y z w l ms, there, masks) refl
+    rw (past-sets (x ∷ y ∷ z ∷ w ∷ l) 4 ms headTie (omega (arith, eight)), past-sets (x ∷ y ∷ z ∷ w ∷ l) 4 ms supplyPlace (omega (arith, eight)), sets-four x y z w l ms, there, masks) refl
 
 -- writing the masks that were read changes nothing
 pub masks-same : (l : List ℕ) → masksOver (headOfNumbers l .busy) l ≡ l

@@ -85,14 +85,15 @@ pub numbers-all : (vs l : List ℕ) (i k : ℕ) {all : List ℕ} → length vs �
 numbers-all vs l i k h e = rw (drop-of-length-le vs h) at e
 
 -- a head and a clock written number by number
-pub head-written : (head : Head) (clock : ℕ) (l : List ℕ) {l₁ l₂ l₃ l₄ l₅ : List ℕ}
-    → l₁ ≡ set l 0 (head .slots) → l₂ ≡ set l₁ 1 (head .bridges) → l₃ ≡ set l₂ 2 (head .count) → l₄ ≡ set l₃ 3 clock → l₅ ≡ sets l₄ 4 (head .busy) → l₅ ≡ headOver head clock l
-head-written head clock l e₁ e₂ e₃ e₄ e₅ = rw (e₅, e₄, e₃, e₂, e₁) refl
+pub head-written : (head : Head) (clock : ℕ) (l : List ℕ) {l₁ l₂ l₃ l₄ l₅ l₆ : List ℕ}
+    → l₁ ≡ set l 0 (head .slots) → l₂ ≡ set l₁ 1 (head .bridges) → l₃ ≡ set l₂ 2 (head .count) → l₄ ≡ set l₃ 3 clock → l₅ ≡ sets l₄ 4 (head .busy) → l₆ ≡ set l₅ 12 (head .supply)
+    → l₆ ≡ headOver head clock l
+head-written head clock l e₁ e₂ e₃ e₄ e₅ e₆ = rw (e₆, e₅, e₄, e₃, e₂, e₁) refl
 
--- both orders of ties, and 0 in the reserved places beside them
-pub orders-written : (l : List ℕ) (kept hold : Bool) {l₁ l₂ l₃ l₄ : List ℕ} {a b : ℕ}
-    → l₁ ≡ set l 12 0 → a ≡ bit kept → l₂ ≡ set l₁ 13 a → b ≡ bit hold → l₃ ≡ set l₂ 14 b → l₄ ≡ set l₃ 15 0 → l₄ ≡ sets l 12 (0 ∷ bit kept ∷ bit hold ∷ 0 ∷ [])
-orders-written l kept hold e₁ a e₂ b e₃ e₄ = rw (e₄, e₃, b, e₂, a, e₁) refl
+-- both orders of ties, and 0 in the reserved place beside them
+pub orders-written : (l : List ℕ) (kept hold : Bool) {l₂ l₃ l₄ : List ℕ} {a b : ℕ}
+    → a ≡ bit kept → l₂ ≡ set l 13 a → b ≡ bit hold → l₃ ≡ set l₂ 14 b → l₄ ≡ set l₃ 15 0 → l₄ ≡ sets l 13 (bit kept ∷ bit hold ∷ 0 ∷ [])
+orders-written l kept hold a e₂ b e₃ e₄ = rw (e₄, e₃, b, e₂, a) refl
 
 -- an order of ties at a place, which stands there already or is written
 module _ (place : ℕ) (hold : Bool) (l : List ℕ) {n : ℕ} {says : Bool} (read : n ≡ getD l place 0) (is-said : says ≡ saysHold n) where
@@ -107,7 +108,7 @@ module _ (place : ℕ) (hold : Bool) (l : List ℕ) {n : ℕ} {says : Bool} (rea
 
 -- what a text that ran leaves of a frame, and what a refusal leaves
 module _ (x : Ended) (head : Head) (clock : ℕ) (hold : Bool) (l : List ℕ) {l₁ l₂ : List ℕ} (e : l₁ ≡ headOver head clock l) where
-  pub ran-written : {n : ℕ} → x ≡ Ran n → l₂ ≡ sets l₁ 12 (0 ∷ bit (head .hold) ∷ bit hold ∷ 0 ∷ []) → l₂ ≡ frameLeft (endIn x) head clock hold l
+  pub ran-written : {n : ℕ} → x ≡ Ran n → l₂ ≡ sets l₁ 13 (bit (head .hold) ∷ bit hold ∷ 0 ∷ []) → l₂ ≡ frameLeft (endIn x) head clock hold l
   ran-written q e₂ = rw (q, e₂, e) refl
 
   pub refused-written : {n : ℕ} {r : Refusal} → x ≡ Refused n r → l₂ ≡ tieOver headTie (head .hold) l₁ → l₂ ≡ frameLeft (endIn x) head clock hold l

@@ -132,7 +132,7 @@ frameLeft (listed n) head clock hold frame = numbersOver head clock hold frame
 frameLeft (refusedAt n r) head clock hold frame = tieOver headTie (head .hold) (headOver head clock frame)
 
 -- The frame and the presets afterwards: a head that is not read leaves both as they were; "the head is the one read" where the required slots do not fit, and the
--- clock, the order of ties in force and the reserved numbers stay; where the text ran, the clock and the order are those it left, and the reserved numbers are 0.
+-- clock, the order of ties in force and the reserved number stay; where the text ran, the clock and the order are those it left, and the reserved number is 0.
 unfoldable pub frameAfter : Whole → List ℕ → List ℕ
 frameAfter (notRead n r) frame = frame
 frameAfter (notPlanned h n r) frame = tieOver headTie (h .hold) (headOver (headRecord h) (clockOfNumbers frame) frame)

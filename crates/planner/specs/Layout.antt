@@ -52,15 +52,18 @@ bytesOver ps l = sets l 0 (bytesOf ps)
 
 -- ---- the running frame: its head, "the clock", and the order of ties in force
 
--- A frame is sixteen numbers: slots, bridges, how many presets, the clock, the busy slots of bridges 1 to 8, one mask each with slot 1 as the lowest bit, at 13 the head's order of
--- ties, at 14 the one in force, and two that are reserved for requests to come: at 12 the supply (2026-03), at 15 how many jobs were admitted (2026-06). Until then these two are not
--- looked at. A text that ran leaves 0 there, so that a later version can tell a frame stored by this one; nothing else writes there.
+-- A frame is sixteen numbers: slots, bridges, how many presets, the clock, the busy slots of bridges 1 to 8, one mask each with slot 1 as the lowest bit, at 12 the supply, 0 without a supply line,
+-- at 13 the head's order of ties, at 14 the one in force, and at 15 one that is reserved for a request to come: how many jobs were admitted (2026-06). Until then it is not looked at. A text
+-- that ran leaves 0 there, so that a later version can tell a frame stored by this one; nothing else writes there.
 abbrev pub frameNumbers : ℕ
 frameNumbers = 16
 
--- the places of the clock and of the two orders of ties
+-- the places of the clock, of the supply and of the two orders of ties
 abbrev pub clockPlace : ℕ
 clockPlace = 3
+
+abbrev pub supplyPlace : ℕ
+supplyPlace = 12
 
 abbrev pub headTie : ℕ
 headTie = 13
@@ -72,9 +75,16 @@ tieInForce = 14
 abbrev pub saysHold : ℕ → Bool
 saysHold n = ltb 0 n
 
--- what is read of them; the reserved ones are not
+-- what is read of them; the reserved one is not
 abbrev pub headOfNumbers : List ℕ → Head
-headOfNumbers l = record { slots = getD l 0 0; bridges = getD l 1 0; hold = saysHold (getD l headTie 0); busy = tabulate mostBridges (λ b. getD l (4 + b) 0); count = getD l 2 0 }
+headOfNumbers l = record {
+  slots = getD l 0 0;
+  bridges = getD l 1 0;
+  supply = getD l supplyPlace 0;
+  hold = saysHold (getD l headTie 0);
+  busy = tabulate mostBridges (λ b. getD l (4 + b) 0);
+  count = getD l 2 0;
+}
 
 abbrev pub clockOfNumbers : List ℕ → ℕ
 clockOfNumbers l = getD l clockPlace 0
@@ -82,17 +92,17 @@ clockOfNumbers l = getD l clockPlace 0
 abbrev pub holdOfNumbers : List ℕ → Bool
 holdOfNumbers l = saysHold (getD l tieInForce 0)
 
--- A list of numbers with a head, all but its order of ties, and a clock written over its start: every number past the twelfth is as it was.
+-- A list of numbers with a head, all but its order of ties, and a clock written over its start: every number past the thirteenth is as it was.
 abbrev pub headOver : Head → ℕ → List ℕ → List ℕ
-headOver head clock l = sets l 0 (head .slots ∷ head .bridges ∷ head .count ∷ clock ∷ head .busy)
+headOver head clock l = set (sets l 0 (head .slots ∷ head .bridges ∷ head .count ∷ clock ∷ head .busy)) supplyPlace (head .supply)
 
 -- with an order of ties at a place: 0 for place and 1 for hold, and a number that says it already stays as it is
 abbrev pub tieOver : ℕ → Bool → List ℕ → List ℕ
 tieOver place hold l = cond (Bool·beq (saysHold (getD l place 0)) hold) l (set l place (bit hold))
 
--- with a whole frame, that is with head and clock, both orders of ties, and 0 in the reserved places: every number past the sixteenth is as it was
+-- with a whole frame, that is with head and clock, both orders of ties, and 0 in the reserved place: every number past the sixteenth is as it was
 abbrev pub numbersOver : Head → ℕ → Bool → List ℕ → List ℕ
-numbersOver head clock hold l = sets (headOver head clock l) 12 (0 ∷ bit (head .hold) ∷ bit hold ∷ 0 ∷ [])
+numbersOver head clock hold l = sets (headOver head clock l) headTie (bit (head .hold) ∷ bit hold ∷ 0 ∷ [])
 
 -- and with a clock alone
 abbrev pub clockOver : ℕ → List ℕ → List ℕ

@@ -42,7 +42,7 @@ const TOO_SHORT: u32 = 8;
 
 // Runs a whole text: 10 for more than 32,768 bytes, 8 for a frame below 16 numbers, presets below 128 bytes, an output below 8,192 bytes or a table below 512 cells,
 // then the head's causes, then 5. Where it ran, `end` is the number of bytes of the listing in the output, and frame, presets and table are those of the running
-// frame, with 0 for its reserved numbers. Where it is refused, `end` is the line at fault, and nothing changes, but for 5, which leaves the head and the presets
+// frame, with 0 for its reserved number. Where it is refused, `end` is the line at fault, and nothing changes, but for 5, which leaves the head and the presets
 // that were read.
 #[no_mangle]
 pub extern "C" fn planner_run_text(

@@ -1,4 +1,4 @@
-// The frame that a caller lends as sixteen numbers: its head, its clock and its order of ties out of them by value, and back. Two are reserved: they are not read, and 0 is all
+// The frame that a caller lends as sixteen numbers: its head, its clock and its order of ties out of them by value, and back. One is reserved: it is not read, and 0 is all
 // that is written there. Past the end of the numbers zeros are read and nothing is written, so that each function takes every slice.
 use frame::text::Ended;
 use station::limits::MOST_BRIDGES;
@@ -10,7 +10,7 @@ ghost use lib.ListN.{getD, set};
 ghost use lib.Seq.{sets};
 ghost use Rattle.laws.specs.Sums.{bit};
 ghost use Rattle.frame.specs.TextDone.{endIn};
-ghost use Rattle.planner.specs.Layout.{tieInForce, saysHold, headOfNumbers, clockOfNumbers, holdOfNumbers, headOver, tieOver, clockOver, masksOver};
+ghost use Rattle.planner.specs.Layout.{headTie, tieInForce, saysHold, headOfNumbers, clockOfNumbers, holdOfNumbers, headOver, tieOver, clockOver, masksOver};
 ghost use Rattle.planner.specs.Exports.{frameLeft};
 
 // The number at a place; 0 past the end.
@@ -32,8 +32,10 @@ fn set_number(numbers: &mut [u64], i: usize, given: u64)
     }
 }
 
-// The places of the clock, of the head's order of ties and of the one in force.
+// The places of the clock, of the supply, of the head's order of ties and of the one in force.
 const CLOCK: usize = 3;
+
+const SUPPLY: usize = 12;
 
 const HEAD_TIE: usize = 13;
 
@@ -73,6 +75,7 @@ pub(crate) fn head_of(frame: &[u64]) -> Head
     let mut head = NO_HEAD;
     head.slots = number_at(frame, 0) as usize;
     head.bridges = number_at(frame, 1) as usize;
+    head.supply = number_at(frame, SUPPLY) as usize;
     head.hold = says_hold(number_at(frame, HEAD_TIE));
     head.busy = busy;
     head.count = number_at(frame, 2) as usize;
@@ -128,7 +131,7 @@ pub(crate) fn save_masks(frame: &mut [u64], busy: [u64; MOST_BRIDGES])
     }
 }
 
-// Writes a head, all but its order of ties, and a clock over the first twelve numbers.
+// Writes a head, all but its order of ties, and a clock over the first thirteen numbers.
 fn save_head(frame: &mut [u64], head: Head, clock: usize)
     ensures { λ _. ⌜ now (frame .exit) ≡ headOver head clock (now (frame .entry)) ⌝ }
 {
@@ -138,19 +141,19 @@ fn save_head(frame: &mut [u64], head: Head, clock: usize)
     set_number(frame, 2, head.count as u64);
     set_number(frame, CLOCK, clock as u64);
     save_masks(frame, busy);
+    set_number(frame, SUPPLY, head.supply as u64);
 }
 
-// Writes the two orders of ties, and 0 to the two reserved places beside them.
+// Writes the two orders of ties, and 0 to the reserved place beside them.
 fn save_orders(frame: &mut [u64], kept: bool, hold: bool)
-    ensures { λ _. ⌜ now (frame .exit) ≡ sets (now (frame .entry)) 12 (0 ∷ bit kept ∷ bit hold ∷ 0 ∷ []) ⌝ }
+    ensures { λ _. ⌜ now (frame .exit) ≡ sets (now (frame .entry)) headTie (bit kept ∷ bit hold ∷ 0 ∷ []) ⌝ }
 {
-    set_number(frame, 12, 0);
     set_number(frame, HEAD_TIE, tie_number(kept));
     set_number(frame, TIE_IN_FORCE, tie_number(hold));
     set_number(frame, 15, 0);
 }
 
-// Writes the head and the clock that a text leaves, and where it ran the order of ties in force and 0 to the reserved places. A refusal leaves those as they are, so that one which
+// Writes the head and the clock that a text leaves, and where it ran the order of ties in force and 0 to the reserved place. A refusal leaves those as they are, so that one which
 // leaves the head and the clock too changes nothing.
 pub(crate) fn save_run(frame: &mut [u64], ended: Ended, head: Head, clock: usize, hold: bool)
     ensures { λ _. ⌜ now (frame .exit) ≡ frameLeft (endIn ended) head clock hold (now (frame .entry)) ⌝ }

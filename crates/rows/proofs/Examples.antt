@@ -38,6 +38,10 @@ inputs =
     ∷ prints-as "(frame 4 2)\n(tie hold)\n(busy 1 (4 4))\n\n1,1,2\r\n" "(frame 4 2)\n(tie hold)\n(busy 1 (1 2))\n"
     ∷ prints-as "(frame 4 2)\n(busy 1 (4 4))\n(tie hold)\n\n1,1,2\r\n" "(frame 4 2)\n(busy 1 (1 2))\n"
     ∷ prints-as "(frame 4 2)\n(tie place)\n\n1,1,2\r\n" "(refused 2 3)\n"
+    -- and so does its supply line, with the tie line right after it
+    ∷ prints-as "(frame 4 2)\n(supply 3)\n(busy 1 (4 4))\n\n1,1,2\r\n" "(frame 4 2)\n(supply 3)\n(busy 1 (1 2))\n"
+    ∷ prints-as "(frame 4 2)\n(supply 3)\n(tie hold)\n(busy 1 (4 4))\n\n1,1,2\r\n" "(frame 4 2)\n(supply 3)\n(tie hold)\n(busy 1 (1 2))\n"
+    ∷ prints-as "(frame 4 2)\n(busy 1 (4 4))\n(supply 3)\n\n1,1,2\r\n" "(refused 3 3)\n"
     -- no rows after the empty line: no busy line is left
     ∷ prints-as "(frame 4 2)\n(busy 1 (4 4))\n\n" "(frame 4 2)\n"
     -- the first row at fault, counted from the empty line: no row, outside the frame

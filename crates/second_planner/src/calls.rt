@@ -1,4 +1,5 @@
 // Calls, packed: the jobs' lengths in fields 0 to 2, 0 past the last job; their names in fields 3 to 5; the clock in field 6 and the number of jobs in field 7.
+use crate::packed::at_most;
 use crate::packed::field;
 use crate::packed::first_fields;
 use crate::packed::with_field;
@@ -33,11 +34,6 @@ fn jobs_for(code: usize, step: usize, last: usize) -> usize {
     let count = last % 4 + 1;
     let names = names_for(code >> 18, step, last) | names_past(count);
     first_fields(lengths_for(code), count) | names << 24 | count << 56
-}
-
-// The smaller.
-fn at_most(a: usize, b: usize) -> usize {
-    if a < b { a } else { b }
 }
 
 // The call of a code of 32 bits, at a step of a list: one job and an early clock are more frequent.

@@ -10,30 +10,35 @@ pub mod calling; // calling.rt: what a call evicts, and the table that it leaves
 // numbers.
 pub mod packed; // packed.rt: eight small values in one number, and sets of cells
 pub mod frames; // frames.rt: frames with their busy cells
-pub mod heads; // heads.rt: the presets of a head
-pub mod tables; // tables.rt: well-formed tables of a head
+pub mod heads; // heads.rt: the presets of a head, and its supply
+pub mod tables; // tables.rt: tables of a head, and whether they obey its supply
 pub mod calls; // calls.rt: calls
 
 use calling::call;
 use calling::is_least;
+use heads::supply;
 use planning::is_best;
 use planning::plan;
+use tables::is_fed;
 
 // The answer to a call on a table, or the plan, under an order of ties: `(tie hold)` where `hold` is true, else `(tie place)`.
-pub fn answer(sets: usize, presets: usize, table: usize, hold: bool, wanted: usize) -> usize {
+pub fn answer(sets: usize, head: usize, table: usize, hold: bool, wanted: usize) -> usize {
     if wanted == 0 {
-        return plan(sets, presets, hold);
+        return plan(sets, head, hold);
     }
-    call(sets, presets, table, hold, wanted)
+    call(sets, head, table, hold, wanted)
 }
 
-// Whether no other valid placement is better than an answer's, as document 01 says in "What demand 3 speaks of". An answer that refuses has none.
-pub fn is_optimal(sets: usize, presets: usize, table: usize, wanted: usize, answer: usize) -> bool {
+// Whether an answer's placement obeys the supply and no other valid one is better, as document 01 says in "What demand 3 speaks of". An answer that refuses has none.
+pub fn is_optimal(sets: usize, head: usize, table: usize, wanted: usize, answer: usize) -> bool {
     if answer >> 48 & 255 != 0 {
         return true;
     }
-    if wanted == 0 {
-        return is_best(sets, presets, answer);
+    if !is_fed(sets, answer, supply(head)) {
+        return false;
     }
-    is_least(sets, presets, table, wanted, answer)
+    if wanted == 0 {
+        return is_best(sets, head, answer);
+    }
+    is_least(sets, head, table, wanted, answer)
 }

@@ -1,7 +1,7 @@
 // Eight small values in one number, and sets as numbers: readers and writers that are total, so that no caller owes a bound.
 //
 // A packed number has eight fields of a byte each, the lowest being field 0. So a table of up to six cells is one number. A set of cells is a number too, with a bit
-// for each; cells are numbered from 0, slot by slot and in each slot bridge by bridge. `sets` is everywhere a field for each slot, the set of its cells that count.
+// for each; cells are numbered from 0, slot by slot and in each slot bridge by bridge. `sets` is everywhere a field for each slot, the set of its cells that are not busy.
 use std::num::wrapping_sub_usize;
 ghost use Prim.Native.Nat.{_<_};
 
@@ -23,6 +23,11 @@ pub fn with_field(packed: usize, i: usize, value: usize) -> usize {
 // The number with field i less by one. Nobody asks where that is 0.
 pub fn one_less(packed: usize, i: usize) -> usize {
     wrapping_sub_usize(packed, bit(i % 8 * 8))
+}
+
+// The smaller.
+pub fn at_most(a: usize, b: usize) -> usize {
+    if a < b { a } else { b }
 }
 
 // The set that has just member i, below 64.
@@ -62,6 +67,12 @@ pub fn without_first(sets: usize, i: usize) -> usize {
 // The sets with only those members that a set of cells has too.
 pub fn masked(sets: usize, cells: usize) -> usize {
     sets & cells % 64 * 0x010101010101
+}
+
+// The members of all six sets.
+pub fn members(sets: usize) -> usize {
+    let three = sets | sets >> 24;
+    (three | three >> 8 | three >> 16) % 64
 }
 
 // The first n fields.

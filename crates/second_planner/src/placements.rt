@@ -1,6 +1,8 @@
 // What fits, and the placing rule.
 //
-// Up to three presets or jobs, numbered from 0, need slots, `needs` having a field for each. `sets` has the free cells of each slot.
+// Up to three presets or jobs, numbered from 0, need slots, `needs` having a field for each. `sets` has the cells of each slot that are not busy, `free` those of them that may
+// be filled; the others are held by presets and calls.
+use crate::packed::at_most;
 use crate::packed::field;
 use crate::packed::first_of;
 use crate::packed::one_less;
@@ -11,25 +13,37 @@ use std::num::wrapping_add_usize;
 use std::num::wrapping_sub_usize;
 ghost use Prim.Native.Nat.{_<_};
 
-// Document 01: "the meaning of fits is that a valid placement exists". Every one is tried, with no formula: in each slot each of the three gets a free cell or none.
-// A pair is a slot and one of the three; those below `pair` are done.
-pub fn feasible(sets: usize, needs: usize, pair: usize) -> bool {
+// Whether one more cell of a slot may be filled. Document 02, 2026-03: a supply of k feeds k motors in a slot, so that presets and calls hold no more cells of it; 0 is no supply
+// line, and then there is no cap.
+fn may_fill(slot: usize, free: usize, supply: usize) -> bool {
+    if free == 0 {
+        return false;
+    }
+    if supply == 0 {
+        return true;
+    }
+    size(slot ^ free) < supply
+}
+
+// Document 01: "the meaning of fits is that a valid placement exists". Every one is tried, with no formula: in each slot each of the three gets a free cell or none, and a cell
+// that one got is held by it. A pair is a slot and one of the three; those below `pair` are done.
+pub fn feasible(sets: usize, free: usize, supply: usize, needs: usize, pair: usize) -> bool {
     if needs == 0 {
         return true;
     }
     if pair > 17 {
         return false;
     }
-    if field(sets, pair / 3) != 0 {
-        if field(needs, pair % 3) != 0 {
-            let sets_left = without_first(sets, pair / 3);
+    if field(needs, pair % 3) != 0 {
+        if may_fill(field(sets, pair / 3), field(free, pair / 3), supply) {
+            let free_left = without_first(free, pair / 3);
             let needs_left = one_less(needs, pair % 3);
-            if feasible(sets_left, needs_left, pair + 1) {
+            if feasible(sets, free_left, supply, needs_left, pair + 1) {
                 return true;
             }
         }
     }
-    feasible(sets, needs, pair + 1)
+    feasible(sets, free, supply, needs, pair + 1)
 }
 
 // 1 for true.
@@ -62,7 +76,20 @@ fn held_of(hold: bool, before: usize, left: usize) -> usize {
     }
 }
 
-// Whether a slot of n free bridges serves one of the three: it has slots left to get, and fewer than n come before it, those with more left, of equal ones those that are
+// Document 02, 2026-03: "the free number becomes the smaller of the empty cells and k less the cells held by presets and calls". (Where more are held, which is in no well-formed
+// table, it is 0.)
+fn free_number(slot: usize, free: usize, supply: usize) -> usize {
+    let fed = size(slot ^ free);
+    if supply == 0 {
+        return size(free);
+    }
+    if supply <= fed {
+        return 0;
+    }
+    at_most(size(free), supply - fed)
+}
+
+// Whether a slot of free number n serves one of the three: it has slots left to get, and fewer than n come before it, those with more left, of equal ones those that are
 // held, and of these the earlier. (Twice what is left and one more for the held, and all ones less that, so that the most comes first.)
 fn is_served(left: usize, held: usize, n: usize, who: usize) -> bool {
     if field(left, who) == 0 {
@@ -81,20 +108,24 @@ fn cell_for(mark: usize, left: usize, optional: usize) -> usize {
 }
 
 // Document 01, "Placing, slot by slot from the first": the table with the three in free cells, each cell with its owner's mark. `hold` is whether `(tie hold)` is in force: it
-// changes who is served, and not the bridges, which go in file or call order as ever. Before the first slot nobody has a cell.
+// changes who is served, and not the bridges, which go in file or call order as ever. Before the first slot nobody has a cell. The supply changes how many are served; they
+// take the first free cells of the slot, and the others stay as they are.
 pub fn place(
     table: usize,
     sets: usize,
+    free: usize,
+    supply: usize,
     hold: bool,
     mandatory: usize,
     optional: usize,
     marks: usize,
 ) -> usize {
     let mut after = table;
-    let mut free = sets;
+    let mut unfilled = free;
     let mut left = wrapping_add_usize(mandatory, optional);
     let mut before = left;
     let mut held = 0;
+    let mut n = 0;
     let mut pair = 0;
     while pair < 18 {
         let slot = pair / 3;
@@ -102,11 +133,12 @@ pub fn place(
         if who == 0 {
             held = held_of(hold, before, left);
             before = left;
+            n = free_number(field(sets, slot), field(free, slot), supply);
         }
-        if is_served(before, held, size(field(sets, slot)), who) {
+        if is_served(before, held, n, who) {
             let cell = cell_for(field(marks, who), field(left, who), field(optional, who));
-            after = with_field(after, first_of(field(free, slot)), cell);
-            free = without_first(free, slot);
+            after = with_field(after, first_of(field(unfilled, slot)), cell);
+            unfilled = without_first(unfilled, slot);
             left = one_less(left, who);
         }
         pair += 1;

@@ -17,7 +17,7 @@ use Rattle.laws.proofs.Tests.{Is, is-true, is-false, is}
 use Rattle.laws.proofs.Comparisons.{le-of, gt-of, eq-of, ne-of, leb-yes, leb-no, eqb-yes, eqb-no}
 use Rattle.station.specs.Head.{Head, Preset, Valid, hasBit, busyAt, within}
 use Rattle.station.specs.Form.{Pairs, last, next, Form, presetLine}
-use Rattle.station.specs.Writing.{maskOf, ordered, firstSlot, startedAt, withSlot, stretches, busyLineOf, busyLines, tieLines, formsOf}
+use Rattle.station.specs.Writing.{maskOf, ordered, firstSlot, startedAt, withSlot, stretches, busyLineOf, busyLines, supplyLines, tieLines, formsOf}
 use Rattle.station.specs.Writing.{covers, lineTakes, linesTake}
 use Rattle.station.proofs.Stretches.{first-stretch, rest-ordered, last-stretch, stretches-zero, Runs, runs, stretches-runs, stretches-mask, mask-lt}
 
@@ -168,7 +168,12 @@ busyLines-take c (m ∷ ms) (suc b) x =
     linesTake-append (busyLineOf c (stretches 64 1 m)) (busyLines (suc c) ms) (c + suc b) x
     ∙ (rw (one-takes c (stretches 64 1 m) (c + suc b) x, eqb-no c (c + suc b) (λ q. omega arith), at) (busyLines-take (suc c) ms b x))
 
--- a tie line says nothing of cells
+-- a supply line and a tie line say nothing of cells
+supply-takes : (k : ℕ) (fs : List Form) (b x : ℕ) → linesTake (supplyLines k ++ fs) b x ≡ linesTake fs b x
+unfolding linesTake
+supply-takes zero fs b x = refl
+supply-takes (suc k) fs b x = refl
+
 tie-takes : (hold : Bool) (fs : List Form) (b x : ℕ) → linesTake (tieLines hold ++ fs) b x ≡ linesTake fs b x
 unfolding linesTake
 tie-takes true fs b x = refl
@@ -184,7 +189,8 @@ busy-cells h v s b l =
     sym (stretches-hasBit 64 1 m s (omega arith) l)
     ∙ sym (busyLines-take 1 (h .busy) b (1 + s))
     ∙ (rw (one-add b, one-add s)
-    (sym (tie-takes (h .hold) (busyLines 1 (h .busy) ++ map presetLine (h .presets)) (suc b) (suc s)
+    (sym (supply-takes (h .supply) (tieLines (h .hold) ++ (busyLines 1 (h .busy) ++ map presetLine (h .presets))) (suc b) (suc s)
+    ∙ tie-takes (h .hold) (busyLines 1 (h .busy) ++ map presetLine (h .presets)) (suc b) (suc s)
     ∙ linesTake-append (busyLines 1 (h .busy)) (map presetLine (h .presets)) (suc b) (suc s)
     ∙ ap (λ (k : Bool). linesTake (busyLines 1 (h .busy)) (suc b) (suc s) || k) (presets-take (h .presets) (suc b) (suc s))
     ∙ or-false (linesTake (busyLines 1 (h .busy)) (suc b) (suc s)))))

@@ -4,8 +4,9 @@
 -- (`cases-read`); the head of the listing, written (`listing-written`) and tested (`listing-valid`); the 33rd preset (`presets-32`,
 -- `presets-33`); a number above 2 ^ 64 (`long-number`); the longest text (`too-long`, `longest`). Then what holds the definitions to document 01 from two
 -- sides, each a list of cases and one fact: the causes' numbers (`cause-numbers`); the limits of a head's lines at both edges, and the causes of a line two at
--- a time in the listed order (`edges-read`), the tie line and its places (`ties-read`, `ties-written`), the causes of a 33rd preset (`used-before-33`, `outside-before-33`); head
--- records at the edges (`edges-valid`, `record-32`, `record-33`); what the entries over a list of records try (`entries-read`, `entries-written`).
+-- a time in the listed order (`edges-read`), the tie line and its places (`ties-read`, `ties-written`), the supply line and its places (`supplies-read`, `supplies-written`),
+-- the causes of a 33rd preset (`used-before-33`, `outside-before-33`); head records at the edges (`edges-valid`, `record-32`, `record-33`); what the entries over a list of records
+-- try (`entries-read`, `entries-written`).
 -- Assumes nothing.
 use Prim.Native.Nat.{ℕ, zero, suc}
 use Prim.Native.String.{String}
@@ -20,7 +21,7 @@ use Rattle.station.specs.Refusal.{callNotFeasible, tooShort, tooMany, te
 use Rattle.station.specs.Text.{bytes, lines}
 use Rattle.station.specs.Decimal.{digits, digitsIn, digitCount, plain, valueFrom}
 use Rattle.station.specs.Form.{Form, form, print, brackets, starts, word, number, bracketsIn, readBrackets, frameIn, busyIn, presetIn, clockIn}
-use Rattle.station.specs.Form.{jobListIn, readJobs, callIn, tieIn}
+use Rattle.station.specs.Form.{jobListIn, readJobs, callIn, tieIn, supplyIn}
 use Rattle.station.specs.Writing.{maskOf, ordered, stretches, busyLines, formsOf, textOf}
 use Rattle.station.specs.Reading.{Reading, accepted, refused, headOf, readFrom, tried}
 use Rattle.station.specs.declared.types.Preset as record-of-preset
@@ -33,7 +34,7 @@ use Rattle.station.specs.Entries.{entryReading, entryAnswer}
 -- ---- what computes: `unfolding reads` opens all that reading a text needs, and so the others
 
 unfoldable pub recognises : List ℕ → Option Form
-unfolding bytes plain digitCount valueFrom starts word number bracketsIn readBrackets jobListIn readJobs frameIn busyIn presetIn clockIn callIn tieIn form
+unfolding bytes plain digitCount valueFrom starts word number bracketsIn readBrackets jobListIn readJobs frameIn busyIn presetIn supplyIn clockIn callIn tieIn form
 recognises l = form l
 
 unfoldable pub reads : List ℕ → Reading
@@ -172,10 +173,10 @@ cause-numbers = (refl, refl)
 
 -- so many slots and bridges, nothing busy, no presets; 4 slots and 2 bridges, some slots of bridge 1 busy
 abbrev bare : ℕ → ℕ → Head
-bare s b = record { slots = s; bridges = b; hold = false; busy = replicate 8 0; presets = [] }
+bare s b = record { slots = s; bridges = b; supply = 0; hold = false; busy = replicate 8 0; presets = [] }
 
 abbrev busyOn : ℕ → ℕ → Head
-busyOn m n = record { slots = 4; bridges = 2; hold = false; busy = m ∷ n ∷ replicate 6 0; presets = [] }
+busyOn m n = record { slots = 4; bridges = 2; supply = 0; hold = false; busy = m ∷ n ∷ replicate 6 0; presets = [] }
 
 abbrev edges : List Case
 edges =
@@ -269,6 +270,72 @@ pub ties-written : map textOf (holding ∷ small [] ∷ taken holding ∷ [])
 unfolding writes
 ties-written = refl
 
+-- ---- the supply line: directly after the frame line only
+
+-- one slot and one bridge, with this supply line, none where k is 0, and `(tie hold)` or no tie line
+abbrev fed : ℕ → Bool → Head
+fed k hold = record { slots = 1; bridges = 1; supply = k; hold = hold; busy = replicate 8 0; presets = [] }
+
+abbrev supplies : List Case
+supplies =
+    -- k from 1 to 8, which may be above B; without the line there is none; a number of any length never wraps
+    says "(frame 1 1)\n(supply 0)\n" (refused 2 outOfLimits)
+    ∷ says "(frame 1 1)\n(supply 1)\n" (accepted (fed 1 false) 2)
+    ∷ says "(frame 1 1)\n(supply 8)\n" (accepted (fed 8 false) 2)
+    ∷ says "(frame 1 1)\n(supply 9)\n" (refused 2 outOfLimits)
+    ∷ says "(frame 1 1)\n" (accepted (fed 0 false) 1)
+    ∷ says "(frame 1 1)\n(supply 18446744073709551617)\n" (refused 2 outOfLimits)
+    -- the head's tie line stands right after it, where place is out of its place, and not before it; a later one ends the head
+    ∷ says "(frame 1 1)\n(supply 3)\n(tie hold)\n" (accepted (fed 3 true) 3)
+    ∷ says "(frame 1 1)\n(supply 3)\n(tie place)\n" (refused 3 outOfPlace)
+    ∷ says "(frame 1 1)\n(tie hold)\n(supply 3)\n" (refused 3 outOfPlace)
+    ∷ says "(frame 1 1)\n(supply 3)\n(tie hold)\n(tie place)\n" (accepted (fed 3 true) 3)
+    ∷ says "(frame 1 1)\n(supply 3)\n(busy 1 (1 1))\n(tie hold)\n" (accepted (taken (fed 3 false)) 3)
+    -- twice, after the tie line, after a busy line, after a preset line, on line 1: 3, before 2
+    ∷ says "(frame 1 1)\n(supply 3)\n(supply 3)\n" (refused 3 outOfPlace)
+    ∷ says "(frame 1 1)\n(supply 3)\n(supply 99)\n" (refused 3 outOfPlace)
+    ∷ says "(frame 1 1)\n(tie hold)\n(supply 99)\n" (refused 3 outOfPlace)
+    ∷ says "(frame 1 1)\n(supply 3)\n(tie hold)\n(supply 99)\n" (refused 4 outOfPlace)
+    ∷ says "(frame 1 1)\n(busy 1 (1 1))\n(supply 3)\n" (refused 3 outOfPlace)
+    ∷ says "(frame 1 1)\n(busy 1 (1 1))\n(supply 99)\n" (refused 3 outOfPlace)
+    ∷ says "(frame 1 1)\n(preset 1 0 0 0)\n(supply 3)\n" (refused 3 outOfPlace)
+    ∷ says "(frame 1 1)\n(preset 1 0 0 0)\n(supply 99)\n" (refused 3 outOfPlace)
+    ∷ says "(supply 3)\n(frame 1 1)\n" (refused 1 outOfPlace)
+    ∷ says "(supply 99)\n" (refused 1 outOfPlace)
+    -- after an event no line is the head's
+    ∷ says "(frame 1 1)\n(clock 1)\n(supply 3)\n" (accepted (fed 0 false) 1)
+    -- the lines after it: a bridge below 1 is outside its limits there too, and the first bridge is in its place
+    ∷ says "(frame 1 1)\n(supply 3)\n(busy 0 (1 1))\n" (refused 3 outOfLimits)
+    ∷ says "(frame 1 1)\n(supply 3)\n(busy 1 (1 1))\n" (accepted (taken (fed 3 false)) 3)
+    ∷ says "(frame 1 1)\n(supply 3)\n(preset 1 0 0 0)\n" (accepted (withPresets (fed 3 false) (presetOf 1 0 0 0 ∷ [])) 3)
+    ∷ says "(frame 1 1)\n(supply 3)\n(tie hold)\n(busy 1 (1 1))\n(preset 1 0 0 0)\n" (accepted (withPresets (taken (fed 3 true)) (presetOf 1 0 0 0 ∷ [])) 5)
+    ∷ says "(frame 1 1)\n(supply 3)\n(frame 1 1)\n" (refused 3 outOfPlace)
+    ∷ says "(frame 1 1)\n(supply 3)\n(clock 1)\n" (accepted (fed 3 false) 2)
+    -- one text only, and 1 before 3
+    ∷ says "(frame 1 1)\n(supply 03)\n" (refused 2 noForm)
+    ∷ says "(frame 1 1)\n(supply)\n" (refused 2 noForm)
+    ∷ says "(frame 1 1)\n(supply )\n" (refused 2 noForm)
+    ∷ says "(frame 1 1)\n(supply  3)\n" (refused 2 noForm)
+    ∷ says "(frame 1 1)\n(supply 3 4)\n" (refused 2 noForm)
+    ∷ says "(frame 1 1)\n(supply 3) \n" (refused 2 noForm)
+    ∷ says "(frame 1 1)\n(Supply 3)\n" (refused 2 noForm)
+    ∷ says "(frame 1 1)\n(supply 3)" (refused 2 noForm)
+    ∷ says "(frame 1 1)\n(preset 1 0 0 0)\n(supply 03)\n" (refused 3 noForm)
+    ∷ []
+
+pub supplies-read : map (λ c. headOf (bytes (c .text))) supplies ≡ map (λ c. c .said) supplies
+unfolding reads
+supplies-read = refl
+
+-- the supply line is written where there is one, directly after the frame line and before the tie line; and what is written is read again to the same head
+pub supplies-written : (map textOf (fed 0 false ∷ fed 1 false ∷ fed 8 false ∷ fed 3 true ∷ taken (fed 3 true) ∷ [])
+    ≡ map bytes ("(frame 1 1)\n" ∷ "(frame 1 1)\n(supply 1)\n" ∷ "(frame 1 1)\n(supply 8)\n" ∷ "(frame 1 1)\n(supply 3)\n(tie hold)\n"
+    ∷ "(frame 1 1)\n(supply 3)\n(tie hold)\n(busy 1 (1 1))\n" ∷ []))
+    × (map (λ h. headOf (textOf h)) (fed 0 false ∷ fed 1 false ∷ fed 8 false ∷ fed 3 true ∷ taken (fed 3 true) ∷ [])
+    ≡ accepted (fed 0 false) 1 ∷ accepted (fed 1 false) 2 ∷ accepted (fed 8 false) 2 ∷ accepted (fed 3 true) 3 ∷ accepted (taken (fed 3 true)) 4 ∷ [])
+unfolding writes reads
+supplies-written = (refl, refl)
+
 -- 4 and 2 before 9: the 33rd preset has a number already used, or a value outside its limits
 pub used-before-33 : headOf (textOf (presetsTo 32 []) ++ bytes "(preset 32 0 0 0)\n") ≡ refused 34 numberUsed
 unfolding presetsTo writes reads
@@ -286,7 +353,7 @@ records =
     -- a busy cell past the last slot, and one past the last bridge
     ∷ (busyOn 15 15, true)
     ∷ (busyOn 16 0, false)
-    ∷ (record { slots = 4; bridges = 2; hold = false; busy = 0 ∷ 0 ∷ 1 ∷ replicate 5 0; presets = [] }, false)
+    ∷ (record { slots = 4; bridges = 2; supply = 0; hold = false; busy = 0 ∷ 0 ∷ 1 ∷ replicate 5 0; presets = [] }, false)
     -- a preset's values, and a number twice
     ∷ (small (presetOf 1 0 0 0 ∷ presetOf 255 9 64 64 ∷ []), true)
     ∷ (small (presetOf 0 0 0 0 ∷ []), false)
@@ -301,6 +368,11 @@ records =
     -- either order of ties will do, and mends nothing
     ∷ (withTie (bare 64 8) true, true)
     ∷ (withTie (bare 65 8) true, false)
+    -- a supply line's number, or 0 for none
+    ∷ (fed 0 true, true)
+    ∷ (fed 1 false, true)
+    ∷ (fed 8 false, true)
+    ∷ (fed 9 false, false)
     ∷ []
 
 pub edges-valid : map (λ p. valid (p .0)) records ≡ map (λ p. p .1) records
@@ -309,7 +381,11 @@ edges-valid = refl
 
 -- a head record of one slot and one bridge that counts so many presets; n preset records, numbered n down to 1
 abbrev counting : ℕ → record-of-head.Head
-counting n = record { slots = 1; bridges = 1; hold = false; busy = replicate 8 0; count = n }
+counting n = record { slots = 1; bridges = 1; supply = 0; hold = false; busy = replicate 8 0; count = n }
+
+-- one that counts no presets, with this supply number
+abbrev feeding : ℕ → record-of-head.Head
+feeding k = record { slots = 1; bridges = 1; supply = k; hold = false; busy = replicate 8 0; count = 0 }
 
 unfoldable pub recordsTo : ℕ → List record-of-preset.Preset
 recordsTo zero = []
@@ -334,12 +410,15 @@ pub entries-read : (entryReading 31 (replicate 32769 10) ≡ refused 0 textTooLo
 unfolding reads
 entries-read = (refl, refl, refl, refl, refl, refl)
 
--- the text of a head with one slot and one bridge has 12 bytes; a record that counts 33 presets is refused after 8
+-- the text of a head with one slot and one bridge has 12 bytes, and its supply line 11; a record that counts 33 presets, or with a supply number of 9, is refused after 8
 pub entries-written : (entryAnswer 32 (counting 0) [] (replicate 8192 0) ≡ write.written 12)
     × (entryAnswer 31 (counting 0) [] (replicate 8192 0) ≡ write.refused 0 tooShort)
     × (entryAnswer 32 (counting 0) [] (replicate 8191 0) ≡ write.refused 0 tooShort)
     × (entryAnswer 32 (counting 33) [] (replicate 8192 0) ≡ write.refused 0 outOfLimits)
     × (entryAnswer 31 (counting 33) [] (replicate 8192 0) ≡ write.refused 0 tooShort)
     × (entryAnswer 32 (counting 33) [] (replicate 8191 0) ≡ write.refused 0 tooShort)
+    × (entryAnswer 32 (feeding 8) [] (replicate 8192 0) ≡ write.written 23)
+    × (entryAnswer 32 (feeding 9) [] (replicate 8192 0) ≡ write.refused 0 outOfLimits)
+    × (entryAnswer 32 (feeding 9) [] (replicate 8191 0) ≡ write.refused 0 tooShort)
 unfolding writes valid hasNumber allInLimits allDistinct masksIn firstOf
-entries-written = (refl, refl, refl, refl, refl, refl)
+entries-written = (refl, refl, refl, refl, refl, refl, refl, refl, refl)

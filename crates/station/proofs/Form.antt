@@ -18,8 +18,8 @@ use Rattle.laws.proofs.Comparisons.{eq-of, eqb-no}
 use Rattle.station.specs.Head.{presetOf, jobOf}
 use Rattle.station.specs.Text.{bytes, _then_, isLine, isRest, join, lines, Lines, no-lines, line-then}
 use Rattle.station.specs.Decimal.{digits, digitCount, isDigit, plain, value}
-use Rattle.station.specs.Form.{Pairs, last, next, Form, frameLine, busyLine, presetLine, clockLine, callLine, tieLine, brackets, print, starts, word}
-use Rattle.station.specs.Form.{number, whole, _orElse_, also, made, bracketsIn, readBrackets, frameIn, busyIn, presetIn, clockIn, callIn, tieIn, form}
+use Rattle.station.specs.Form.{Pairs, last, next, Form, frameLine, busyLine, presetLine, clockLine, callLine, tieLine, supplyLine, brackets, print, starts, word}
+use Rattle.station.specs.Form.{number, whole, _orElse_, also, made, bracketsIn, readBrackets, frameIn, busyIn, presetIn, clockIn, callIn, tieIn, supplyIn, form}
 use Rattle.station.specs.Form.{CallJobs, lastJob, nextJob, jobBrackets, alsoJob, jobListIn, readJobs}
 use Rattle.station.proofs.Decimal.{digit-low, all-digits, digits-count, number-digits, number-had}
 use Rattle.station.proofs.Text.{isLine-cons, rest-line, lines-of-join}
@@ -220,7 +220,7 @@ jobs-had l js e =
 
 -- a form printed is recognised
 pub form-self : (f : Form) → form (print f) ≡ some f
-unfolding form print frameIn busyIn presetIn clockIn callIn tieIn bytes word starts digitCount
+unfolding form print frameIn busyIn presetIn clockIn callIn tieIn supplyIn bytes word starts digitCount
 form-self (frameLine s b) =
     or-first _ _ (number-digits s (bytes " " then digits b then bytes ")\n") _ refl ∙ number-digits b (bytes ")\n") _ refl)
 form-self (busyLine b p) =
@@ -235,6 +235,7 @@ form-self (clockLine t) = or-first _ _ (number-digits t (bytes ")\n") _ refl)
 form-self (callLine js) = or-first _ _ (ap (made callLine) (jobs-self js))
 form-self (tieLine true) = refl
 form-self (tieLine false) = refl
+form-self (supplyLine k) = or-first _ _ (number-digits k (bytes ")\n") _ refl)
 
 frame-had : (l : List ℕ) (f : Form) → frameIn l ≡ some f → l ≡ print f
 unfolding frameIn print bytes
@@ -275,12 +276,19 @@ tie-had l f e =
     (λ q. word-had (bytes "(tie hold)\n") l _ f q (λ l₁ e₁ q₁. whole-had (tieLine true) l₁ f q₁ (λ e₂ e₃. rw (e₁, e₂, ← e₃) refl)))
     (λ q. word-had (bytes "(tie place)\n") l _ f q (λ l₁ e₁ q₁. whole-had (tieLine false) l₁ f q₁ (λ e₂ e₃. rw (e₁, e₂, ← e₃) refl)))
 
+supply-had : (l : List ℕ) (f : Form) → supplyIn l ≡ some f → l ≡ print f
+unfolding supplyIn print bytes
+supply-had l f e =
+    word-had (bytes "(supply ") l _ f e (λ l₁ e₁ q₁. number-had l₁ _ f q₁ (λ k l₂ e₂ c₂ q₂. word-had (bytes ")\n") l₂ _ f q₂ (λ l₃ e₃ q₃.
+    whole-had (supplyLine k) l₃ f q₃ (λ e₄ e₅. rw (e₁, e₂, e₃, e₄, ← e₅) refl))))
+
 -- a line that has a form is that form printed
 pub form-had : (l : List ℕ) (f : Form) → form l ≡ some f → l ≡ print f
 unfolding form
 form-had l f e =
     or-had (frameIn l) _ f e (frame-had l f) (λ e₁. or-had (busyIn l) _ f e₁ (busy-had l f) (λ e₂. or-had (presetIn l) _ f e₂ (preset-had l f)
-    (λ e₃. or-had (clockIn l) _ f e₃ (clock-had l f) (λ e₄. or-had (callIn l) (tieIn l) f e₄ (call-had l f) (tie-had l f)))))
+    (λ e₃. or-had (supplyIn l) _ f e₃ (supply-had l f) (λ e₄. or-had (clockIn l) _ f e₄ (clock-had l f)
+    (λ e₅. or-had (callIn l) (tieIn l) f e₅ (call-had l f) (tie-had l f))))))
 
 -- one text for one form
 pub print-injective : (f g : Form) → print f ≡ print g → f ≡ g
@@ -330,6 +338,7 @@ print-line (clockLine t) = rest-line (bytes "(clock ") _ refl (digits-line t _ l
 print-line (callLine js) = rest-line (bytes "(call ") _ refl (rw (jobs-text js) (brackets-line (asPairs js)))
 print-line (tieLine true) = rest-line (bytes "(tie hold") _ refl line-end
 print-line (tieLine false) = rest-line (bytes "(tie place") _ refl line-end
+print-line (supplyLine k) = rest-line (bytes "(supply ") _ refl (digits-line k _ line-end)
 
 prints-shape : (fs : List Form) → Lines (map print fs)
 prints-shape [] = no-lines

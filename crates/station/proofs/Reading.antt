@@ -15,7 +15,7 @@ use Rattle.laws.proofs.Tests.{Is, is-true, is-false, is, clash, none-some}
 use Rattle.laws.proofs.Comparisons.{lt-of, ge-of, ltb-yes, ltb-no}
 use Rattle.station.specs.Refusal.{Refusal, outOfLimits, outOfPlace, numberUsed, tooMany, try, firstOf}
 use Rattle.station.specs.Text.{lines, join}
-use Rattle.station.specs.Form.{Form, frameLine, busyLine, presetLine, clockLine, callLine, tieLine, print, form}
+use Rattle.station.specs.Form.{Form, frameLine, busyLine, presetLine, clockLine, callLine, tieLine, supplyLine, print, form}
 use Rattle.station.specs.Reading.{Reading, accepted, refused, begun, SoFar, begin, tried, causes, ends, more, readFrom}
 use Rattle.station.specs.Reading.{headOf, Passes, no-more, one-more, Stops, at-end, at-event, at-no-form, at-fault, Means, too-long, no-text}
 use Rattle.station.specs.Reading.{by-lines}
@@ -82,6 +82,7 @@ more-begun r (presetLine p) e = refl
 more-begun r (clockLine t) e = e
 more-begun r (callLine p) e = e
 more-begun r (tieLine hold) e = refl
+more-begun r (supplyLine k) e = refl
 
 -- line 1 passes only if it is a frame
 frame-begins : (f : Form) → firstOf (causes begin f) ≡ none → begun (more begin f .stage) ≡ true
@@ -92,6 +93,7 @@ frame-begins (presetLine p) e = absurd (clash (no-cause begin (presetLine p) e .
 frame-begins (clockLine t) e = absurd (clash (no-cause begin (clockLine t) e .in-place))
 frame-begins (callLine p) e = absurd (clash (no-cause begin (callLine p) e .in-place))
 frame-begins (tieLine hold) e = absurd (clash (no-cause begin (tieLine hold) e .in-place))
+frame-begins (supplyLine k) e = absurd (clash (no-cause begin (supplyLine k) e .in-place))
 
 -- ---- each text has its meaning
 

@@ -2,7 +2,7 @@
 --
 -- In order: one line of each kind; lines one after the other; `text-fits`.
 -- Assumes nothing.
-use Prim.Native.Nat.{ℕ, suc, _+_, _*_, _^_, _≤_, _<_}
+use Prim.Native.Nat.{ℕ, zero, suc, _+_, _*_, _^_, _≤_, _<_}
 use native.Mathlib.Nat.{le-refl}
 use native.Mathlib.Omega.{arith}
 use mathlib.Core.Path.{_≡_, refl}
@@ -15,8 +15,8 @@ use Rattle.laws.proofs.Tests.{left-of, right-of}
 use Rattle.station.specs.Head.{Preset, Head, InLimits, Valid, presetInLimits, allInLimits}
 use Rattle.station.specs.Text.{bytes, _then_, join}
 use Rattle.station.specs.Decimal.{digits}
-use Rattle.station.specs.Form.{Pairs, last, next, Form, frameLine, busyLine, brackets, presetLine, print}
-use Rattle.station.specs.Writing.{ordered, stretches, busyLineOf, busyLines, tieLines, formsOf, textOf}
+use Rattle.station.specs.Form.{Pairs, last, next, Form, frameLine, busyLine, brackets, presetLine, supplyLine, print}
+use Rattle.station.specs.Writing.{ordered, stretches, busyLineOf, busyLines, supplyLines, tieLines, formsOf, textOf}
 use Rattle.station.proofs.Decimal.{digits-length}
 use Rattle.station.proofs.Stretches.{first-stretch, rest-ordered, last-stretch, stretches-ordered}
 use Rattle.station.proofs.ValidHead.{limits-of, parts-valid}
@@ -33,6 +33,10 @@ frame-size s b h l =
       digits-length 2 s (omega arith) h,
       digits-length 1 b (omega arith) l,
     )
+
+supply-size : (k : ℕ) → k < 10 → length (print (supplyLine k)) ≤ 11
+unfolding print bytes
+supply-size k h = omega (arith, length-append (digits k) (bytes ")\n"), digits-length 1 k (omega arith) h)
 
 preset-size : (p : Preset) → InLimits p → length (print (presetLine p)) ≤ 21
 unfolding print bytes
@@ -93,6 +97,10 @@ size-append : (a b : List Form) → size (a ++ b) ≡ size a + size b
 size-append [] b = omega arith
 size-append (f ∷ a) b = omega (arith, size-cons f (a ++ b), size-cons f a, size-append a b)
 
+supplyLines-size : (k : ℕ) → k < 10 → size (supplyLines k) ≤ 11
+supplyLines-size zero h = omega arith
+supplyLines-size (suc k) h = omega (arith, size-cons (supplyLine (suc k)) [], supply-size (suc k) h)
+
 tieLines-size : (hold : Bool) → size (tieLines hold) ≤ 11
 unfolding print bytes
 tieLines-size true = omega arith
@@ -130,10 +138,12 @@ text-fits h v =
     let below : (b : ℕ) → getD (h .busy) b 0 < 2 ^ 64 = λ b. omega (arith, v .in-frame b) in
     omega (
       arith,
-      size-cons (frameLine (h .slots) (h .bridges)) (tieLines (h .hold) ++ (busyLines 1 (h .busy) ++ map presetLine (h .presets))),
+      size-cons (frameLine (h .slots) (h .bridges)) (supplyLines (h .supply) ++ (tieLines (h .hold) ++ (busyLines 1 (h .busy) ++ map presetLine (h .presets)))),
+      size-append (supplyLines (h .supply)) (tieLines (h .hold) ++ (busyLines 1 (h .busy) ++ map presetLine (h .presets))),
       size-append (tieLines (h .hold)) (busyLines 1 (h .busy) ++ map presetLine (h .presets)),
       size-append (busyLines 1 (h .busy)) (map presetLine (h .presets)),
       frame-size (h .slots) (h .bridges) (omega arith) (omega arith),
+      supplyLines-size (h .supply) (omega (arith, v .supply)),
       tieLines-size (h .hold),
       busyLines-size 1 (h .busy) (omega arith) below,
       presets-size (h .presets) (parts-valid h v .limits),

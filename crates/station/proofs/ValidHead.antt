@@ -124,6 +124,7 @@ of-distinct (p ∷ ps) f =
 pub record Parts (h : Head) : Type 0 where
   pub slots : within 1 64 (h .slots) ≡ true
   pub bridges : within 1 8 (h .bridges) ≡ true
+  pub supply : h .supply ≤ 8
   pub masks : length (h .busy) ≡ 8
   pub busy : masksIn (h .bridges) (2 ^ h .slots) (h .busy) ≡ true
   pub number : length (h .presets) ≤ 32
@@ -135,6 +136,7 @@ abbrev tests : Head → List Bool
 tests h =
     within 1 64 (h .slots)
     ∷ within 1 8 (h .bridges)
+    ∷ leb (h .supply) 8
     ∷ eqb (length (h .busy)) 8
     ∷ masksIn (h .bridges) (2 ^ h .slots) (h .busy)
     ∷ leb (length (h .presets)) 32
@@ -149,17 +151,18 @@ parts h v =
     record {
       slots = part 0;
       bridges = part 1;
-      masks = eq-of (length (h .busy)) 8 (part 2);
-      busy = part 3;
-      number = le-of (length (h .presets)) 32 (part 4);
-      limits = part 5;
-      distinct = part 6;
+      supply = le-of (h .supply) 8 (part 2);
+      masks = eq-of (length (h .busy)) 8 (part 3);
+      busy = part 4;
+      number = le-of (length (h .presets)) 32 (part 5);
+      limits = part 6;
+      distinct = part 7;
     }
 
 pub of-parts : (h : Head) → Parts h → valid h ≡ true
 unfolding valid
 of-parts h p =
-    rw (p .slots, p .bridges, eqb-yes (length (h .busy)) 8 (p .masks), p .busy, leb-yes (length (h .presets)) 32 (p .number), p .limits) (p .distinct)
+    rw (p .slots, p .bridges, leb-yes (h .supply) 8 (p .supply), eqb-yes (length (h .busy)) 8 (p .masks), p .busy, leb-yes (length (h .presets)) 32 (p .number), p .limits) (p .distinct)
 
 -- ---- the test and the meaning
 
@@ -169,6 +172,7 @@ valid-parts h p = record {
   slots-high = within-high 1 64 (h .slots) (p .slots);
   bridges-low = within-low 1 8 (h .bridges) (p .bridges);
   bridges-high = within-high 1 8 (h .bridges) (p .bridges);
+  supply = p .supply;
   masks = p .masks;
   in-frame = masks-lt (h .bridges) (2 ^ h .slots) (h .busy) (pow-pos (h .slots)) (p .busy);
   no-bridge = masks-none (h .bridges) (2 ^ h .slots) (h .busy) (p .busy);
@@ -181,6 +185,7 @@ pub parts-valid : (h : Head) → Valid h → Parts h
 parts-valid h v = record {
   slots = of-within 1 64 (h .slots) (v .slots-low) (v .slots-high);
   bridges = of-within 1 8 (h .bridges) (v .bridges-low) (v .bridges-high);
+  supply = v .supply;
   masks = v .masks;
   busy = of-masks (h .bridges) (2 ^ h .slots) (h .busy) (v .in-frame) (v .no-bridge);
   number = v .number-of-presets;

@@ -16,12 +16,12 @@ use lib.Dec.{eqb, ltb}
 use lib.Pow.{pow-pos}
 use Rattle.laws.proofs.Tests.{clash, both, left-of, right-of, false-of-not, true-of-not, neither-left, neither-right}
 use Rattle.laws.proofs.Comparisons.{ge-of, gt-of, ne-of, ltb-yes, ltb-no, eqb-no}
-use Rattle.station.specs.Head.{Preset, Head, bareHead, withTie, withBusy, withPresets, Valid, within, presetInLimits, hasNumber, allInLimits, allDistinct, masksIn}
+use Rattle.station.specs.Head.{Preset, Head, bareHead, withSupply, withTie, withBusy, withPresets, Valid, within, presetInLimits, hasNumber, allInLimits, allDistinct, masksIn}
 use Rattle.station.specs.Refusal.{firstOf}
 use Rattle.station.specs.Text.{lines, join}
-use Rattle.station.specs.Form.{Pairs, Form, frameLine, busyLine, presetLine, clockLine, callLine, tieLine, isEvent, isTie, print}
-use Rattle.station.specs.Writing.{maskOf, ordered, stretches, busyLineOf, busyLines, tieLines, formsOf, textOf}
-use Rattle.station.specs.Reading.{Reading, accepted, refused, headOf, atTie, atBusy, atPresets, begun, directly, SoFar, begin, ends, more, tried}
+use Rattle.station.specs.Form.{Pairs, Form, frameLine, busyLine, presetLine, clockLine, callLine, tieLine, supplyLine, isEvent, isTie, print}
+use Rattle.station.specs.Writing.{maskOf, ordered, stretches, busyLineOf, busyLines, supplyLines, tieLines, formsOf, textOf}
+use Rattle.station.specs.Reading.{Reading, accepted, refused, headOf, Stage, atSupply, atTie, atBusy, atPresets, begun, directly, SoFar, begin, ends, more, tried}
 use Rattle.station.specs.Reading.{causes, Passes, no-more, one-more, Stops, at-end, at-event, at-no-form, at-fault, Means, too-long, no-text}
 use Rattle.station.specs.Reading.{by-lines}
 use Rattle.station.proofs.Stretches.{stretches-zero, stretches-mask, mask-lt}
@@ -91,10 +91,17 @@ busyLines-set c (x ∷ ms) (suc i) m p h z e =
 
 -- ---- what was read so far is valid and is written as it was read
 
+-- the head of a frame with this supply line, none where k is 0, and this tie line, none where it does not hold
+abbrev started : ℕ → ℕ → ℕ → Bool → Head
+started s b k hold = withTie (withSupply (bareHead s b) k) hold
+
 data Good : SoFar → List Form → Type 0 where
   at-start : Good begin []
-  -- nothing but the frame, with a tie line or without one
-  after-frame : {s b : ℕ} → ((hold : Bool) → Parts (withTie (bareHead s b) hold)) → Good (record { stage = atTie; head = bareHead s b }) (frameLine s b ∷ [])
+  -- nothing but the frame, with a supply line or without one, with a tie line or without one
+  after-frame : {s b : ℕ} → ((k : ℕ) (hold : Bool) → k ≤ 8 → Parts (started s b k hold)) → Good (record { stage = atSupply; head = bareHead s b }) (frameLine s b ∷ [])
+  -- the frame and its supply line, with a tie line or without one
+  after-supply : {s b k : ℕ} → ((hold : Bool) → Parts (started s b (suc k) hold))
+      → Good (record { stage = atTie; head = withSupply (bareHead s b) (suc k) }) (frameLine s b ∷ supplyLine (suc k) ∷ [])
   -- no preset yet, and no mask from the next bridge on
   before-presets : {least : ℕ} {h : Head} {fs : List Form} → Parts h → h .presets ≡ [] → ((b : ℕ) → least ≤ suc b → getD (h .busy) b 0 ≡ 0)
       → formsOf h ≡ fs → Good (record { stage = atBusy least; head = h }) fs
@@ -110,9 +117,10 @@ unfolding tried allInLimits allDistinct masksIn
 good-frame s b c =
     let ok : (within 1 64 s && within 1 8 b) ≡ true = true-of-not (within 1 64 s && within 1 8 b) (c .in-limits) in
     after-frame {s = s} {b = b}
-    (λ hold. record {
+    (λ k hold few. record {
       slots = left-of (within 1 64 s) (within 1 8 b) ok;
       bridges = right-of (within 1 64 s) (within 1 8 b) ok;
+      supply = few;
       masks = refl;
       busy = of-masks b (2 ^ s) (replicate 8 0) (λ i. omega (arith, no-mask 8 i, pow-pos s)) (λ i l. no-mask 8 i);
       number = omega arith;
@@ -121,11 +129,20 @@ good-frame s b c =
     })
 
 -- the lines of a frame with nothing busy and no presets
-bare-forms : (s b : ℕ) (hold : Bool) → formsOf (withTie (bareHead s b) hold) ≡ frameLine s b ∷ tieLines hold
+bare-forms : (s b k : ℕ) (hold : Bool) → formsOf (started s b k hold) ≡ frameLine s b ∷ (supplyLines k ++ tieLines hold)
 unfolding formsOf
-bare-forms s b hold =
-    ap (λ (k : List Form). frameLine s b ∷ (tieLines hold ++ (k ++ []))) (busyLines-none 1 (replicate 8 0) (no-mask 8))
-    ∙ ap (λ (k : List Form). frameLine s b ∷ k) (append-nil (tieLines hold))
+bare-forms s b k hold =
+    ap (λ (l : List Form). frameLine s b ∷ (supplyLines k ++ (tieLines hold ++ (l ++ [])))) (busyLines-none 1 (replicate 8 0) (no-mask 8))
+    ∙ ap (λ (l : List Form). frameLine s b ∷ (supplyLines k ++ l)) (append-nil (tieLines hold))
+
+-- one more line at the end: after the lines before the busy lines it is one more of the lines from them on
+forms-end : (h : Head) (rest : List Form) (f : Form)
+    → frameLine (h .slots) (h .bridges) ∷ (supplyLines (h .supply) ++ (tieLines (h .hold) ++ (rest ++ (f ∷ []))))
+    ≡ frameLine (h .slots) (h .bridges) ∷ (supplyLines (h .supply) ++ (tieLines (h .hold) ++ rest)) ++ (f ∷ [])
+forms-end h rest f =
+    ap (λ (k : List Form). frameLine (h .slots) (h .bridges) ∷ k)
+    (ap (λ (k : List Form). supplyLines (h .supply) ++ k) (sym (append-assoc (tieLines (h .hold)) rest (f ∷ [])))
+    ∙ sym (append-assoc (supplyLines (h .supply)) (tieLines (h .hold) ++ rest) (f ∷ [])))
 
 forms-busy : (h : Head) (b : ℕ) (p : Pairs) → 1 ≤ b → b - 1 < length (h .busy) → h .presets ≡ []
     → ((j : ℕ) → b - 1 ≤ j → getD (h .busy) j 0 ≡ 0) → stretches 64 1 (maskOf p) ≡ some p
@@ -136,13 +153,12 @@ forms-busy h b p low inside-busy bare z e =
     let at : 1 + (b - 1) ≡ b = omega arith in
     let lines : busyLines 1 (set (h .busy) (b - 1) (maskOf p)) ≡ busyLines 1 (h .busy) ++ (busyLine b p ∷ []) =
     busyLines-set 1 (h .busy) (b - 1) (maskOf p) p inside-busy z e ∙ ap (λ (k : ℕ). busyLines 1 (h .busy) ++ (busyLine k p ∷ [])) at in
-    ap (λ (k : List Form). frameLine (h .slots) (h .bridges) ∷ k)
-    (ap (λ (k : List Form). tieLines (h .hold) ++ k)
+    ap (λ (k : List Form). frameLine (h .slots) (h .bridges) ∷ (supplyLines (h .supply) ++ (tieLines (h .hold) ++ k)))
     (ap (λ (k : List Preset). busyLines 1 (set (h .busy) (b - 1) (maskOf p)) ++ map presetLine k) bare
     ∙ append-nil (busyLines 1 (set (h .busy) (b - 1) (maskOf p))) ∙ lines
     ∙ ap (λ (k : List Form). k ++ (busyLine b p ∷ [])) (sym (append-nil (busyLines 1 (h .busy)))
     ∙ ap (λ (k : List Preset). busyLines 1 (h .busy) ++ map presetLine k) (sym bare)))
-    ∙ sym (append-assoc (tieLines (h .hold)) (busyLines 1 (h .busy) ++ map presetLine (h .presets)) (busyLine b p ∷ [])))
+    ∙ forms-end h (busyLines 1 (h .busy) ++ map presetLine (h .presets)) (busyLine b p)
 
 -- the facts of a busy line that passes
 good-busy : (least : ℕ) (h : Head) (fs : List Form) (b : ℕ) (p : Pairs) → Parts h → h .presets ≡ []
@@ -164,6 +180,7 @@ good-busy least h fs b p a bare z w c =
     (record {
       slots = a .slots;
       bridges = a .bridges;
+      supply = a .supply;
       masks = length-set (h .busy) (b - 1) (maskOf p) ∙ a .masks;
       busy = masks-set (h .bridges) (2 ^ h .slots) (h .busy) (b - 1) (maskOf p) (omega arith) (mask-lt (h .slots) p stretch) (a .busy);
       number = a .number;
@@ -175,13 +192,14 @@ good-busy least h fs b p a bare z w c =
     (forms-busy h b p b-low inside-busy bare (λ j l. z j (omega arith)) (stretches-mask (h .slots) p all stretch)
     ∙ ap (λ (k : List Form). k ++ (busyLine b p ∷ [])) w)
 
--- the same where the busy line stands directly after the frame line: any bridge will do there
-good-first : (s k b : ℕ) (p : Pairs) → Parts (bareHead s k) → NoCause (record { stage = atTie; head = bareHead s k }) (busyLine b p)
-    → Good (more (record { stage = atTie; head = bareHead s k }) (busyLine b p)) (frameLine s k ∷ busyLine b p ∷ [])
+-- the same where no busy line and no tie line stands before it: any bridge will do there
+good-first : (stage : Stage) (s b k : ℕ) (fs : List Form) (c : ℕ) (p : Pairs) → Parts (started s b k false) → formsOf (started s b k false) ≡ fs
+    → NoCause (record { stage = stage; head = started s b k false }) (busyLine c p)
+    → Good (more (record { stage = stage; head = started s b k false }) (busyLine c p)) (fs ++ (busyLine c p ∷ []))
 unfolding tried
-good-first s k b p a c =
-    good-busy 0 (bareHead s k) (frameLine s k ∷ []) b p a refl (λ i l. no-mask 8 i) (bare-forms s k false)
-    (record { in-place = ltb-no b 0 (omega arith); in-limits = c .in-limits; unused = refl; fits = refl })
+good-first stage s b k fs c p a w q =
+    good-busy 0 (started s b k false) fs c p a refl (λ i l. no-mask 8 i) w
+    (record { in-place = ltb-no c 0 (omega arith); in-limits = q .in-limits; unused = refl; fits = refl })
 
 -- the facts of a preset line that passes
 good-preset : (r : SoFar) (fs : List Form) (x : Preset) → Parts (r .head) → formsOf (r .head) ≡ fs → NoCause r (presetLine x)
@@ -194,17 +212,17 @@ good-preset r fs x a w c =
     (record {
       slots = a .slots;
       bridges = a .bridges;
+      supply = a .supply;
       masks = a .masks;
       busy = a .busy;
       number = omega (arith, length-append (h .presets) (x ∷ []));
       limits = limits-append (h .presets) x (a .limits) (true-of-not (presetInLimits x) (c .in-limits));
       distinct = distinct-append (h .presets) x (a .distinct) (c .unused);
     })
-    (ap (λ (k : List Form). frameLine (h .slots) (h .bridges) ∷ k)
-    (ap (λ (k : List Form). tieLines (h .hold) ++ k)
+    (ap (λ (k : List Form). frameLine (h .slots) (h .bridges) ∷ (supplyLines (h .supply) ++ (tieLines (h .hold) ++ k)))
     (ap (λ (k : List Form). busyLines 1 (h .busy) ++ k) (map-append presetLine (h .presets) (x ∷ []))
     ∙ sym (append-assoc (busyLines 1 (h .busy)) (map presetLine (h .presets)) (presetLine x ∷ [])))
-    ∙ sym (append-assoc (tieLines (h .hold)) (busyLines 1 (h .busy) ++ map presetLine (h .presets)) (presetLine x ∷ [])))
+    ∙ forms-end h (busyLines 1 (h .busy) ++ map presetLine (h .presets)) (presetLine x)
     ∙ ap (λ (k : List Form). k ++ (presetLine x ∷ [])) w)
 
 good-more : {r : SoFar} {fs : List Form} (f : Form) → ends r f ≡ false → firstOf (causes r f) ≡ none → Good r fs → Good (more r f) (fs ++ (f ∷ []))
@@ -215,25 +233,40 @@ good-more (presetLine p) e c at-start = absurd (clash (no-cause begin (presetLin
 good-more (clockLine t) e c at-start = absurd (clash (no-cause begin (clockLine t) c .in-place))
 good-more (callLine p) e c at-start = absurd (clash (no-cause begin (callLine p) c .in-place))
 good-more (tieLine hold) e c at-start = absurd (clash (no-cause begin (tieLine hold) c .in-place))
+good-more (supplyLine k) e c at-start = absurd (clash (no-cause begin (supplyLine k) c .in-place))
 good-more {r} (frameLine s b) e c (after-frame a) = absurd (clash (no-cause r (frameLine s b) c .in-place))
-good-more {r} (busyLine b p) e c (after-frame {s} {b = k} a) = good-first s k b p (a false) (no-cause r (busyLine b p) c)
-good-more {r} {fs} (presetLine p) e c (after-frame {s} {b} a) = good-preset r fs p (a false) (bare-forms s b false) (no-cause r (presetLine p) c)
+good-more {r} {fs} (busyLine i p) e c (after-frame {s} {b} a) = good-first atSupply s b 0 fs i p (a 0 false (omega arith)) (bare-forms s b 0 false) (no-cause r (busyLine i p) c)
+good-more {r} {fs} (presetLine p) e c (after-frame {s} {b} a) = good-preset r fs p (a 0 false (omega arith)) (bare-forms s b 0 false) (no-cause r (presetLine p) c)
 good-more (clockLine t) e c (after-frame a) = absurd (clash e)
 good-more (callLine p) e c (after-frame a) = absurd (clash e)
-good-more (tieLine true) e c (after-frame {s} {b} a) = before-presets {least = 0} (a true) refl (λ i l. no-mask 8 i) (bare-forms s b true)
+good-more (tieLine true) e c (after-frame {s} {b} a) = before-presets {least = 0} (a 0 true (omega arith)) refl (λ i l. no-mask 8 i) (bare-forms s b 0 true)
 good-more {r} (tieLine false) e c (after-frame a) = absurd (clash (no-cause r (tieLine false) c .in-place))
+good-more {r} (supplyLine zero) e c (after-frame a) = absurd (clash (no-cause r (supplyLine zero) c .in-limits))
+good-more {r} (supplyLine (suc k)) e c (after-frame {s} {b} a) =
+    let few = within-high 1 8 (suc k) (true-of-not (within 1 8 (suc k)) (no-cause r (supplyLine (suc k)) c .in-limits)) in
+    after-supply {s = s} {b = b} {k = k} (λ hold. a (suc k) hold few)
+good-more {r} (frameLine s b) e c (after-supply a) = absurd (clash (no-cause r (frameLine s b) c .in-place))
+good-more {r} {fs} (busyLine i p) e c (after-supply {s} {b} {k} a) = good-first atTie s b (suc k) fs i p (a false) (bare-forms s b (suc k) false) (no-cause r (busyLine i p) c)
+good-more {r} {fs} (presetLine p) e c (after-supply {s} {b} {k} a) = good-preset r fs p (a false) (bare-forms s b (suc k) false) (no-cause r (presetLine p) c)
+good-more (clockLine t) e c (after-supply a) = absurd (clash e)
+good-more (callLine p) e c (after-supply a) = absurd (clash e)
+good-more (tieLine true) e c (after-supply {s} {b} {k} a) = before-presets {least = 0} (a true) refl (λ i l. no-mask 8 i) (bare-forms s b (suc k) true)
+good-more {r} (tieLine false) e c (after-supply a) = absurd (clash (no-cause r (tieLine false) c .in-place))
+good-more {r} (supplyLine k) e c (after-supply a) = absurd (clash (no-cause r (supplyLine k) c .in-place))
 good-more {r} (frameLine s b) e c (before-presets a bare z w) = absurd (clash (no-cause r (frameLine s b) c .in-place))
 good-more {r} {fs} (busyLine b p) e c (before-presets {least} {h} a bare z w) = good-busy least h fs b p a bare z w (no-cause r (busyLine b p) c)
 good-more {r} {fs} (presetLine p) e c (before-presets a bare z w) = good-preset r fs p a w (no-cause r (presetLine p) c)
 good-more (clockLine t) e c (before-presets a bare z w) = absurd (clash e)
 good-more (callLine p) e c (before-presets a bare z w) = absurd (clash e)
 good-more (tieLine hold) e c (before-presets a bare z w) = absurd (clash e)
+good-more {r} (supplyLine k) e c (before-presets a bare z w) = absurd (clash (no-cause r (supplyLine k) c .in-place))
 good-more {r} (frameLine s b) e c (in-presets a w) = absurd (clash (no-cause r (frameLine s b) c .in-place))
 good-more {r} (busyLine b p) e c (in-presets a w) = absurd (clash (no-cause r (busyLine b p) c .in-place))
 good-more {r} {fs} (presetLine p) e c (in-presets a w) = good-preset r fs p a w (no-cause r (presetLine p) c)
 good-more (clockLine t) e c (in-presets a w) = absurd (clash e)
 good-more (callLine p) e c (in-presets a w) = absurd (clash e)
 good-more (tieLine hold) e c (in-presets a w) = absurd (clash e)
+good-more {r} (supplyLine k) e c (in-presets a w) = absurd (clash (no-cause r (supplyLine k) c .in-place))
 
 good-passes : {r q : SoFar} {fs : List Form} (done : List Form) → Passes r fs q → Good r done → Good q (done ++ fs)
 good-passes done no-more g = rw append-nil g
@@ -260,7 +293,8 @@ written t fs h ls e a w = (
 ended : (t : List ℕ) (fs : List Form) (q : SoFar) (ls : List (List ℕ)) → lines t ≡ map print fs ++ ls → begun (q .stage) ≡ true → Good q fs
     → Facts t (accepted (q .head) (length fs))
 ended t fs q ls e b at-start = absurd (clash (sym b))
-ended t fs q ls e b (after-frame {s} {b = k} a) = written t fs (q .head) ls e (a false) (bare-forms s k false)
+ended t fs q ls e b (after-frame {s} {b = c} a) = written t fs (q .head) ls e (a 0 false (omega arith)) (bare-forms s c 0 false)
+ended t fs q ls e b (after-supply {s} {b = c} {k} a) = written t fs (q .head) ls e (a false) (bare-forms s c (suc k) false)
 ended t fs q ls e b (before-presets a bare z w) = written t fs (q .head) ls e a w
 ended t fs q ls e b (in-presets a w) = written t fs (q .head) ls e a w
 

@@ -1,6 +1,6 @@
 -- What is written reads as it was: a valid head's text reads to that head, so no two heads have the same text.
 --
--- In order: lines that lead to a head (`Reaches`); what presets and busy lines ask (`distinct-unused`, `Open`); presets, busy lines, the tie line, the frame;
+-- In order: lines that lead to a head (`Reaches`); what presets and busy lines ask (`distinct-unused`, `Open`, `TieMayStand`); presets, busy lines, the tie line, the supply line, the frame;
 -- `written-read`; `one-head`; the valid heads are those that some text yields (`yielded`).
 -- Assumes nothing.
 use Prim.Native.Nat.{ℕ, zero, suc, _+_, _-_, _^_, _≤_, _<_}
@@ -17,10 +17,10 @@ use lib.Dec.{eqb, ltb}
 use lib.Pow.{pow-mono}
 use Rattle.laws.proofs.Tests.{Is, is-true, is-false, is, left-of, right-of, false-of-not, neither-left, neither-right, none-some}
 use Rattle.laws.proofs.Comparisons.{lt-of, ge-of, ne-of, ltb-no, leb-no, eqb-no}
-use Rattle.station.specs.Head.{Preset, Head, bareHead, withTie, withBusy, withPresets, Valid, presetInLimits, hasNumber, allInLimits, allDistinct}
-use Rattle.station.specs.Form.{Pairs, Form, frameLine, busyLine, presetLine, tieLine, print}
-use Rattle.station.specs.Writing.{maskOf, stretches, busyLineOf, busyLines, tieLines, formsOf, textOf}
-use Rattle.station.specs.Reading.{accepted, headOf, Stage, atTie, atBusy, atPresets, begun, busyMisplaced, SoFar, begin, ends, tried, more, Passes, no-more, one-more, at-end}
+use Rattle.station.specs.Head.{Preset, Head, bareHead, withSupply, withTie, withBusy, withPresets, Valid, presetInLimits, hasNumber, allInLimits, allDistinct}
+use Rattle.station.specs.Form.{Pairs, Form, frameLine, busyLine, presetLine, tieLine, supplyLine, print}
+use Rattle.station.specs.Writing.{maskOf, stretches, busyLineOf, busyLines, supplyLines, tieLines, formsOf, textOf}
+use Rattle.station.specs.Reading.{accepted, headOf, Stage, atSupply, atTie, atBusy, atPresets, begun, directly, busyMisplaced, tieMisplaced, SoFar, begin, ends, tried, more, Passes, no-more, one-more, at-end}
 use Rattle.station.specs.Reading.{by-lines}
 use Rattle.station.proofs.Form.{lines-prints}
 use Rattle.station.proofs.Stretches.{stretches-zero, stretches-ordered, mask-stretches, no-stretches}
@@ -69,18 +69,27 @@ record Open (n : ℕ) (stage : Stage) : Type 0 where
   begins : begun stage ≡ true
   in-place : (b : ℕ) → n ≤ b → busyMisplaced stage b ≡ false
 
-open-tie : (n : ℕ) → Open n atTie
-open-tie n = record { begins = refl; in-place = λ b l. refl }
-
 open-busy : (k n : ℕ) → k ≤ n → Open n (atBusy k)
 open-busy k n h = record { begins = refl; in-place = λ b l. ltb-no b k (omega arith) }
 
 open-later : {n : ℕ} {stage : Stage} → Open n stage → Open (suc n) stage
 open-later o = record { begins = o .begins; in-place = λ b l. o .in-place b (omega arith) }
 
-module _ (s b : ℕ) (hold : Bool) where
+-- a stage at which the head's tie line may stand, or its first busy line
+record TieMayStand (stage : Stage) : Type 0 where
+  follows : directly stage ≡ true
+  holds : tieMisplaced stage true ≡ false
+  busy : Open 1 stage
+
+after-frame : TieMayStand atSupply
+after-frame = record { follows = refl; holds = refl; busy = record { begins = refl; in-place = λ b l. refl } }
+
+after-supply : TieMayStand atTie
+after-supply = record { follows = refl; holds = refl; busy = record { begins = refl; in-place = λ b l. refl } }
+
+module _ (s b motors : ℕ) (hold : Bool) where
   abbrev headWith : List ℕ → List Preset → Head
-  headWith busy ps = withPresets (withBusy (withTie (bareHead s b) hold) busy) ps
+  headWith busy ps = withPresets (withBusy (withTie (withSupply (bareHead s b) motors) hold) busy) ps
 
   -- under way: the frame line was read
   abbrev under : Stage → List ℕ → List Preset → SoFar
@@ -171,42 +180,58 @@ module _ (s b : ℕ) (hold : Bool) where
 
 -- ---- the whole head
 
--- the busy lines and the presets, after the frame line and the tie line
-rest-reaches : (h : Head) → Valid h → (stage : Stage) → Open 1 stage
-    → Reaches (record { stage = stage; head = withTie (bareHead (h .slots) (h .bridges)) (h .hold) }) (busyLines 1 (h .busy) ++ map presetLine (h .presets)) h
+-- the head before its busy lines and presets: the frame, a supply line where k is not 0, a tie line where it holds
+abbrev started : Head → ℕ → Bool → Head
+started h k hold = withTie (withSupply (bareHead (h .slots) (h .bridges)) k) hold
+
+-- its busy lines and presets
+abbrev later : Head → List Form
+later h = busyLines 1 (h .busy) ++ map presetLine (h .presets)
+
+-- the busy lines and the presets, after the lines before them
+rest-reaches : (h : Head) → Valid h → (stage : Stage) → Open 1 stage → Reaches (record { stage = stage; head = started h (h .supply) (h .hold) }) (later h) h
 unfolding zeros
 rest-reaches h v stage o =
     let p = parts-valid h v in
     let none-yet : zeros (h .busy) ≡ replicate 8 0 = ap (λ (n : ℕ). replicate {A = ℕ} n 0) (v .masks) in
-    subst (λ (k : List ℕ). Reaches (under (h .slots) (h .bridges) (h .hold) stage k []) (busyLines 1 (h .busy) ++ map presetLine (h .presets)) h) none-yet
-    (busy-reach (h .slots) (h .bridges) (h .hold) (h .busy) [] stage (map presetLine (h .presets)) h (v .slots-high) o (v .in-frame)
+    subst (λ (k : List ℕ). Reaches (under (h .slots) (h .bridges) (h .supply) (h .hold) stage k []) (later h) h) none-yet
+    (busy-reach (h .slots) (h .bridges) (h .supply) (h .hold) (h .busy) [] stage (map presetLine (h .presets)) h (v .slots-high) o (v .in-frame)
     (λ i l. v .no-bridge i (omega arith))
-    (λ to g. presets-reach (h .slots) (h .bridges) (h .hold) to (h .busy) [] (h .presets) g (p .limits) (p .distinct) (p .number)))
+    (λ to g. presets-reach (h .slots) (h .bridges) (h .supply) (h .hold) to (h .busy) [] (h .presets) g (p .limits) (p .distinct) (p .number)))
 
--- the same by whether there was a tie line
-started-reaches : (h : Head) → Valid h → (stage : Stage) (hold : Bool) → h .hold ≡ hold → Open 1 stage
-    → Reaches (record { stage = stage; head = withTie (bareHead (h .slots) (h .bridges)) hold }) (busyLines 1 (h .busy) ++ map presetLine (h .presets)) h
-started-reaches h v stage hold e o =
-    subst
-    (λ (x : Bool). Reaches (record { stage = stage; head = withTie (bareHead (h .slots) (h .bridges)) x }) (busyLines 1 (h .busy) ++ map presetLine (h .presets)) h)
-    e (rest-reaches h v stage o)
+-- the same by which lines there were
+started-reaches : (h : Head) → Valid h → (stage : Stage) (k : ℕ) (hold : Bool) → h .supply ≡ k → h .hold ≡ hold → Open 1 stage
+    → Reaches (record { stage = stage; head = started h k hold }) (later h) h
+started-reaches h v stage k hold d e o =
+    subst (λ (x : ℕ). Reaches (record { stage = stage; head = started h x hold }) (later h) h) d
+    (subst (λ (x : Bool). Reaches (record { stage = stage; head = started h (h .supply) x }) (later h) h) e (rest-reaches h v stage o))
 
 -- the tie line, where there is one
-tie-reaches : (h : Head) → Valid h → (hold : Bool) → h .hold ≡ hold
-    → Reaches (record { stage = atTie; head = bareHead (h .slots) (h .bridges) }) (tieLines hold ++ (busyLines 1 (h .busy) ++ map presetLine (h .presets))) h
+tie-reaches : (h : Head) → Valid h → (stage : Stage) (k : ℕ) (hold : Bool) → h .supply ≡ k → h .hold ≡ hold → TieMayStand stage
+    → Reaches (record { stage = stage; head = started h k false }) (tieLines hold ++ later h) h
 unfolding tried
-tie-reaches h v true e =
-    then-reaches {r = record { stage = atTie; head = bareHead (h .slots) (h .bridges) }} {f = tieLine true} refl
-    (record { in-place = refl; in-limits = refl; unused = refl; fits = refl })
-    (started-reaches h v (atBusy 0) true e (open-busy 0 1 (omega arith)))
-tie-reaches h v false e = started-reaches h v atTie false e (open-tie 1)
+tie-reaches h v stage k true d e m =
+    then-reaches {r = record { stage = stage; head = started h k false }} {f = tieLine true} (rw (m .follows) refl)
+    (record { in-place = m .holds; in-limits = refl; unused = refl; fits = refl })
+    (started-reaches h v (atBusy 0) k true d e (open-busy 0 1 (omega arith)))
+tie-reaches h v stage k false d e m = started-reaches h v stage k false d e (m .busy)
+
+-- the supply line, where there is one
+supply-reaches : (h : Head) → Valid h → (k : ℕ) → h .supply ≡ k
+    → Reaches (record { stage = atSupply; head = bareHead (h .slots) (h .bridges) }) (supplyLines k ++ (tieLines (h .hold) ++ later h)) h
+unfolding tried
+supply-reaches h v zero d = tie-reaches h v atSupply 0 (h .hold) d refl after-frame
+supply-reaches h v (suc k) d =
+    then-reaches {r = record { stage = atSupply; head = bareHead (h .slots) (h .bridges) }} {f = supplyLine (suc k)} refl
+    (record { in-place = refl; in-limits = ap not (of-within 1 8 (suc k) (omega arith) (omega (arith, v .supply))); unused = refl; fits = refl })
+    (tie-reaches h v atTie (suc k) (h .hold) d refl after-supply)
 
 forms-reach : (h : Head) → Valid h → Reaches begin (formsOf h) h
 unfolding formsOf tried
 forms-reach h v =
     let p = parts-valid h v in
     then-reaches {r = begin} {f = frameLine (h .slots) (h .bridges)} refl
-    (record { in-place = refl; in-limits = rw (p .slots, p .bridges) refl; unused = refl; fits = refl }) (tie-reaches h v (h .hold) refl)
+    (record { in-place = refl; in-limits = rw (p .slots, p .bridges) refl; unused = refl; fits = refl }) (supply-reaches h v (h .supply) refl)
 
 -- the text of a valid head reads to that head, and all its lines are the head's
 pub written-read : (h : Head) → Valid h → headOf (textOf h) ≡ accepted h (length (formsOf h))

@@ -1,5 +1,5 @@
 -- What the code makes of an event line by itself, before the table and the clock are looked at. Document 01, "The station text" and "Causes"; document 02,
--- 2026-02.
+-- 2026-02 and 2026-03.
 -- Assumes nothing.
 use mathlib.Core.Bool.{Bool, true, false, _&&_}
 use mathlib.Core.Option.{Option, none, some}
@@ -8,7 +8,7 @@ use lib.ListN.{length}
 use lib.Dec.{leb}
 use Rattle.station.specs.Limits.{mostJobs}
 use Rattle.station.specs.Head as meant
-use Rattle.station.specs.Form.{Form, frameLine, busyLine, presetLine, clockLine, callLine, tieLine, jobsOf}
+use Rattle.station.specs.Form.{Form, frameLine, busyLine, presetLine, clockLine, callLine, tieLine, supplyLine, jobsOf}
 use Rattle.station.specs.Jobs.{padded, noJobs, seen}
 pub use Rattle.station.specs.Jobs.{jobInLimits}
 unfoldable pub use Rattle.station.specs.Jobs.{jobsInLimits}
@@ -16,7 +16,7 @@ use Rattle.station.specs.declared.brackets.Jobs.{Jobs}
 use Rattle.station.specs.declared.types.Refusal.{Refusal}
 use Rattle.station.specs.declared.types.Refusal.the-variants as refusal
 use Rattle.station.specs.declared.forms.Line.{Line}
-use Rattle.station.specs.declared.forms.Line.the-variants.{NoForm, Frame, Busy, Preset, Clock, Call, Tie}
+use Rattle.station.specs.declared.forms.Line.the-variants.{NoForm, Frame, Busy, Preset, Clock, Call, Tie, Supply}
 use Rattle.station.specs.declared.events.Event.the-variants.{SetClock, PlaceJobs, SetTie, Fault}
 use Rattle.station.specs.declared.events.EventRead.{EventRead}
 
@@ -36,7 +36,7 @@ callInLimits l = leb (length l) mostJobs && jobsInLimits l
 abbrev pub callRead : List meant.Job → EventRead
 callRead l = pickEvent (callInLimits l) (record { event = PlaceJobs (length l); jobs = padded mostJobs l }) (fault refusal.OutOfLimits)
 
--- The event of a line: "a line that is not one of the five forms" is refused, which are six by now; "A head line after an event is out of place"; a clock; a call; a tie.
+-- The event of a line: "a line that is not one of the five forms" is refused, which are seven by now; "A head line after an event is out of place"; a clock; a call; a tie.
 abbrev pub eventIn : Option Form → EventRead
 eventIn none = fault refusal.NoForm
 eventIn (some (frameLine s b)) = fault refusal.OutOfPlace
@@ -45,6 +45,7 @@ eventIn (some (presetLine p)) = fault refusal.OutOfPlace
 eventIn (some (clockLine t)) = record { event = SetClock (seen t); jobs = noJobs }
 eventIn (some (callLine p)) = callRead (jobsOf p)
 eventIn (some (tieLine hold)) = record { event = SetTie hold; jobs = noJobs }
+eventIn (some (supplyLine k)) = fault refusal.OutOfPlace
 
 -- ---- the same by what was read of the line
 
@@ -61,3 +62,4 @@ lineEvent (Preset n p m o) = fault refusal.OutOfPlace
 lineEvent (Clock t) = record { event = SetClock t; jobs = noJobs }
 lineEvent (Call n) = fault refusal.NoForm
 lineEvent (Tie hold) = record { event = SetTie hold; jobs = noJobs }
+lineEvent (Supply k) = fault refusal.OutOfPlace

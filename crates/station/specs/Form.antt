@@ -1,4 +1,4 @@
--- The six forms of a line: what each says, the one text that it has, and the recogniser. Document 01, "The station text"; document 02, 2026-02.
+-- The seven forms of a line: what each says, the one text that it has, and the recogniser. Document 01, "The station text"; document 02, 2026-02 and 2026-03.
 -- Assumes nothing.
 use Prim.Native.Nat.{ℕ, zero, suc}
 use mathlib.Core.Bool.{Bool, true, false, cond, _&&_}
@@ -20,7 +20,7 @@ pub data CallJobs : Type 0 where
   lastJob : Job → CallJobs
   nextJob : Job → CallJobs → CallJobs
 
--- The six forms, with their numbers as they stand: whether a value is within its limits is not the form's matter.
+-- The seven forms, with their numbers as they stand: whether a value is within its limits is not the form's matter.
 pub data Form : Type 0 where
   frameLine : ℕ → ℕ → Form  -- `(frame S B)`
   busyLine : ℕ → Pairs → Form  -- `(busy b (f t) (f t))`
@@ -28,8 +28,9 @@ pub data Form : Type 0 where
   clockLine : ℕ → Form  -- `(clock t)`
   callLine : CallJobs → Form  -- `(call (n c) (n c))`
   tieLine : Bool → Form  -- `(tie hold)` where true, `(tie place)` where false
+  supplyLine : ℕ → Form  -- `(supply k)`
 
--- "Events follow: `(clock t)` and `(call (n c) (n c))`"; a tie line has "an event's form" too, where it does not stand directly after the frame line
+-- "Events follow: `(clock t)` and `(call (n c) (n c))`"; a tie line has "an event's form" too, where it does not stand directly after the frame line or directly after the supply line
 abbrev pub isEvent : Form → Bool
 isEvent (frameLine s b) = false
 isEvent (busyLine b p) = false
@@ -37,6 +38,7 @@ isEvent (presetLine p) = false
 isEvent (clockLine t) = true
 isEvent (callLine js) = true
 isEvent (tieLine hold) = true
+isEvent (supplyLine k) = false
 
 -- a tie line
 abbrev pub isTie : Form → Bool
@@ -46,6 +48,7 @@ isTie (presetLine p) = false
 isTie (clockLine t) = false
 isTie (callLine js) = false
 isTie (tieLine hold) = true
+isTie (supplyLine k) = false
 
 -- "A call is a list of jobs, each with a number and a length c."
 unfoldable pub jobsOf : CallJobs → List Job
@@ -75,6 +78,7 @@ print (clockLine t) = bytes "(clock " then digits t then bytes ")\n"
 print (callLine js) = bytes "(call " then jobBrackets js
 print (tieLine true) = bytes "(tie hold)\n"
 print (tieLine false) = bytes "(tie place)\n"
+print (supplyLine k) = bytes "(supply " then digits k then bytes ")\n"
 
 -- ---- the recogniser: each reader hands on what is left
 
@@ -172,6 +176,10 @@ callIn l = word (bytes "(call ") l (λ l₁. made callLine (readJobs l₁))
 unfoldable pub tieIn : List ℕ → Option Form
 tieIn l = word (bytes "(tie hold)\n") l (whole (tieLine true)) orElse word (bytes "(tie place)\n") l (whole (tieLine false))
 
--- The form of a line, byte 10 included; none is "a line that is not one of the five forms, or lacks its end", which are six since 2026-02.
+-- `(supply k)`
+unfoldable pub supplyIn : List ℕ → Option Form
+supplyIn l = word (bytes "(supply ") l (λ l₁. number l₁ (λ k l₂. word (bytes ")\n") l₂ (whole (supplyLine k))))
+
+-- The form of a line, byte 10 included; none is "a line that is not one of the five forms, or lacks its end", which are six since 2026-02 and seven since 2026-03.
 unfoldable pub form : List ℕ → Option Form
-form l = frameIn l orElse busyIn l orElse presetIn l orElse clockIn l orElse callIn l orElse tieIn l
+form l = frameIn l orElse busyIn l orElse presetIn l orElse supplyIn l orElse clockIn l orElse callIn l orElse tieIn l

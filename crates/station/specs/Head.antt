@@ -1,4 +1,4 @@
--- The head of a station text as a record, and when a record is one that a text yields. Document 01, "The frame and its parts"; document 02, 2026-02.
+-- The head of a station text as a record, and when a record is one that a text yields. Document 01, "The frame and its parts"; document 02, 2026-02 and 2026-03.
 -- Slots and bridges are counted from 0 here: slot s is the paper's slot s + 1, bridge b its bridge b + 1.
 -- Assumes nothing.
 use Prim.Native.Nat.{ℕ, zero, suc, _≤_, _<_, _/_, _%_, _^_}
@@ -7,7 +7,7 @@ use mathlib.Core.Bool.{Bool, true, false, not, _&&_, _||_}
 use mathlib.Core.List.{List, [], _∷_}
 use lib.ListN.{length, getD, replicate}
 use lib.Dec.{eqb, ltb, leb}
-use Rattle.station.specs.Limits.{mostSlots, mostBridges, mostPresets, worstPriority, mostMandatory, mostOptional, mostNumber}
+use Rattle.station.specs.Limits.{mostSlots, mostBridges, mostMotors, mostPresets, worstPriority, mostMandatory, mostOptional, mostNumber}
 
 -- "A preset has a number, a priority (0 is best), m required slots and o refinement slots."
 pub record Preset : Type 0 where
@@ -16,11 +16,12 @@ pub record Preset : Type 0 where
   pub mandatory : ℕ
   pub optional : ℕ
 
--- "A frame has S slots .. and B bridges"; whether `(tie hold)` stands directly after the frame line; the busy cells, one mask of 64 bits for each of eight bridges, slot s being the
--- bit of worth 2 ^ s; the presets in file order.
+-- "A frame has S slots .. and B bridges"; the k of its supply line, 0 where it has none: "without it there is no cap"; whether `(tie hold)` stands directly after the frame line or its
+-- supply line; the busy cells, one mask of 64 bits for each of eight bridges, slot s being the bit of worth 2 ^ s; the presets in file order.
 pub record Head : Type 0 where
   pub slots : ℕ
   pub bridges : ℕ
+  pub supply : ℕ
   pub hold : Bool
   pub busy : List ℕ
   pub presets : List Preset
@@ -56,21 +57,25 @@ presetAt h i = getD (h .presets) i noPreset
 
 -- ---- heads made from heads
 
--- a frame without a tie line, with nothing busy and no presets
+-- a frame without a supply line and a tie line, with nothing busy and no presets
 abbrev pub bareHead : ℕ → ℕ → Head
-bareHead slots bridges = record { slots = slots; bridges = bridges; hold = false; busy = replicate mostBridges 0; presets = [] }
+bareHead slots bridges = record { slots = slots; bridges = bridges; supply = 0; hold = false; busy = replicate mostBridges 0; presets = [] }
+
+-- the head with a supply line of k, or without one where k is 0
+abbrev pub withSupply : Head → ℕ → Head
+withSupply h k = record { slots = h .slots; bridges = h .bridges; supply = k; hold = h .hold; busy = h .busy; presets = h .presets }
 
 -- the head with a tie line of its own or without one
 abbrev pub withTie : Head → Bool → Head
-withTie h hold = record { slots = h .slots; bridges = h .bridges; hold = hold; busy = h .busy; presets = h .presets }
+withTie h hold = record { slots = h .slots; bridges = h .bridges; supply = h .supply; hold = hold; busy = h .busy; presets = h .presets }
 
 -- the head with other masks
 abbrev pub withBusy : Head → List ℕ → Head
-withBusy h busy = record { slots = h .slots; bridges = h .bridges; hold = h .hold; busy = busy; presets = h .presets }
+withBusy h busy = record { slots = h .slots; bridges = h .bridges; supply = h .supply; hold = h .hold; busy = busy; presets = h .presets }
 
 -- the head with other presets
 abbrev pub withPresets : Head → List Preset → Head
-withPresets h ps = record { slots = h .slots; bridges = h .bridges; hold = h .hold; busy = h .busy; presets = ps }
+withPresets h ps = record { slots = h .slots; bridges = h .bridges; supply = h .supply; hold = h .hold; busy = h .busy; presets = ps }
 
 -- ---- limits
 
@@ -82,12 +87,14 @@ pub record InLimits (p : Preset) : Type 0 where
   pub mandatory : p .mandatory ≤ mostMandatory
   pub optional : p .optional ≤ mostOptional
 
--- A head record that some text yields: within the limits, busy cells inside the frame only, no preset's number twice. Either order of ties will do.
+-- A head record that some text yields: within the limits, busy cells inside the frame only, no preset's number twice. A supply number above that of the bridges will do,
+-- and so will either order of ties.
 pub record Valid (h : Head) : Type 0 where
   pub slots-low : 1 ≤ h .slots
   pub slots-high : h .slots ≤ mostSlots
   pub bridges-low : 1 ≤ h .bridges
   pub bridges-high : h .bridges ≤ mostBridges
+  pub supply : h .supply ≤ mostMotors
   pub masks : length (h .busy) ≡ mostBridges
   pub in-frame : (b : ℕ) → getD (h .busy) b 0 < 2 ^ h .slots
   pub no-bridge : (b : ℕ) → h .bridges ≤ b → getD (h .busy) b 0 ≡ 0
@@ -133,5 +140,5 @@ masksIn (suc k) w (m ∷ ms) = ltb m w && masksIn k w ms
 -- `Valid` as a test
 unfoldable pub valid : Head → Bool
 valid h =
-    within 1 mostSlots (h .slots) && within 1 mostBridges (h .bridges) && eqb (length (h .busy)) mostBridges && masksIn (h .bridges) (2 ^ h .slots) (h .busy)
+    within 1 mostSlots (h .slots) && within 1 mostBridges (h .bridges) && leb (h .supply) mostMotors && eqb (length (h .busy)) mostBridges && masksIn (h .bridges) (2 ^ h .slots) (h .busy)
     && leb (length (h .presets)) mostPresets && allInLimits (h .presets) && allDistinct (h .presets)

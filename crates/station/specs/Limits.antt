@@ -1,4 +1,4 @@
--- The limits. Document 01, "The frame and its parts", its table, and "Causes": how long what is lent has to be.
+-- The limits. Document 01, "The frame and its parts", its table, and "Causes": how long what is lent has to be; document 02, 2026-03.
 -- Each is said here alone, in the code by the constant of the same name of src/limits.rt. They compute: a law may speak of their values.
 -- Assumes nothing.
 use Prim.Native.Nat.{ℕ}
@@ -10,6 +10,10 @@ mostSlots = 64
 -- "B: from 1 to 8"; a head has a mask for each bridge
 abbrev pub mostBridges : ℕ
 mostBridges = 8
+
+-- "`(supply k)`, k from 1 to 8"
+abbrev pub mostMotors : ℕ
+mostMotors = 8
 
 -- "presets: from 0 to 32"
 abbrev pub mostPresets : ℕ

@@ -21,7 +21,7 @@ recordOf p = record { number = p .number; priority = p .priority; mandatory = p 
 
 -- the head record of a head; its presets stand beside it
 abbrev pub headRecord : meant.Head → Head
-headRecord h = record { slots = h .slots; bridges = h .bridges; hold = h .hold; busy = h .busy; count = length (h .presets) }
+headRecord h = record { slots = h .slots; bridges = h .bridges; supply = h .supply; hold = h .hold; busy = h .busy; count = length (h .presets) }
 
 -- the records of some presets, and past them what stood there: "Cells past S × B are never changed, nor are records past the last preset"
 abbrev pub recordsOver : List meant.Preset → List Preset → List Preset

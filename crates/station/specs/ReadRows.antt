@@ -46,6 +46,7 @@ pub data RowsPass (h : Head) : List (List ℕ) → List Row → Type 0 where
 pub record InPlace (h : Head) (xs : List Row) (g : Head) : Type 0 where
   pub slots : g .slots ≡ h .slots
   pub bridges : g .bridges ≡ h .bridges
+  pub supply : g .supply ≡ h .supply
   pub hold : g .hold ≡ h .hold
   pub presets : g .presets ≡ h .presets
   pub cells : (s b : ℕ) → s < h .slots → b < h .bridges → busyAt g s b ≡ rowsTake xs (suc b) (suc s)

@@ -1,4 +1,4 @@
--- Reading a head: line by line, and the cause for which a line is refused. Document 01, "The station text" and "Causes"; document 02, 2026-02.
+-- Reading a head: line by line, and the cause for which a line is refused. Document 01, "The station text" and "Causes"; document 02, 2026-02 and 2026-03.
 -- Assumes nothing.
 use Prim.Native.Nat.{ℕ, suc, _-_, _≤_, _<_}
 use mathlib.Core.Path.{_≡_}
@@ -7,11 +7,11 @@ use mathlib.Core.Option.{Option, none, some}
 use mathlib.Core.List.{List, [], _∷_, _++_, map}
 use lib.ListN.{length, set}
 use lib.Dec.{ltb, leb}
-use Rattle.station.specs.Limits.{mostPresets, mostBytes}
-use Rattle.station.specs.Head.{Head, bareHead, withTie, withBusy, withPresets, within, frameInLimits, presetInLimits, hasNumber}
+use Rattle.station.specs.Limits.{mostMotors, mostPresets, mostBytes}
+use Rattle.station.specs.Head.{Head, bareHead, withSupply, withTie, withBusy, withPresets, within, frameInLimits, presetInLimits, hasNumber}
 use Rattle.station.specs.Refusal.{Refusal, noForm, outOfLimits, outOfPlace, numberUsed, tooMany, textTooLong, try, firstOf}
 use Rattle.station.specs.Text.{lines}
-use Rattle.station.specs.Form.{Form, frameLine, busyLine, presetLine, clockLine, callLine, tieLine, isEvent, isTie, print, form}
+use Rattle.station.specs.Form.{Form, frameLine, busyLine, presetLine, clockLine, callLine, tieLine, supplyLine, isEvent, isTie, print, form}
 use Rattle.station.specs.Writing.{maskOf, ordered}
 
 -- a head and the number of its lines, or of the rows that were put into it; or the line or row, counted from 1, and what it is refused for
@@ -19,9 +19,11 @@ pub data Reading : Type 0 where
   accepted : Head → ℕ → Reading
   refused : ℕ → Refusal → Reading
 
--- How far a head was read, "in this order": at the frame line; directly after it, where its tie line stands; at the busy lines, the next with this bridge at the least; at the presets.
+-- How far a head was read, "in this order": at the frame line; directly after it, where its supply line stands, and its tie line where there is no supply line; right after the
+-- supply line, where its tie line stands; at the busy lines, the next with this bridge at the least; at the presets.
 pub data Stage : Type 0 where
   atFrame : Stage
+  atSupply : Stage
   atTie : Stage
   atBusy : ℕ → Stage
   atPresets : Stage
@@ -29,13 +31,15 @@ pub data Stage : Type 0 where
 -- the frame line was read
 abbrev pub begun : Stage → Bool
 begun atFrame = false
+begun atSupply = true
 begun atTie = true
 begun (atBusy b) = true
 begun atPresets = true
 
--- the frame line was the last one read
+-- the last line read was the frame line or its supply line
 abbrev pub directly : Stage → Bool
 directly atFrame = false
+directly atSupply = true
 directly atTie = true
 directly (atBusy b) = false
 directly atPresets = false
@@ -54,13 +58,23 @@ begin = record { stage = atFrame; head = bareHead 0 0 }
 -- a busy line of bridge b: before the presets, and "Bridges ascend from line to line; one that does not is out of its place"
 abbrev pub busyMisplaced : Stage → ℕ → Bool
 busyMisplaced atFrame b = true
+busyMisplaced atSupply b = false
 busyMisplaced atTie b = false
 busyMisplaced (atBusy least) b = ltb b least
 busyMisplaced atPresets b = true
 
--- a tie line: directly after the frame line "`(tie place)` there is a head line and meets 3"; it is tried there and on line 1 only
+-- a supply line: "stands right after the frame line"
+abbrev pub supplyMisplaced : Stage → Bool
+supplyMisplaced atFrame = true
+supplyMisplaced atSupply = false
+supplyMisplaced atTie = true
+supplyMisplaced (atBusy least) = true
+supplyMisplaced atPresets = true
+
+-- a tie line: directly after the frame line "`(tie place)` there is a head line and meets 3", and so right after a supply line; it is tried in these places and on line 1 only
 abbrev pub tieMisplaced : Stage → Bool → Bool
 tieMisplaced atFrame hold = true
+tieMisplaced atSupply hold = not hold
 tieMisplaced atTie hold = not hold
 tieMisplaced (atBusy least) hold = true
 tieMisplaced atPresets hold = true
@@ -74,14 +88,14 @@ pub record Tried : Type 0 where
   pub next : SoFar
 
 -- One clause for each form: the frame "once, on line 1"; a busy line is its bridge's mask; a preset comes last in file order; an event after the frame line
--- ends the head, so that of the causes it can meet only the first; a tie line that does not end it is the head's.
+-- ends the head, so that of the causes it can meet only the first; a tie line that does not end it is the head's; of a supply line "k from 1 to 8".
 unfoldable pub tried : SoFar → Form → Tried
 tried r (frameLine s b) = record {
   misplaced = begun (r .stage);
   outside = not (frameInLimits s b);
   used = false;
   full = false;
-  next = record { stage = atTie; head = bareHead s b };
+  next = record { stage = atSupply; head = bareHead s b };
 }
 tried r (busyLine b p) = record {
   misplaced = busyMisplaced (r .stage) b;
@@ -106,6 +120,13 @@ tried r (tieLine hold) = record {
   full = false;
   next = record { stage = atBusy 0; head = withTie (r .head) hold };
 }
+tried r (supplyLine k) = record {
+  misplaced = supplyMisplaced (r .stage);
+  outside = not (within 1 mostMotors k);
+  used = false;
+  full = false;
+  next = record { stage = atTie; head = withSupply (r .head) k };
+}
 
 -- ---- "Tried in the order 10, 8, 11, 1, 3, 2, 4, 9": the order within a line that has a form, once
 
@@ -117,7 +138,8 @@ causes r f =
 -- ---- line by line
 
 -- "The head ends before the first line that has an event's form"; on line 1 such a line is out of its place. A tie line directly after the frame line is one of the head: "Directly after the
--- frame line `(tie hold)` holds for the plan and the calls, and `(tie place)` there is a head line".
+-- frame line `(tie hold)` holds for the plan and the calls, and `(tie place)` there is a head line"; and so is one right after a supply line: "the place of a head's tie line is then
+-- right after it".
 abbrev pub ends : SoFar → Form → Bool
 ends r f = isEvent f && not (isTie f && directly (r .stage)) && begun (r .stage)
 
@@ -158,7 +180,7 @@ pub data Stops (n : ℕ) (q : SoFar) : List (List ℕ) → Reading → Type 0 wh
   at-end : begun (q .stage) ≡ true → Stops n q [] (accepted (q .head) n)
   -- "The head ends before the first line that has an event's form"
   at-event : {l : List ℕ} {ls : List (List ℕ)} {f : Form} → form l ≡ some f → ends q f ≡ true → Stops n q (l ∷ ls) (accepted (q .head) n)
-  -- "a line that is not one of the five forms, or lacks its end", which are six since 2026-02
+  -- "a line that is not one of the five forms, or lacks its end", which are six since 2026-02 and seven since 2026-03
   at-no-form : {l : List ℕ} {ls : List (List ℕ)} → form l ≡ none → Stops n q (l ∷ ls) (refused (suc n) noForm)
   -- "In a head, the first line at fault decides", by the first of its causes in the listed order
   at-fault : {l : List ℕ} {ls : List (List ℕ)} {f : Form} {c : Refusal}

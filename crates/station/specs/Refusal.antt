@@ -6,7 +6,7 @@ use mathlib.Core.List.{List, [], _∷_}
 use mathlib.Core.Option.{Option, some, none}
 
 pub data Refusal : Type 0 where
-  noForm : Refusal  -- "a line that is not one of the five forms, or lacks its end", which are six since 2026-02
+  noForm : Refusal  -- "a line that is not one of the five forms, or lacks its end", which are six since 2026-02 and seven since 2026-03
   outOfLimits : Refusal  -- "a value or busy stretch outside its limits .. a head record that no text yields"
   outOfPlace : Refusal  -- "a form out of its place; no frame on line 1"
   numberUsed : Refusal  -- "a number already used, or twice in a call"

@@ -62,25 +62,29 @@ jobIn j = record { number = j .number; slots = j .slots }
 
 -- ---- head records
 
--- the record of a frame without a tie line, with nothing busy and no presets
+-- the record of a frame without a supply line and a tie line, with nothing busy and no presets
 abbrev pub bareRecord : ℕ → ℕ → Head
-bareRecord slots bridges = record { slots = slots; bridges = bridges; hold = false; busy = replicate mostBridges 0; count = 0 }
+bareRecord slots bridges = record { slots = slots; bridges = bridges; supply = 0; hold = false; busy = replicate mostBridges 0; count = 0 }
+
+-- the record with a supply line of k, or without one where k is 0
+abbrev pub withSupplied : Head → ℕ → Head
+withSupplied h k = record { slots = h .slots; bridges = h .bridges; supply = k; hold = h .hold; busy = h .busy; count = h .count }
 
 -- the record with a tie line of its own or without one
 abbrev pub withHold : Head → Bool → Head
-withHold h hold = record { slots = h .slots; bridges = h .bridges; hold = hold; busy = h .busy; count = h .count }
+withHold h hold = record { slots = h .slots; bridges = h .bridges; supply = h .supply; hold = hold; busy = h .busy; count = h .count }
 
 -- the record with other masks
 abbrev pub withMasks : Head → List ℕ → Head
-withMasks h busy = record { slots = h .slots; bridges = h .bridges; hold = h .hold; busy = busy; count = h .count }
+withMasks h busy = record { slots = h .slots; bridges = h .bridges; supply = h .supply; hold = h .hold; busy = busy; count = h .count }
 
 -- the record with another number of presets
 abbrev pub withCount : Head → ℕ → Head
-withCount h count = record { slots = h .slots; bridges = h .bridges; hold = h .hold; busy = h .busy; count = count }
+withCount h count = record { slots = h .slots; bridges = h .bridges; supply = h .supply; hold = h .hold; busy = h .busy; count = count }
 
 -- the head of a record and its list of preset records
 abbrev pub headIn : Head → List Preset → head.Head
-headIn h ps = record { slots = h .slots; bridges = h .bridges; hold = h .hold; busy = h .busy; presets = presetsIn (h .count) ps }
+headIn h ps = record { slots = h .slots; bridges = h .bridges; supply = h .supply; hold = h .hold; busy = h .busy; presets = presetsIn (h .count) ps }
 
 -- "a head record that no text yields" is one for which this is false
 abbrev pub validRecord : Head → List Preset → Bool

@@ -1,4 +1,4 @@
--- Writing a head: "The head has one text only, and the writer makes it." Document 01, "The station text"; document 02, 2026-02.
+-- Writing a head: "The head has one text only, and the writer makes it." Document 01, "The station text"; document 02, 2026-02 and 2026-03.
 -- The busy cells of a bridge are a mask; its stretches are the runs of ones, slot 1 being the lowest bit.
 -- Assumes nothing.
 use Prim.Native.Nat.{ℕ, zero, suc, _+_, _-_, _/_, _%_, _^_}
@@ -9,7 +9,7 @@ use lib.Dec.{eqb, leb}
 use Rattle.station.specs.Limits.{mostSlots}
 use Rattle.station.specs.Head.{Head, within}
 use Rattle.station.specs.Text.{join}
-use Rattle.station.specs.Form.{Pairs, last, next, Form, frameLine, busyLine, presetLine, clockLine, callLine, tieLine, print}
+use Rattle.station.specs.Form.{Pairs, last, next, Form, frameLine, busyLine, presetLine, clockLine, callLine, tieLine, supplyLine, print}
 
 -- the mask of the slots from f to t, both included
 abbrev pub maskTo : ℕ → ℕ → ℕ
@@ -57,14 +57,19 @@ unfoldable pub busyLines : ℕ → List ℕ → List Form
 busyLines b [] = []
 busyLines b (m ∷ ms) = busyLineOf b (stretches mostSlots 1 m) ++ busyLines (suc b) ms
 
--- the tie line of a head: "Directly after the frame line `(tie hold)`", and without it there is none, "so that a head keeps one text"
+-- the supply line of a head, which "stands right after the frame line"; none where k is 0
+abbrev pub supplyLines : ℕ → List Form
+supplyLines zero = []
+supplyLines (suc k) = supplyLine (suc k) ∷ []
+
+-- the tie line of a head: "Directly after the frame line `(tie hold)`" or right after its supply line, and without it there is none, "so that a head keeps one text"
 abbrev pub tieLines : Bool → List Form
 tieLines true = tieLine true ∷ []
 tieLines false = []
 
--- the lines of a head, "in this order": the frame, its tie line, the busy lines, the presets
+-- the lines of a head, "in this order": the frame, its supply line, its tie line, the busy lines, the presets
 unfoldable pub formsOf : Head → List Form
-formsOf h = frameLine (h .slots) (h .bridges) ∷ (tieLines (h .hold) ++ (busyLines 1 (h .busy) ++ map presetLine (h .presets)))
+formsOf h = frameLine (h .slots) (h .bridges) ∷ (supplyLines (h .supply) ++ (tieLines (h .hold) ++ (busyLines 1 (h .busy) ++ map presetLine (h .presets))))
 
 -- the text of a head
 unfoldable pub textOf : Head → List ℕ
@@ -85,6 +90,7 @@ lineTakes (presetLine p) b x = false
 lineTakes (clockLine t) b x = false
 lineTakes (callLine p) b x = false
 lineTakes (tieLine hold) b x = false
+lineTakes (supplyLine k) b x = false
 
 -- one of the lines says so
 unfoldable pub linesTake : List Form → ℕ → ℕ → Bool

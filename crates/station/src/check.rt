@@ -1,7 +1,8 @@
-// Limits: whether a job, a frame and a preset are within theirs, and whether a head record is one that some text yields.
+// Limits: whether a job, a frame, a supply line's number and a preset are within theirs, and whether a head record is one that some text yields.
 use crate::limits::MOST_BRIDGES;
 use crate::limits::MOST_LENGTH;
 use crate::limits::MOST_MANDATORY;
+use crate::limits::MOST_MOTORS;
 use crate::limits::MOST_NUMBER;
 use crate::limits::MOST_OPTIONAL;
 use crate::limits::MOST_PRESETS;
@@ -15,8 +16,8 @@ ghost use mathlib.Core.Path.{_≡_};
 ghost use mathlib.Core.Bool.{_&&_};
 ghost use lib.ListN.{length};
 ghost use lib.Dec.{eqb, ltb};
-ghost use Rattle.station.specs.Limits.{mostBridges, mostPresets};
-ghost use Rattle.station.specs.Head.{presetOf, frameInLimits, presetInLimits, allInLimits, allDistinct, masksIn};
+ghost use Rattle.station.specs.Limits.{mostBridges, mostMotors, mostPresets};
+ghost use Rattle.station.specs.Head.{presetOf, within, frameInLimits, presetInLimits, allInLimits, allDistinct, masksIn};
 ghost use Rattle.station.specs.method.MaskTest.{maskIn};
 ghost use Rattle.station.specs.Types.{presetIn, presetsIn, jobIn, validRecord};
 ghost use Rattle.station.specs.Jobs.{jobInLimits};
@@ -34,6 +35,13 @@ pub(crate) fn frame_in_limits(slots: usize, bridges: usize) -> bool
     ensures { λ r. ⌜ r ≡ frameInLimits slots bridges ⌝ }
 {
     ((1 <= slots) & (slots <= MOST_SLOTS)) & ((1 <= bridges) & (bridges <= MOST_BRIDGES))
+}
+
+// The number of a supply line is within its limits.
+pub(crate) fn supply_in_limits(motors: usize) -> bool
+    ensures { λ r. ⌜ r ≡ within 1 mostMotors motors ⌝ }
+{
+    (1 <= motors) & (motors <= MOST_MOTORS)
 }
 
 // The values of a preset, in a record or as they are read, are within their limits.
@@ -133,12 +141,16 @@ pub fn valid_record(head: Head, presets: [Preset; MOST_PRESETS]) -> bool
 {
     let slots = head.slots;
     let bridges = head.bridges;
+    let supply = head.supply;
     let busy = head.busy;
     let count = head.count;
     if count > MOST_PRESETS {
         return false;
     }
     if !frame_in_limits(slots, bridges) {
+        return false;
+    }
+    if supply > MOST_MOTORS {
         return false;
     }
     if !masks_in(busy, bridges, slots) {

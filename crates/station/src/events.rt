@@ -74,6 +74,7 @@ fn line_event(said: Line) -> EventRead
             event: Event::SetTie(hold),
             jobs: [NO_JOB; MOST_JOBS],
         },
+        Line::Supply(_) => refused(Refusal::OutOfPlace),
     }
 }
 

@@ -1,4 +1,4 @@
-// The six forms of a line.
+// The seven forms of a line.
 use crate::brackets::jobs_at;
 use crate::brackets::stretches_at;
 use crate::limits::MOST_JOBS;
@@ -11,7 +11,7 @@ use crate::types::NO_JOB;
 ghost use mathlib.Core.Path.{_≡_};
 ghost use Prim.Native.Nat.{ℕ, min};
 ghost use Rattle.station.specs.Limits.{mostSlots};
-ghost use Rattle.station.specs.Form.{frameIn, busyIn, presetIn, clockIn, callIn, tieIn, form};
+ghost use Rattle.station.specs.Form.{frameIn, busyIn, presetIn, clockIn, callIn, tieIn, supplyIn, form};
 ghost use Rattle.station.specs.Jobs.{noJobs};
 ghost use Rattle.station.specs.method.ReadLine.{readIn, hasForm, headForm, eventForm};
 
@@ -25,6 +25,7 @@ pub enum Line {
     Clock(u32),
     Call(u32),
     Tie(bool),
+    Supply(u32),
 }
 
 // A line, and the first eight jobs where it is a call.
@@ -110,6 +111,20 @@ fn preset_line(line: &[u8]) -> Read
     ))
 }
 
+// `(supply k)`
+fn supply_line(line: &[u8]) -> Read
+    ensures { λ r. ⌜ ((hi : ℕ) → r ≡ readIn hi (supplyIn (now (line .entry)))) ⌝ }
+{
+    if !starts_at(line, 0, b"(supply ") {
+        return without_jobs(Line::NoForm);
+    }
+    let motors = number_last(line, 8);
+    if !motors.found {
+        return without_jobs(Line::NoForm);
+    }
+    without_jobs(Line::Supply(motors.value))
+}
+
 // `(busy b (f t) (f t))` in a frame of `slots` slots, 64 at most
 fn busy_line(line: &[u8], slots: usize) -> Read
     ensures { λ r. ⌜ r ≡ readIn (min slots mostSlots) (busyIn (now (line .entry))) ⌝ }
@@ -172,6 +187,7 @@ fn has_form(line: Line) -> bool
         Line::Clock(_) => true,
         Line::Call(_) => true,
         Line::Tie(_) => true,
+        Line::Supply(_) => true,
     }
 }
 
@@ -189,7 +205,12 @@ fn head_line(line: &[u8], slots: usize) -> Read
     if has_form(b) {
         return busy;
     }
-    preset_line(line)
+    let preset = preset_line(line);
+    let p = preset.line;
+    if has_form(p) {
+        return preset;
+    }
+    supply_line(line)
 }
 
 // A line with an event's form; `NoForm` where it is none.
@@ -209,7 +230,7 @@ fn event_line(line: &[u8]) -> Read
     tie_line(line)
 }
 
-// What a line says, byte 10 included, in a frame of `slots` slots, 64 at most; `NoForm` where it is none of the six forms or lacks its end.
+// What a line says, byte 10 included, in a frame of `slots` slots, 64 at most; `NoForm` where it is none of the seven forms or lacks its end.
 pub(crate) fn read_line(line: &[u8], slots: usize) -> Read
     ensures { λ r. ⌜ r ≡ readIn (min slots mostSlots) (form (now (line .entry))) ⌝ }
 {

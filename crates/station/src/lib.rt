@@ -9,7 +9,7 @@ pub mod causes; // causes.rt: the paper's number of a cause
 // Reading, from bytes to a head:
 mod numbers; // numbers.rt: decimals of any length, and words
 mod brackets; // brackets.rt: the stretches of a busy line, the jobs of a call
-mod forms; // forms.rt: the six forms
+mod forms; // forms.rt: the seven forms
 pub mod heads; // heads.rt: the head of a text, its preset records by value
 pub mod rows; // rows.rt: rows of comma-separated text in place of a head's busy lines, and a head's rows, its preset records by value
 // Writing, from a head to bytes:

@@ -1,10 +1,13 @@
-// Document 01's limits. Each has the name that specs/Limits.antt gives it, and no other line of the code says it.
+// The limits of documents 01 and 02. Each has the name that specs/Limits.antt gives it, and no other line of the code says it.
 
 // The slots of a frame; a mask has a bit for each.
 pub const MOST_SLOTS: usize = 64;
 
 // The bridges of a frame; a head has a mask for each.
 pub const MOST_BRIDGES: usize = 8;
+
+// The motors that a supply feeds.
+pub const MOST_MOTORS: usize = 8;
 
 // The presets of a head.
 pub const MOST_PRESETS: usize = 32;

@@ -32,11 +32,13 @@ pub const NO_JOB: Job = Job {
 // The preset records of a head without presets.
 pub const NO_PRESETS: [Preset; MOST_PRESETS] = [NO_RECORD; MOST_PRESETS];
 
-// The head of a station text without its presets, which stand in a list of 32 records: `count` of them are in use. `hold` is whether `(tie hold)`
-// stands directly after the frame line. The busy cells are one mask for each bridge, slot 1 being the lowest bit.
+// The head of a station text without its presets, which stand in a list of 32 records: `count` of them are in use. `supply` is the number of
+// its supply line, 0 where it has none; `hold` is whether `(tie hold)` stands directly after the frame line or its supply line. The busy cells are one mask for each bridge,
+// slot 1 being the lowest bit.
 pub struct Head {
     pub slots: usize,
     pub bridges: usize,
+    pub supply: usize,
     pub hold: bool,
     pub busy: [u64; MOST_BRIDGES],
     pub count: usize,
@@ -46,6 +48,7 @@ pub struct Head {
 pub const NO_HEAD: Head = Head {
     slots: 0,
     bridges: 0,
+    supply: 0,
     hold: false,
     busy: [0; MOST_BRIDGES],
     count: 0,

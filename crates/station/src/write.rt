@@ -20,7 +20,7 @@ ghost use mathlib.Core.List.{map};
 ghost use Rattle.station.specs.Limits.{mostSlots, mostPresets};
 ghost use Rattle.station.specs.Text.{bytes, join};
 ghost use Rattle.station.specs.Form.{frameLine, presetLine, print};
-ghost use Rattle.station.specs.Writing.{stretches, tieLines, busyLineOf, busyLines, textOf};
+ghost use Rattle.station.specs.Writing.{stretches, supplyLines, tieLines, busyLineOf, busyLines, textOf};
 ghost use Rattle.station.specs.method.Runs.{busyFrom, freeFrom, bracketsOf, bracketText};
 ghost use Rattle.station.specs.Types.{presetIn, presetsIn, headIn, validRecord};
 ghost use Rattle.station.specs.WriteHead.{WroteHead};
@@ -38,6 +38,18 @@ fn frame_line(out: &mut [u8], at: usize, slots: u8, bridges: u8) -> usize
 {
     let first = word(out, at, b"(frame ");
     let end = two_numbers(out, first, slots as usize, bridges as usize);
+    word(out, end, b")\n")
+}
+
+// Writes the supply line of a head that has one, `(supply k)`; else nothing. Answers the next place.
+fn supply_line(out: &mut [u8], at: usize, motors: usize) -> usize
+    ensures { λ r. ⌜ Wrote (now (out .entry)) at (join (map print (supplyLines motors))) (now (out .exit)) r ⌝ }
+{
+    if motors == 0 {
+        return at;
+    }
+    let first = word(out, at, b"(supply ");
+    let end = number(out, first, motors);
     word(out, end, b")\n")
 }
 
@@ -179,7 +191,8 @@ fn head_text(head: Head, presets: [Preset; MOST_PRESETS], out: &mut [u8]) -> usi
     let bridges = head.bridges as u8;
     let busy = head.busy;
     let count = head.count;
-    let tie = frame_line(out, 0, slots, bridges);
+    let supply = frame_line(out, 0, slots, bridges);
+    let tie = supply_line(out, supply, head.supply);
     let first_busy = tie_line(out, tie, head.hold);
     let first_preset = busy_lines(out, first_busy, busy);
     preset_lines(out, first_preset, presets, count)

@@ -12,13 +12,13 @@ fn write_packed(n: usize) {
     io::print_hex(1, n as u64, 1);
 }
 
-// Writes a line for what differs. A case is told by the order of ties, by its frame, with the busy cells, and its presets, by the table before, and by the call, 0 for a plan;
-// last stands what the second planner answers. crates/second_planner/src says what the fields of each are.
-fn report(frame: usize, presets: usize, table: usize, hold: bool, call: usize, right: usize) {
+// Writes a line for what differs. A case is told by the order of ties, by its frame, with the busy cells, and its presets, with the supply, by the table before, and by the call,
+// 0 for a plan; last stands what the second planner answers. crates/second_planner/src says what the fields of each are.
+fn report(frame: usize, head: usize, table: usize, hold: bool, call: usize, right: usize) {
     io::write_all(1, b"(differs ");
     write_order(hold);
     write_packed(frame);
-    write_packed(presets);
+    write_packed(head);
     write_packed(table);
     write_packed(call);
     write_packed(right);
@@ -28,24 +28,24 @@ fn report(frame: usize, presets: usize, table: usize, hold: bool, call: usize, r
 // Whether the library answers the same, and no valid placement is better.
 fn is_right(
     frame: usize,
-    presets: usize,
+    head: usize,
     table: usize,
     hold: bool,
     call: usize,
     right: usize,
 ) -> bool {
-    if library_answer(frame, presets, table, hold, call, right) != right {
+    if library_answer(frame, head, table, hold, call, right) != right {
         return false;
     }
-    is_optimal(sets_of(frame), presets, table, call, right)
+    is_optimal(sets_of(frame), head, table, call, right)
 }
 
 // A call, or the plan, by both planners under an order of ties. Answers what the second one does, with cause 1 where they differ.
-pub fn compare(frame: usize, presets: usize, table: usize, hold: bool, call: usize) -> usize {
-    let right = answer(sets_of(frame), presets, table, hold, call);
-    if is_right(frame, presets, table, hold, call, right) {
+pub fn compare(frame: usize, head: usize, table: usize, hold: bool, call: usize) -> usize {
+    let right = answer(sets_of(frame), head, table, hold, call);
+    if is_right(frame, head, table, hold, call, right) {
         return right;
     }
-    report(frame, presets, table, hold, call, right);
+    report(frame, head, table, hold, call, right);
     with_field(right, 6, 1)
 }

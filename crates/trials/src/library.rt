@@ -3,9 +3,9 @@ use crate::cells::MARK;
 use crate::cells::is_table;
 use crate::cells::table_of;
 use crate::records::grants_in;
-use crate::records::head_of;
 use crate::records::jobs_of;
 use crate::records::presets_of;
+use crate::records::record_of;
 use crate::records::refused;
 use placing::call::CallAnswer;
 use placing::call::call_by_value;
@@ -52,13 +52,9 @@ fn written(frame: usize, plan: usize) -> usize {
 }
 
 // The library's plan under an order of ties. All cells are marks before, and stay so where the plan is refused.
-fn plan_answer(frame: usize, presets: usize, hold: bool, expected: usize) -> usize {
+fn plan_answer(frame: usize, head: usize, hold: bool, expected: usize) -> usize {
     let mut table = [MARK; 512];
-    let planned = plan_by_value(
-        head_of(frame, presets, hold),
-        presets_of(presets),
-        &mut table,
-    );
+    let planned = plan_by_value(record_of(frame, head, hold), presets_of(head), &mut table);
     answer_with(
         written(frame, expected),
         table,
@@ -70,7 +66,7 @@ fn plan_answer(frame: usize, presets: usize, hold: bool, expected: usize) -> usi
 // What the library makes of a call on a table under an order of ties. The head's order is the other one: a call goes by the order in force.
 fn call_answer(
     frame: usize,
-    presets: usize,
+    head: usize,
     table: usize,
     hold: bool,
     call: usize,
@@ -78,8 +74,8 @@ fn call_answer(
 ) -> usize {
     let mut cells = table_of(frame, table);
     let answer = call_by_value(
-        head_of(frame, presets, !hold),
-        presets_of(presets),
+        record_of(frame, head, !hold),
+        presets_of(head),
         &mut cells,
         field(call, 6),
         hold,
@@ -92,14 +88,14 @@ fn call_answer(
 // The library's answer to a call on a table, or its plan for call 0, under an order of ties.
 pub fn library_answer(
     frame: usize,
-    presets: usize,
+    head: usize,
     table: usize,
     hold: bool,
     call: usize,
     expected: usize,
 ) -> usize {
     if call == 0 {
-        return plan_answer(frame, presets, hold, expected);
+        return plan_answer(frame, head, hold, expected);
     }
-    call_answer(frame, presets, table, hold, call, expected)
+    call_answer(frame, head, table, hold, call, expected)
 }

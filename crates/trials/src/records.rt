@@ -35,8 +35,8 @@ fn busy_on(frame: usize, bridge: usize) -> u64 {
     mask_of(frame >> 56 + bridge % 4, bridges)
 }
 
-// The head's record, with its order of ties.
-pub fn head_of(frame: usize, presets: usize, hold: bool) -> Head {
+// The head's record, with its supply and its order of ties. (The fields are read here, not by the second planner's functions, whose faults would else be in both.)
+pub fn record_of(frame: usize, head: usize, hold: bool) -> Head {
     let busy = [
         busy_on(frame, 0),
         busy_on(frame, 1),
@@ -47,18 +47,19 @@ pub fn head_of(frame: usize, presets: usize, hold: bool) -> Head {
         0,
         0,
     ];
-    let mut head = NO_HEAD;
-    head.slots = field(frame, 6) % 16;
-    head.bridges = field(frame, 6) / 16;
-    head.hold = hold;
-    head.busy = busy;
-    head.count = presets >> 24;
-    head
+    let mut record = NO_HEAD;
+    record.slots = field(frame, 6) % 16;
+    record.bridges = field(frame, 6) / 16;
+    record.supply = field(head, 4);
+    record.hold = hold;
+    record.busy = busy;
+    record.count = field(head, 3);
+    record
 }
 
 // The record of a line.
-fn preset_of(presets: usize, line: usize) -> Preset {
-    let preset = field(presets, line);
+fn preset_of(head: usize, line: usize) -> Preset {
+    let preset = field(head, line);
     Preset {
         number: number_of(line),
         priority: (preset / 16) as u8,
@@ -68,10 +69,10 @@ fn preset_of(presets: usize, line: usize) -> Preset {
 }
 
 // The preset records.
-pub fn presets_of(presets: usize) -> [Preset; 32] {
-    let mut records = [preset_of(presets, 2); 32];
-    records[0] = preset_of(presets, 0);
-    records[1] = preset_of(presets, 1);
+pub fn presets_of(head: usize) -> [Preset; 32] {
+    let mut records = [preset_of(head, 2); 32];
+    records[0] = preset_of(head, 0);
+    records[1] = preset_of(head, 1);
     records
 }
 
@@ -91,12 +92,13 @@ pub fn jobs_of(call: usize) -> [Job; 8] {
     jobs
 }
 
-// What refuses by a cause. Only three can be right here.
+// What refuses by a cause. Only four can be right here.
 pub fn refused(cause: Refusal) -> usize {
     match cause {
         Refusal::NumberUsed => 4 << 48,
         Refusal::MandatoryNotFeasible => 5 << 48,
         Refusal::CallNotFeasible => 7 << 48,
+        Refusal::NotWellFormed => 11 << 48,
         _ => NO_TABLE,
     }
 }

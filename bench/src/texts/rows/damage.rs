@@ -4,7 +4,7 @@
 use crate::texts::limits::any_station;
 use crate::texts::rng::Rng;
 use crate::texts::station::SMALL;
-use crate::texts::{damage, drawn, limits, numbers, places, ties, KINDS};
+use crate::texts::{damage, drawn, limits, numbers, places, supply, ties, KINDS};
 
 use super::{with_rows, Sheet};
 
@@ -156,11 +156,12 @@ pub fn cut_short(rng: &mut Rng) -> Vec<u8> {
 }
 
 /// Rows after a station text of any kind, damaged ones too; an empty line that it has itself comes first. Now and then one
-/// with tie lines in any place, since some are the head's and others end it.
+/// with tie lines in any place, since some are the head's and others end it, or with supply lines.
 pub fn any_head(rng: &mut Rng) -> Vec<u8> {
     let text = match rng.below(10) {
         0 => ties::in_its_place(rng),
         1 => ties::anywhere(rng),
+        2 => supply::in_its_place(rng),
         _ => drawn(rng, KINDS).bytes,
     };
     before_rows(rng, text)
@@ -180,6 +181,8 @@ pub fn head_at_fault(rng: &mut Rng) -> Vec<u8> {
         damage::lacking_form,
         ties::out_of_place,
         ties::damaged,
+        supply::out_of_place,
+        supply::damaged,
     ];
     let text = rng.pick(MAKERS)(rng);
     before_rows(rng, text)
@@ -257,6 +260,12 @@ pub fn next_to_nothing(rng: &mut Rng) -> Vec<u8> {
         "(frame 1 1)\n(tie place)\n\n1,1,1\r\n",
         "(frame 1 1)\n(busy 1 (1 1))\n(tie hold)\n\n",
         "(tie hold)\n\n1,1,1\r\n",
+        "(frame 1 1)\n(supply 1)\n",
+        "(frame 1 1)\n(supply 8)\n\n1,1,1\r\n",
+        "(frame 1 1)\n(supply 1)\n(tie hold)\n\n1,1,1\r\n",
+        "(frame 1 1)\n(tie hold)\n(supply 1)\n\n1,1,1\r\n",
+        "(frame 1 1)\n(supply 9)\n\n1,1,1\r\n",
+        "(supply 1)\n\n1,1,1\r\n",
     ];
     rng.pick(INPUTS).as_bytes().to_vec()
 }

@@ -1,14 +1,14 @@
 //! Lent records by seed: those of a head, with any numbers where nobody looks; some that no text yields, some too short.
 
 use crate::head::{Head, BRIDGES, PRESETS};
-use crate::lent::{Lent, FRAME, OUT, PRESET_BYTES};
+use crate::lent::{Lent, FRAME, OUT, PRESET_BYTES, SUPPLY};
 use crate::texts::rng::Rng;
 
 /// The records of a head: three in four as they should be, the others too short or such that no text yields them.
 pub fn lent(rng: &mut Rng, head: &Head) -> Lent {
     let mut lent = Lent::new(head);
-    // The clock, both orders of ties, the reserved numbers and the records past the last preset.
-    [3, 12, 13, 14, 15].into_iter().for_each(|place| lent.frame[place] = number(rng));
+    // The clock, both orders of ties, the reserved number and the records past the last preset.
+    [3, 13, 14, 15].into_iter().for_each(|place| lent.frame[place] = number(rng));
     lent.presets[4 * head.presets.len()..].fill_with(|| rng.word() as u8);
     if rng.chance(20) {
         lent.frame.resize(FRAME + rng.below(4), number(rng));
@@ -41,12 +41,14 @@ fn number(rng: &mut Rng) -> u64 {
 /// A number of the frame at or past its limit, or busy slots that the frame does not have.
 fn spoil_frame(rng: &mut Rng, lent: &mut Lent, head: &Head) {
     let (slots, bridges) = (head.slots, head.bridges);
-    match rng.below(5) {
+    match rng.below(6) {
         0 => lent.frame[0] = *rng.pick(&[0, 1, 64, 65, 256, 1 << 32, u64::MAX, (1 << 32) + slots as u64]),
         1 => lent.frame[1] = *rng.pick(&[0, 1, 8, 9, 256, 1 << 32, u64::MAX, (1 << 32) + bridges as u64]),
         2 => lent.frame[2] = *rng.pick(&[0, 31, 32, 33, 256, 1 << 32, u64::MAX, head.presets.len() as u64 + 1]),
+        // Those up to 8 are a supply, more motors than the frame has bridges too.
+        3 => lent.frame[SUPPLY] = *rng.pick(&[0, 1, 8, 9, 255, 256, (1 << 32) + 3, 1 << 63, u64::MAX]),
         // A slot just past the frame, or the very last; a bridge just past it.
-        3 => lent.frame[4 + rng.below(bridges)] |= 1 << (*rng.pick(&[slots, 63])).min(63),
+        4 => lent.frame[4 + rng.below(bridges)] |= 1 << (*rng.pick(&[slots, 63])).min(63),
         _ => lent.frame[4 + bridges.min(BRIDGES - 1)] |= 1 << rng.below(slots),
     }
 }

@@ -17,7 +17,7 @@ use Rattle.laws.proofs.Tests.{Is, is, is-true, is-false, clash, both, left-of, 
 use Rattle.laws.proofs.Comparisons.{gt-of, le-of, ge-of, ltb-yes, ltb-no}
 use Rattle.station.specs.Head.{Head, Job, within}
 use Rattle.station.specs.Refusal.{Refusal, outOfLimits, clockBack, firstOf}
-use Rattle.station.specs.Form.{Form, frameLine, busyLine, presetLine, clockLine, callLine, tieLine, jobsOf, form}
+use Rattle.station.specs.Form.{Form, frameLine, busyLine, presetLine, clockLine, callLine, tieLine, supplyLine, jobsOf, form}
 use Rattle.station.specs.Jobs.{padded, seen}
 use Rattle.station.specs.Event.{jobInLimits, jobsInLimits, callInLimits, eventIn}
 use Rattle.station.specs.Types.{headIn, validRecord, refusalIn}
@@ -36,7 +36,7 @@ use Rattle.placing.specs.declared.call.CallAnswer as reply
 use Rattle.placing.specs.Table.{cell}
 use Rattle.placing.specs.State.{State, stateOf, withTable}
 use Rattle.placing.specs.Valid.{clockIn, jobAt}
-use Rattle.placing.specs.method.Limits.{sizesInLimits}
+use Rattle.placing.specs.method.Limits.{sizesInLimits, motorsIn}
 use Rattle.placing.specs.Types.{jobsIn}
 use Rattle.placing.specs.Outcomes.{frameCauses, jobsOutside, callOf}
 use Rattle.placing.specs.Causes.{causesOf}
@@ -156,7 +156,7 @@ clock-within slots c t was = go (firstOf (clockCauses slots c t)) refl
 pub clock-counts : (head : record-of-head.Head) (ps : List record-of-preset.Preset) (n : ℕ) (st : State) {r : result.Outcome} {marks xs ys : List ℕ} {admitted : ℕ}
     → ClockDone (head .slots) (st .clock) (st .hold) n r → validRecord head ps ≡ true → Running (headIn head ps) st → CountsOf (headIn head ps) (st .clock) (cell (headIn head ps) (st .table)) marks admitted xs
     → (sizesInLimits (head .slots) (head .bridges) 0 (length (st .table)) ≡ true → clockIn (head .slots) (st .clock) ≡ true → clockIn (head .slots) (r .clock) ≡ true → st .clock ≤ r .clock
-    → CapacitiesAt (st .table) (head .slots) (head .bridges) (st .clock) xs → CapacitiesAt (st .table) (head .slots) (head .bridges) (r .clock) ys)
+    → CapacitiesAt (st .table) (head .slots) (head .bridges) (motorsIn head) (st .clock) xs → CapacitiesAt (st .table) (head .slots) (head .bridges) (motorsIn head) (r .clock) ys)
     → CountsOf (headIn head ps) (r .clock) (cell (headIn head ps) (st .table)) marks admitted ys
 clock-counts head ps n st {r} d v run was passed =
     let valid = record-valid head ps v in
@@ -301,6 +301,7 @@ module _ (h : Head) (st : State) (free : firstOf (frameCauses h st) ≡ none) wh
   asked-read (some (presetLine p)) small = refl
   asked-read (some (clockLine t)) small = clock-seen t small
   asked-read (some (tieLine hold)) small = refl
+  asked-read (some (supplyLine k)) small = refl
   asked-read (some (callLine p)) small = go (is (callInLimits (jobsOf p)))
     where
       go : Is (callInLimits (jobsOf p)) → comesTo h st (placeJobs (jobsOf p)) ≡ comesTo h st (askedIn (eventIn (some (callLine p)) .event) (eventIn (some (callLine p)) .jobs))

@@ -17,7 +17,7 @@ use Rattle.station.specs.Head.{Head, valid}
 use Rattle.station.specs.Refusal.{firstOf}
 use Rattle.station.specs.Text.{bytes, lines, join}
 use Rattle.station.specs.Line.{lineOf}
-use Rattle.station.specs.Form.{Form, frameLine, busyLine, presetLine, clockLine, callLine, tieLine, print}
+use Rattle.station.specs.Form.{Form, frameLine, busyLine, presetLine, clockLine, callLine, tieLine, supplyLine, print}
 use Rattle.station.specs.Writing.{formsOf, textOf}
 use Rattle.station.specs.Reading.{Reading, Means, too-long, no-text, by-lines, headOf}
 use Rattle.station.specs.Types.{headIn}
@@ -73,6 +73,7 @@ form-bytes (clockLine t) = omega arith
 form-bytes (callLine p) = omega arith
 form-bytes (tieLine true) = omega arith
 form-bytes (tieLine false) = omega arith
+form-bytes (supplyLine k) = omega arith
 
 pub forms-bytes : (fs : List Form) → length fs ≤ length (join (map print fs))
 forms-bytes [] = omega arith

@@ -167,7 +167,7 @@ module _ {head : record-of-head.Head} {ps : List record-of-preset.Preset} {text 
 
   -- the records are the head's own
   own-head : head ≡ headRecord h
-  own-head = ap (λ (c : ℕ). record { slots = head .slots; bridges = head .bridges; hold = head .hold; busy = head .busy; count = c }) (s .count)
+  own-head = ap (λ (c : ℕ). record { slots = head .slots; bridges = head .bridges; supply = head .supply; hold = head .hold; busy = head .busy; count = c }) (s .count)
 
   own-presets : ps ≡ recordsOver (h .presets) ps
   own-presets =

@@ -10,7 +10,7 @@ use Rattle.frame.specs.Listing.{slotLine, slotLines}
 
 -- a head of which only the number of bridges counts, as it does in a slot's line
 abbrev pub ofBridges : ℕ → Head
-ofBridges n = record { slots = 0; bridges = n; hold = false; busy = []; presets = [] }
+ofBridges n = record { slots = 0; bridges = n; supply = 0; hold = false; busy = []; presets = [] }
 
 -- "m, o or c for kinds 2, 3, 4"
 abbrev pub letterOf : ℕ → ℕ

@@ -85,14 +85,7 @@ pub(crate) fn event_by_counts(
     match event {
         Event::SetClock(t) => {
             let done = asked_clock(head.slots, clock, hold, t as usize);
-            pass_slots(
-                head.slots,
-                head.bridges,
-                table,
-                clock,
-                done.clock,
-                capacities,
-            );
+            pass_slots(head, table, clock, done.clock, capacities);
             done
         }
         Event::PlaceJobs(n) => {

@@ -14,7 +14,7 @@ use lib.ListN.{length, getD, take, replicate}
 use Rattle.laws.specs.Lists.{at}
 use Rattle.laws.proofs.Tests.{true-of-not}
 use Rattle.laws.proofs.Stores.{zeros}
-use Rattle.station.specs.Head.{Head, Job}
+use Rattle.station.specs.Head.{Head, Job, Valid, hasBit}
 use Rattle.station.specs.Refusal.{Refusal, callNotFeasible, try, firstOf}
 use Rattle.station.proofs.Theorems.{first-none, append-none, append-some, append-left-none}
 use Rattle.station.specs.Types.{headIn, validRecord, refusalIn}
@@ -28,21 +28,25 @@ use Rattle.placing.specs.declared.check.Cause as cause
 use Rattle.placing.specs.declared.check.Cause.the-variants.{Met, Passed}
 use Rattle.placing.specs.declared.call.CallAnswer as reply
 use Rattle.placing.specs.declared.call.CallAnswer.the-variants.{Taken, Refused}
-use Rattle.placing.specs.Table.{cell, callCell}
+use Rattle.placing.specs.Table.{WellFormed, cell, callCell}
 use Rattle.placing.specs.State.{State, stateOf}
 use Rattle.placing.specs.Valid.{jobAt}
 use Rattle.placing.specs.Plan.{tieOf}
-use Rattle.placing.specs.Call.{lengths, callFits}
+use Rattle.placing.specs.Call.{lengths, callFits, callFree, callFreeCount}
 use Rattle.placing.specs.Types.{jobsIn}
 use Rattle.placing.specs.method.Jobs.{jobNumber}
-use Rattle.placing.specs.method.Limits.{sizesInLimits}
-use Rattle.placing.specs.method.Rule.{placeable, placedIn, placedWithin}
+use Rattle.placing.specs.method.Limits.{sizesInLimits, motorsIn}
+use Rattle.placing.specs.method.Rule.{freeIn, Fillable, placeable, placedIn, placedWithin}
 use Rattle.placing.specs.method.Search.{Evicts}
 use Rattle.placing.specs.Outcomes.{cost, costOf, frameCauses, jobsOutside, jobCauses, callCauses, CallAnswer, CallOutcome, calledState, callOf}
 use Rattle.placing.specs.Causes.{causeIn, callJobs, causesOf, frameCausesOf}
 use Rattle.placing.specs.CallDone.{callMeant, CallDone}
 use Rattle.placing.proofs.Causes.{of-running}
 use Rattle.placing.proofs.check.FrameCauses.{causes-none, eleven, same-frame}
+use Rattle.laws.proofs.Counts.{count-ext}
+use Rattle.placing.proofs.FreeNumber.{call-free-least}
+use Rattle.placing.proofs.CalledTable.{callFree-count}
+use Rattle.placing.proofs.MaskBits.{hasBit-mask}
 use Rattle.placing.specs.method.Counts.{CountsOf, CapacitiesAt, MarkedBeside}
 use Rattle.placing.proofs.counts.causes.CallCauses.{job-at, inside-number, call-jobs, cause-known}
 use Rattle.placing.proofs.counts.LeftByEvent.{counts-taken}
@@ -86,19 +90,36 @@ module _ (h : Head) (jobs : List Job) (st : State) where
         table = sym (ap (λ (o : CallOutcome). o .after .table) (carried-no e));
       }
 
-  pub carried-taken : (found : Evicted) → Evicts h (st .clock) jobs (cell h (st .table)) found → found .fits ≡ true → (needs : List ℕ) (k : ℕ) (late : List ℕ) {u : List ℕ}
+  -- what the search counts for each slot is what the rule fills there
+  counts-are : (found : Evicted) → Evicts h (st .clock) jobs (cell h (st .table)) found → Valid h → WellFormed h (cell h (st .table))
+      → (s : ℕ) → s < h .slots → at (found .counts) s ≡ callFreeCount h (st .clock) jobs (cell h (st .table)) s
+  counts-are found ev valid formed s l = ev .counts s l ∙ sym (callFree-count h (st .clock) jobs (cell h (st .table)) valid formed s l)
+
+  -- no more than are free
+  pub call-fillable : (found : Evicted) → Evicts h (st .clock) jobs (cell h (st .table)) found → Valid h → WellFormed h (cell h (st .table))
+      → Fillable (h .slots) (h .bridges) (found .free) (found .counts)
+  call-fillable found ev valid formed s l =
+      omega (
+        arith,
+        counts-are found ev valid formed s l,
+        call-free-least h (st .clock) jobs (cell h (st .table)) s,
+        count-ext (h .bridges) (freeIn (found .free) s) (λ b. callFree h (st .clock) jobs (cell h (st .table)) s b)
+            (λ b m. ap (λ (n : ℕ). hasBit n b) (ev .free s l) ∙ hasBit-mask (h .bridges) (λ a. callFree h (st .clock) jobs (cell h (st .table)) s a) b m),
+      )
+
+  pub carried-taken : (found : Evicted) → Evicts h (st .clock) jobs (cell h (st .table)) found → Valid h → WellFormed h (cell h (st .table)) → found .fits ≡ true → (needs : List ℕ) (k : ℕ) (late : List ℕ) {u : List ℕ}
       → placeable (h .slots) (h .bridges) needs k (length (st .table)) ≡ true
       → lengths jobs ≡ take k needs
       → ((i : ℕ) → i < length jobs → at late i ≡ callCell (jobAt jobs i .number))
-      → u ≡ placedWithin (tieOf (st .hold)) (h .slots) (h .bridges) (found .free) needs k (replicate 64 0) late late (st .table)
+      → u ≡ placedWithin (tieOf (st .hold)) (h .slots) (h .bridges) (found .free) (found .counts) needs k (replicate 64 0) late late (st .table)
       → CallCarriedOut h jobs st u (Taken (found .count))
-  carried-taken found ev fits needs k late {u} limits en el eu =
+  carried-taken found ev valid formed fits needs k late {u} limits en el eu =
       record {
         answer = ap (λ (n : ℕ). CallAnswer.taken (cost n)) (ev .count) ∙ sym (ap (λ (o : CallOutcome). o .answer) (carried-yes yes));
         table = eu
-            ∙ placed-within (tieOf (st .hold)) (h .slots) (h .bridges) (found .free) needs k (replicate 64 0) late late (st .table) limits
-            ∙ ap (λ (c : List ℕ). placedIn (tieOf (st .hold)) (h .slots) (h .bridges) (found .free) c (replicate 64 0) late late (st .table)) (sym en)
-            ∙ placed-called (tieOf (st .hold)) h (st .clock) jobs (found .free) (replicate 64 0) late late (st .table) (ev .free) (λ i l. zeros 64 i) el
+            ∙ placed-within (tieOf (st .hold)) (h .slots) (h .bridges) (found .free) (found .counts) needs k (replicate 64 0) late late (st .table) limits
+            ∙ ap (λ (c : List ℕ). placedIn (tieOf (st .hold)) (h .slots) (h .bridges) (found .free) (found .counts) c (replicate 64 0) late late (st .table)) (sym en)
+            ∙ placed-called (tieOf (st .hold)) h (st .clock) jobs (found .free) (found .counts) (replicate 64 0) late late (st .table) (ev .free) (counts-are found ev valid formed) (λ i l. zeros 64 i) el
             ∙ sym (ap (λ (o : CallOutcome). o .after .table) (carried-yes yes));
       }
     where
@@ -207,7 +228,7 @@ pub counted-after : (head : record-of-head.Head) (ps : List record-of-preset.Pre
     → {u : List ℕ} {r : reply.CallAnswer} → CallDone head ps (callJobs n js) st u r
     → {marks after xs ys : List ℕ} {admitted : ℕ} → CountsOf (headIn head ps) (st .clock) (cell (headIn head ps) (st .table)) marks admitted xs
     → (length marks ≡ 256 → n ≤ 8 → MarkedBeside (λ i. jobNumber js i % 256) marks n after)
-    → (sizesInLimits (head .slots) (head .bridges) 0 (length u) ≡ true → CapacitiesAt u (head .slots) (head .bridges) (st .clock) ys)
+    → (sizesInLimits (head .slots) (head .bridges) 0 (length u) ≡ true → CapacitiesAt u (head .slots) (head .bridges) (motorsIn head) (st .clock) ys)
     → CountsOf (headIn head ps) (st .clock) (cell (headIn head ps) u) after (admitted + n) ys
 counted-after head ps js n st long v run e m {u} d {after = after} {ys = ys} {admitted = admitted} was marks counted =
     let h = headIn head ps in
@@ -221,7 +242,7 @@ counted-after head ps js n st long v run e m {u} d {after = after} {ys = ys} {ad
     let free = counted (in-limits (head .slots) (head .bridges) 0 (length u) (valid .slots-high) (valid .bridges-high) (omega arith) size) in
     subst (λ (l : List ℕ). CountsOf h (st .clock) (cell h l) after (admitted + n) ys) (sym table)
     (counts-taken h st js long n (known .0) (known .1) taken was (marks (was .marks-long) (known .0))
-    (subst (λ (l : List ℕ). CapacitiesAt l (head .slots) (head .bridges) (st .clock) ys) table free))
+    (subst (λ (l : List ℕ). CapacitiesAt l (head .slots) (head .bridges) (motorsIn head) (st .clock) ys) table free))
 
 -- ---- the frame afterwards
 

@@ -13,7 +13,7 @@ use Rattle.laws.specs.Sums.{count}
 use Rattle.laws.proofs.Counts.{count-ext}
 use Rattle.station.specs.Head.{Head, Job}
 use Rattle.station.specs.declared.types.Job as record-job
-use Rattle.placing.specs.Table.{cell, isUsed}
+use Rattle.placing.specs.Table.{cell, isUsed, motors}
 use Rattle.placing.specs.State.{State}
 use Rattle.placing.specs.Types.{jobsIn}
 use Rattle.placing.specs.Outcomes.{Cost, jobsOutside, CallAnswer, callOf}
@@ -27,7 +27,7 @@ use Rattle.placing.proofs.counts.causes.CallCauses.{jobs-length, number
 
 -- the clock moved
 pub counts-passed : (h : Head) (c d : ℕ) (t : List ℕ) {u xs ys : List ℕ} {admitted : ℕ} → CountsOf h c (cell h t) u admitted xs
-    → (CapacitiesAt t (h .slots) (h .bridges) c xs → CapacitiesAt t (h .slots) (h .bridges) d ys) → CountsOf h d (cell h t) u admitted ys
+    → (CapacitiesAt t (h .slots) (h .bridges) (motors h) c xs → CapacitiesAt t (h .slots) (h .bridges) (motors h) d ys) → CountsOf h d (cell h t) u admitted ys
 counts-passed h c d t was passed =
     let x = passed (record { long = was .long; right = λ k l. was .capacities k l ∙ sym (capacity-is h c t k) }) in
     record {
@@ -57,7 +57,7 @@ module _ (h : Head) (st : State) (js : List record-job.Job) (long : length js �
   pub counts-taken : {q : Cost} {marks after xs ys : List ℕ} {admitted : ℕ} → callOf h jobs st .answer ≡ CallAnswer.taken q
       → CountsOf h (st .clock) (cell h (st .table)) marks admitted xs
       → MarkedBeside (λ i. jobNumber js i % 256) marks n after
-      → CapacitiesAt (callOf h jobs st .after .table) (h .slots) (h .bridges) (st .clock) ys
+      → CapacitiesAt (callOf h jobs st .after .table) (h .slots) (h .bridges) (motors h) (st .clock) ys
       → CountsOf h (st .clock) (cell h (callOf h jobs st .after .table)) after (admitted + n) ys
   counts-taken {q} {marks} {admitted = admitted} taken was beside x =
       let known = call-accepted h jobs st q taken in

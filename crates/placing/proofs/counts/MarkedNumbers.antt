@@ -19,7 +19,7 @@ use Rattle.laws.proofs.Counts.{count-ext, count-none, count-some}
 use Rattle.laws.proofs.Stores.{zeros}
 use Rattle.laws.proofs.Loops.{some-none, some-more}
 use Rattle.station.specs.Head.{Head}
-use Rattle.placing.specs.Table.{cell, kindOf, numberIn, isCall, callCell, hasJob, hasPreset}
+use Rattle.placing.specs.Table.{cell, kindOf, numberIn, isCall, callCell, hasJob, hasPreset, motors}
 use Rattle.placing.proofs.CountedCells.{kindOf-call, numberIn-call, isCall-call}
 use Rattle.placing.specs.method.Jobs.{marked}
 use Rattle.placing.specs.method.Counts.{CountsOf, Marked, Marks, CapacitiesAt, MarkedBeside}
@@ -177,7 +177,7 @@ module _ (h : Head) (clock : ℕ) (t : List ℕ) {u : List ℕ} (m : Marked t (h
       m .which n l ∙ ap (λ (k : ℕ). ltb 0 k) (sum-rows (h .slots) (h .bridges) (λ i. bit (eqb (getD t i 0) (callCell n))))
 
   pub counts-of : {w xs : List ℕ} {admitted : ℕ} → length w ≡ 256 → ((n : ℕ) → n < 256 → marked w n ≡ (hasPreset h n || marked u n)) → admitted ≡ count 256 (marked u)
-      → CapacitiesAt t (h .slots) (h .bridges) clock xs → CountsOf h clock (cell h t) w admitted xs
+      → CapacitiesAt t (h .slots) (h .bridges) (motors h) clock xs → CountsOf h clock (cell h t) w admitted xs
   counts-of size numbers many x =
       record {
         marks-long = size;

@@ -10,14 +10,14 @@ use mathlib.Core.Path.{_≡_, refl, sym, _∙_, ap, ap₂}
 use mathlib.Core.Bool.{true, false, not}
 use mathlib.Core.Option.{none, some}
 use mathlib.Core.List.{List, [], _∷_, _++_}
-use lib.ListN.{length, set, take, drop, replicate, length-set, length-drop}
+use lib.ListN.{getD, length, set, take, drop, replicate, length-set, length-drop}
 use lib.Seq.{getD-set-same, getD-set-other, getD-drop, ext-getD}
 use lib.Dec.{eqb, ltb}
 use Rattle.laws.specs.Lists.{at, tabulate}
 use Rattle.laws.proofs.Tests.{Is, is, is-true, is-false, not-is-true, not-is-false}
 use Rattle.laws.proofs.Comparisons.{eq-of, ne-of, ltb-yes, ltb-no}
 use Rattle.laws.proofs.Lists.{length-tabulate, at-tabulate}
-use Rattle.station.specs.Head.{Head, Preset, presetAt}
+use Rattle.station.specs.Head.{Head, Preset, presetAt, hasBit}
 use Rattle.station.specs.Refusal.{Refusal, outOfLimits, tooShort, mandatoryNotFeasible, try, firstOf}
 use Rattle.station.proofs.Theorems.{first-of-none, passed, append-none, cause-last}
 use Rattle.station.specs.Types.{headIn, validRecord, refusalIn}
@@ -26,10 +26,13 @@ use Rattle.station.specs.declared.types.Head as record-of-head
 use Rattle.station.specs.declared.types.Refusal as cause
 use Rattle.station.specs.declared.types.Refusal.the-variants.{OutOfLimits, MandatoryNotFeasible, TooShort}
 use Rattle.placing.specs.Table.{busyCell, Each, cell, presetCount, mandatoryCell, optionalCell}
-use Rattle.placing.specs.Plan.{mandatories, planFree, planFits, needs, grants, tieOf, planned}
+use Rattle.placing.specs.Plan.{planFreeCount, mandatories, planFree, planFits, needs, grants, tieOf, planned}
 use Rattle.placing.specs.method.Records.{recordAt}
 use Rattle.placing.specs.method.Grants.{freeMasks, GrantedTo}
-use Rattle.placing.specs.method.Rule.{placedIn, placedWithin}
+use Rattle.laws.proofs.Counts.{count-ext}
+use Rattle.placing.proofs.FreeNumber.{plan-free-is}
+use Rattle.placing.proofs.MaskBits.{hasBit-mask}
+use Rattle.placing.specs.method.Rule.{freeIn, Fillable, placedIn, placedWithin}
 use Rattle.placing.specs.Outcomes.{PlanAnswer, PlanOutcome, planCauses, planOf, written}
 use Rattle.placing.specs.Causes.{causesOf}
 use Rattle.placing.specs.PlanDone.{planMeant, PlanDone, repliedIn, grantsIn}
@@ -114,21 +117,34 @@ module _ (head : record-of-head.Head) (ps : List record-of-preset.Preset) (long 
       let k : i < head .count = omega (arith, same) in
       ap (λ (q : List ℕ). at q i) e ∙ filled-at 64 (head .count) (λ j. p (recordAt ps j)) i k (omega (arith, count-high head ps v)) ∙ agree i k
 
-  pub plan-written : (t : List ℕ) {u masks first early late : List ℕ} → 512 ≤ length t
+  -- no slot gets more presets than it has free bridges
+  pub plan-fillable : (counts : List ℕ) {masks : List ℕ} → masks ≡ freeMasks (head .slots) (head .bridges) (head .busy) → ((s : ℕ) → s < head .slots → getD counts s 0 ≡ planFreeCount h s)
+      → Fillable (head .slots) (head .bridges) masks counts
+  plan-fillable counts {masks} em ec s l =
+      omega (
+        arith,
+        ec s l,
+        plan-free-is h s,
+        count-ext (head .bridges) (freeIn masks s) (λ b. planFree h s b)
+            (λ b m. ap (λ (q : List ℕ). hasBit (at q s) b) em ∙ ap (λ (n : ℕ). hasBit n b) (free-at head ps s (record-valid head ps v .slots-high) l) ∙ hasBit-mask (head .bridges) (λ a. planFree h s a) b m),
+      )
+
+  pub plan-written : (t counts : List ℕ) {u masks first early late : List ℕ} → 512 ≤ length t
       → u ≡ busyTo t (head .slots * head .bridges)
       → masks ≡ freeMasks (head .slots) (head .bridges) (head .busy)
+      → ((s : ℕ) → s < head .slots → getD counts s 0 ≡ planFreeCount h s)
       → first ≡ filled 64 (head .count) (λ i. recordAt ps i .mandatory)
       → early ≡ filled 64 (head .count) (λ i. 512 + recordAt ps i .number)
       → late ≡ filled 64 (head .count) (λ i. 768 + recordAt ps i .number)
-      → placedWithin (tieOf (h .hold)) (head .slots) (head .bridges) masks (r .needs) (head .count) first early late u ≡ written h (planned (tieOf (h .hold)) h) t
+      → placedWithin (tieOf (h .hold)) (head .slots) (head .bridges) masks counts (r .needs) (head .count) first early late u ≡ written h (planned (tieOf (h .hold)) h) t
   unfolding written
-  plan-written t {u} {masks} {first} {early} {late} enough eu em ef ee el =
-      placed-within (tieOf (h .hold)) (head .slots) (head .bridges) masks (r .needs) (head .count) first early late u
+  plan-written t counts {u} {masks} {first} {early} {late} enough eu em ec ef ee el =
+      placed-within (tieOf (h .hold)) (head .slots) (head .bridges) masks counts (r .needs) (head .count) first early late u
       (is-placeable (head .slots) (head .bridges) (r .needs) (head .count) (length u) (record-valid head ps v .slots-high) (record-valid head ps v .bridges-high)
       (omega (arith, count-high head ps v)) (omega (arith, ap length eu, busy-length t (head .slots * head .bridges))) low)
-      ∙ ap (λ (c : List ℕ). placedIn (tieOf (h .hold)) (head .slots) (head .bridges) masks c first early late u) needs-are
-      ∙ placed-planned (tieOf (h .hold)) h masks first early late u (needs-length h r g start few)
-      (λ s l. ap (λ (q : List ℕ). at q s) em ∙ free-at head ps s (record-valid head ps v .slots-high) l)
+      ∙ ap (λ (c : List ℕ). placedIn (tieOf (h .hold)) (head .slots) (head .bridges) masks counts c first early late u) needs-are
+      ∙ placed-planned (tieOf (h .hold)) h masks counts first early late u (needs-length h r g start few)
+      (λ s l. ap (λ (q : List ℕ). at q s) em ∙ free-at head ps s (record-valid head ps v .slots-high) l) ec
       (of-preset (λ (p : Preset). p .mandatory) (λ (p : record-of-preset.Preset). p .mandatory) (λ i l. ap (λ (p : Preset). p .mandatory) (sym (preset-of head ps i l))) ef)
       (of-preset (λ (p : Preset). mandatoryCell (p .number)) (λ (p : record-of-preset.Preset). 512 + p .number) (λ i l. ap (λ (p : Preset). mandatoryCell (p .number)) (sym (preset-of head ps i l))) ee)
       (of-preset (λ (p : Preset). optionalCell (p .number)) (λ (p : record-of-preset.Preset). 768 + p .number) (λ i l. ap (λ (p : Preset). optionalCell (p .number)) (sym (preset-of head ps i l))) el)

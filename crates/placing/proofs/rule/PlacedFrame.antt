@@ -23,7 +23,7 @@ use Rattle.laws.proofs.Placement.{atSlot-ext, lrtf-ext}
 use Rattle.station.specs.Head.{Head, Job, presetAt, hasBit}
 use Rattle.placing.specs.Table.{Cells, Each, cell, presetCount, numberAt, mandatoryCell, optionalCell, busyCell, callCell}
 use Rattle.placing.specs.Valid.{jobAt}
-use Rattle.placing.specs.Plan.{placing, freeCount, planFree, planFreeCount, planCell, needs, planned}
+use Rattle.placing.specs.Plan.{placing, planFree, planFreeCount, planCell, needs, planned}
 use Rattle.placing.specs.Call.{callFree, lengths, called, callFreeCount}
 use Rattle.placing.specs.Outcomes.{written}
 use Rattle.placing.specs.method.Mask.{bridgeMask}
@@ -60,15 +60,16 @@ module _ (n B k : ℕ) (f g a a′ : ℕ → ℕ → Bool) (v w : ℕ → ℕ �
       go (is-true e) = rw e (sum-ext k taken-by-f taken-by-g one)
       go (is-false e) = rw e (holds s b l m e)
 
--- The table that `place` leaves, of a head's frame, where the masks are those of the free bridges f: job i writes v i s in slot s, and where a bridge is not
--- free the lent table holds what u does.
-pub placed-written : (ties : Ties) (h : Head) (masks c first early late t : List ℕ) (f : ℕ → ℕ → Bool) (v : ℕ → ℕ → ℕ) (u : Cells)
+-- The table that `place` leaves, of a head's frame, where the masks are those of the free bridges f and x s of them are filled in slot s at the most: job i writes v i s in slot s, and where
+-- a bridge is not free the lent table holds what u does.
+pub placed-written : (ties : Ties) (h : Head) (masks counts c first early late t : List ℕ) (f : ℕ → ℕ → Bool) (x : ℕ → ℕ) (v : ℕ → ℕ → ℕ) (u : Cells)
     → ((s : ℕ) → s < h .slots → at masks s ≡ bridgeMask (h .bridges) (λ b. f s b))
-    → ((i s : ℕ) → i < length c → s < h .slots → cellIn ties c (freeCount (h .bridges) f) first early late i s ≡ v i s)
+    → ((s : ℕ) → s < h .slots → at counts s ≡ x s)
+    → ((i s : ℕ) → i < length c → s < h .slots → cellIn ties c x first early late i s ≡ v i s)
     → Each h (λ s b. f s b ≡ false → cell h t s b ≡ u s b)
-    → placedIn ties (h .slots) (h .bridges) masks c first early late t ≡ written h (placing (length c) f (λ i s. lrtf ties nobody c (freeCount (h .bridges) f) i s) v u) t
+    → placedIn ties (h .slots) (h .bridges) masks counts c first early late t ≡ written h (placing (length c) f (λ i s. lrtf ties nobody c x i s) v u) t
 unfolding placedIn written
-placed-written ties h masks c first early late t f v u masked writes holds =
+placed-written ties h masks counts c first early late t f x v u masked counted writes holds =
     ap (λ (l : List ℕ). l ++ drop (h .slots * B) t) (tabulate-ext (h .slots * B) _ _ one)
   where
     B : ℕ
@@ -77,36 +78,34 @@ placed-written ties h masks c first early late t f v u masked writes holds =
     free : (s b : ℕ) → s < h .slots → b < B → freeIn masks s b ≡ f s b
     free s b l m = ap (λ (n : ℕ). hasBit n b) (masked s l) ∙ hasBit-mask B (λ a. f s a) b m
 
-    counts : (s : ℕ) → s < h .slots → freeCount B (freeIn masks) s ≡ freeCount B f s
-    counts s m = count-ext B (λ b. freeIn masks s b) (λ b. f s b) (λ b k. free s b m k)
-
-    wrote : (i s : ℕ) → i < length c → s < h .slots → cellIn ties c (freeCount B (freeIn masks)) first early late i s ≡ v i s
+    wrote : (i s : ℕ) → i < length c → s < h .slots → cellIn ties c (at counts) first early late i s ≡ v i s
     wrote i s j l =
         ap (λ (r : AtSlot). jobCell (at c i) (at (r .needs) i) (at first i) (at early i) (at late i))
-        (atSlot-ext ties nobody c (h .slots) (freeCount B (freeIn masks)) (freeCount B f) counts s (omega arith))
+        (atSlot-ext ties nobody c (h .slots) (at counts) x counted s (omega arith))
         ∙ writes i s j l
 
     one : (i : ℕ) → i < h .slots * B
-        → placing (length c) (freeIn masks) (λ j s. lrtf ties nobody c (freeCount B (freeIn masks)) j s) (cellIn ties c (freeCount B (freeIn masks)) first early late) (cell h t) (i / B) (i % B)
-        ≡ placing (length c) f (λ j s. lrtf ties nobody c (freeCount B f) j s) v u (i / B) (i % B)
+        → placing (length c) (freeIn masks) (λ j s. lrtf ties nobody c (at counts) j s) (cellIn ties c (at counts) first early late) (cell h t) (i / B) (i % B)
+        ≡ placing (length c) f (λ j s. lrtf ties nobody c x j s) v u (i / B) (i % B)
     one i l =
         let p = place-of (h .slots) B i l in
-        placing-ext (h .slots) B (length c) (freeIn masks) f (λ j s. lrtf ties nobody c (freeCount B (freeIn masks)) j s) (λ j s. lrtf ties nobody c (freeCount B f) j s)
-        (cellIn ties c (freeCount B (freeIn masks)) first early late) v (cell h t) u free
-        (lrtf-ext ties nobody c (h .slots) (freeCount B (freeIn masks)) (freeCount B f) counts) wrote holds
+        placing-ext (h .slots) B (length c) (freeIn masks) f (λ j s. lrtf ties nobody c (at counts) j s) (λ j s. lrtf ties nobody c x j s)
+        (cellIn ties c (at counts) first early late) v (cell h t) u free
+        (lrtf-ext ties nobody c (h .slots) (at counts) x counted) wrote holds
         (i / B) (i % B) (p .0) (p .1)
 
 -- the table of a plan, where busy cells stand in the lent table already
-pub placed-planned : (ties : Ties) (h : Head) (masks first early late t : List ℕ) → length (needs h) ≡ presetCount h
+pub placed-planned : (ties : Ties) (h : Head) (masks counts first early late t : List ℕ) → length (needs h) ≡ presetCount h
     → ((s : ℕ) → s < h .slots → at masks s ≡ bridgeMask (h .bridges) (λ b. planFree h s b))
+    → ((s : ℕ) → s < h .slots → at counts s ≡ planFreeCount h s)
     → ((i : ℕ) → i < presetCount h → at first i ≡ presetAt h i .mandatory)
     → ((i : ℕ) → i < presetCount h → at early i ≡ mandatoryCell (numberAt h i))
     → ((i : ℕ) → i < presetCount h → at late i ≡ optionalCell (numberAt h i))
     → Each h (λ s b. planFree h s b ≡ false → cell h t s b ≡ busyCell)
-    → placedIn ties (h .slots) (h .bridges) masks (needs h) first early late t ≡ written h (planned ties h) t
+    → placedIn ties (h .slots) (h .bridges) masks counts (needs h) first early late t ≡ written h (planned ties h) t
 unfolding planned
-placed-planned ties h masks first early late t long masked mandatory early-cell late-cell busy =
-    placed-written ties h masks (needs h) first early late t (planFree h) (planCell ties h (needs h)) (λ s b. busyCell) masked writes busy
+placed-planned ties h masks counts first early late t long masked counted mandatory early-cell late-cell busy =
+    placed-written ties h masks counts (needs h) first early late t (planFree h) (planFreeCount h) (planCell ties h (needs h)) (λ s b. busyCell) masked counted writes busy
   where
     writes : (i s : ℕ) → i < length (needs h) → s < h .slots → cellIn ties (needs h) (planFreeCount h) first early late i s ≡ planCell ties h (needs h) i s
     writes i s l m =
@@ -114,15 +113,16 @@ placed-planned ties h masks first early late t long masked mandatory early-cell 
         rw (mandatory i j, early-cell i j, late-cell i j) refl
 
 -- the table of a call
-pub placed-called : (ties : Ties) (h : Head) (clock : ℕ) (jobs : List Job) (masks first early late t : List ℕ)
+pub placed-called : (ties : Ties) (h : Head) (clock : ℕ) (jobs : List Job) (masks counts first early late t : List ℕ)
     → ((s : ℕ) → s < h .slots → at masks s ≡ bridgeMask (h .bridges) (λ b. callFree h clock jobs (cell h t) s b))
+    → ((s : ℕ) → s < h .slots → at counts s ≡ callFreeCount h clock jobs (cell h t) s)
     → ((i : ℕ) → i < length jobs → at first i ≡ 0)
     → ((i : ℕ) → i < length jobs → at late i ≡ callCell (jobAt jobs i .number))
-    → placedIn ties (h .slots) (h .bridges) masks (lengths jobs) first early late t ≡ written h (called ties h clock jobs (cell h t)) t
+    → placedIn ties (h .slots) (h .bridges) masks counts (lengths jobs) first early late t ≡ written h (called ties h clock jobs (cell h t)) t
 unfolding called
-placed-called ties h clock jobs masks first early late t masked never late-cell =
-    placed-written ties h masks (lengths jobs) first early late t (callFree h clock jobs (cell h t)) (λ i s. callCell (jobAt jobs i .number)) (cell h t)
-    masked writes (λ s b l m e. refl)
+placed-called ties h clock jobs masks counts first early late t masked counted never late-cell =
+    placed-written ties h masks counts (lengths jobs) first early late t (callFree h clock jobs (cell h t)) x (λ i s. callCell (jobAt jobs i .number)) (cell h t)
+    masked counted writes (λ s b l m e. refl)
   where
     x : ℕ → ℕ
     x = callFreeCount h clock jobs (cell h t)

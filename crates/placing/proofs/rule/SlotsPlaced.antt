@@ -21,11 +21,11 @@ use Rattle.laws.proofs.Tests.{Is, is-true, is-false, is, both, left-of, right-o
 use Rattle.laws.proofs.Comparisons.{lt-of, le-of, ge-of, eq-of, ne-of, leb-yes, leb-no, ltb-no}
 use Rattle.laws.proofs.Every.{every-all, all-every}
 use Rattle.laws.proofs.Sums.{sum-zero, sum-below}
-use Rattle.laws.proofs.Counts.{bit-positive, count-none}
+use Rattle.laws.proofs.Counts.{bit-positive}
 use Rattle.laws.proofs.Lists.{length-tabulate, at-tabulate, at-past}
 use Rattle.laws.proofs.Placement.{left-length, left-step, left-got, held-step}
 use Rattle.station.specs.Head.{hasBit}
-use Rattle.placing.specs.Plan.{placing, freeCount, tieOf}
+use Rattle.placing.specs.Plan.{placing, tieOf}
 use Rattle.placing.specs.method.Limits.{sizesInLimits}
 use Rattle.placing.specs.method.Rule.{dueCells, RowWritten, EmptyRow, Levelled, freeIn, cellIn, cellsIn, placeable, placedIn, placedWithin}
 use Rattle.placing.proofs.limits.Within.{in-limits, limits-of}
@@ -37,9 +37,9 @@ use Rattle.placing.proofs.rule.row.RowWritten.{due-cell, row-as-it-was,
 -- ---- the table, slot by slot
 
 -- what cell b of slot s is to hold
-abbrev pub cellOf : Ties → ℕ → List ℕ → List ℕ → List ℕ → List ℕ → List ℕ → List ℕ → ℕ → ℕ → ℕ
-cellOf ties B masks c first early late t s b =
-    placing (length c) (freeIn masks) (λ i r. lrtf ties nobody c (freeCount B (freeIn masks)) i r) (cellIn ties c (freeCount B (freeIn masks)) first early late) (cellsIn B t) s b
+abbrev pub cellOf : Ties → ℕ → List ℕ → List ℕ → List ℕ → List ℕ → List ℕ → List ℕ → List ℕ → ℕ → ℕ → ℕ
+cellOf ties B masks counts c first early late t s b =
+    placing (length c) (freeIn masks) (λ i r. lrtf ties nobody c (at counts) i r) (cellIn ties c (at counts) first early late) (cellsIn B t) s b
 
 -- the slot and the bridge of a cell of n slots and B bridges
 pub place-of : (n B i : ℕ) → i < n * B → (i / B < n) × (i % B < B)
@@ -106,14 +106,14 @@ module _ (B : ℕ) (w : ℕ → ℕ → ℕ) (t : List ℕ) where
           ∙ sym (ap (at (front ++ rest)) over ∙ getD-append-add front rest (i - n * B) 0 ∙ getD-drop (n * B) t (i - n * B) 0 ∙ ap (at t) back)
 
 -- The row that the code writes in slot s is the rule's. Of the 64 jobs of a mask only those of the list are chosen.
-pub row-rule : (ties : Ties) (B : ℕ) (masks c first early late t u : List ℕ) (s : ℕ) (a : ℕ → Bool) (v : ℕ → ℕ) → length c ≤ 64
-    → ((i : ℕ) → i < 64 → a i ≡ lrtf ties nobody c (freeCount B (freeIn masks)) i s)
-    → ((i : ℕ) → i < length c → v i ≡ cellIn ties c (freeCount B (freeIn masks)) first early late i s)
-    → SlotsPlaced B (cellOf ties B masks c first early late t) t u s
+pub row-rule : (ties : Ties) (B : ℕ) (masks counts c first early late t u : List ℕ) (s : ℕ) (a : ℕ → Bool) (v : ℕ → ℕ) → length c ≤ 64
+    → ((i : ℕ) → i < 64 → a i ≡ lrtf ties nobody c (at counts) i s)
+    → ((i : ℕ) → i < length c → v i ≡ cellIn ties c (at counts) first early late i s)
+    → SlotsPlaced B (cellOf ties B masks counts c first early late t) t u s
     → (b : ℕ) → b < B
-    → slotCell 64 a (λ d. freeIn masks s d) v (λ d. at u (s * B + d)) b ≡ cellOf ties B masks c first early late t s b
+    → slotCell 64 a (λ d. freeIn masks s d) v (λ d. at u (s * B + d)) b ≡ cellOf ties B masks counts c first early late t s b
 unfolding placing
-row-rule ties B masks c first early late t u s a v few p q done b l =
+row-rule ties B masks counts c first early late t u s a v few p q done b l =
     ap (λ (n : ℕ). cond (freeIn masks s b) n (at u (s * B + b)))
     (sym (sum-below (length c) 64 (λ i. only (takes a (λ d. freeIn masks s d) i b) (v i)) few (λ i h m.
     ap (λ (x : Bool). only x (v i)) (takes-not-chosen a (λ d. freeIn masks s d) i b (p i m ∙ past i h)))))
@@ -124,7 +124,7 @@ row-rule ties B masks c first early late t u s a v few p q done b l =
     (λ i h. p i (omega arith)) q (done .after (s * B + b) (omega arith))
   where
     x : ℕ → ℕ
-    x = freeCount B (freeIn masks)
+    x = at counts
 
     past : (i : ℕ) → length c ≤ i → lrtf ties nobody c x i s ≡ false
     past i h = rw (at-past (left ties nobody c x s) i (omega (arith, left-length ties nobody c x s, h))) refl
@@ -140,17 +140,17 @@ module _ (n B : ℕ) (few : n ≤ 64) (narrow : B ≤ 8) where
 -- ---- one turn of the code's loop
 
 -- how far the rule has come before slot s
-abbrev pub reached : Bool → ℕ → List ℕ → List ℕ → ℕ → AtSlot
-reached hold B masks c s = atSlot (tieOf hold) nobody c (freeCount B (freeIn masks)) s
+abbrev pub reached : Bool → List ℕ → List ℕ → ℕ → AtSlot
+reached hold counts c s = atSlot (tieOf hold) nobody c (at counts) s
 
 -- Before slot s: the table so far, the array of the first slots that are still due, the needs that are left by levels, none of them above `top`, and the mask of those who
 -- go first among equal ones.
-pub record Progress (hold : Bool) (B : ℕ) (masks c first early late t : List ℕ) (k s : ℕ) (u l levels : List ℕ) (top held : ℕ) : Type 0 where
-  pub table : SlotsPlaced B (cellOf (tieOf hold) B masks c first early late t) t u s
-  pub due : (i : ℕ) → i < k → at l i ≡ at first i - (at c i - at (reached hold B masks c s .needs) i)
-  pub levelled : Levelled levels (at (reached hold B masks c s .needs))
-  pub most : (i : ℕ) → i < 64 → at (reached hold B masks c s .needs) i ≤ top
-  pub ahead : (i : ℕ) → i < k → hasBit held i ≡ (hold && holds (reached hold B masks c s) i)
+pub record Progress (hold : Bool) (B : ℕ) (masks counts c first early late t : List ℕ) (k s : ℕ) (u l levels : List ℕ) (top held : ℕ) : Type 0 where
+  pub table : SlotsPlaced B (cellOf (tieOf hold) B masks counts c first early late t) t u s
+  pub due : (i : ℕ) → i < k → at l i ≡ at first i - (at c i - at (reached hold counts c s .needs) i)
+  pub levelled : Levelled levels (at (reached hold counts c s .needs))
+  pub most : (i : ℕ) → i < 64 → at (reached hold counts c s .needs) i ≤ top
+  pub ahead : (i : ℕ) → i < k → hasBit held i ≡ (hold && holds (reached hold counts c s) i)
 
 -- Who goes first among equal ones, by a mask: where it has those who hold under `hold`, and nobody else, it is the order in force.
 tie-agrees : (hold : Bool) (s k : ℕ) (p q : ℕ → Bool) → ((i : ℕ) → i < k → p i ≡ (hold && q i))
@@ -165,7 +165,7 @@ held-bit true m i = refl
 held-bit false m i = hasBit-zero i
 
 -- the jobs of an array of which the first k count
-module _ (hold : Bool) (B : ℕ) (masks array first early late t : List ℕ) (k : ℕ) where
+module _ (hold : Bool) (B : ℕ) (masks counts array first early late t : List ℕ) (k : ℕ) where
   abbrev ties : Ties
   ties = tieOf hold
 
@@ -173,15 +173,15 @@ module _ (hold : Bool) (B : ℕ) (masks array first early late t : List ℕ) (k 
   c = take k array
 
   abbrev free : ℕ → ℕ
-  free = freeCount B (freeIn masks)
+  free = at counts
 
   -- before the first slot
   pub progress-none : (levels : List ℕ) (top : ℕ) → Levelled levels (at c) → ((i : ℕ) → i < k → at array i ≤ top)
-      → Progress hold B masks c first early late t k 0 t first levels top 0
+      → Progress hold B masks counts c first early late t k 0 t first levels top 0
   unfolding atSlot
   progress-none levels top h most =
       record {
-        table = slots-none B (cellOf ties B masks c first early late t) t;
+        table = slots-none B (cellOf ties B masks counts c first early late t) t;
         due = λ i l. omega arith;
         levelled = h;
         most = λ i l. go i (is (ltb i k));
@@ -194,7 +194,7 @@ module _ (hold : Bool) (B : ℕ) (masks array first early late t : List ℕ) (k 
 
   -- One slot: the choice, the row, what is due after it and the levels, as the code's functions state them.
   module _ (enough : k ≤ length array) (few : k ≤ 64) (s : ℕ) (u l levels : List ℕ) (top held : ℕ)
-      (so-far : Progress hold B masks c first early late t k s u l levels top held) (got : ℕ)
+      (so-far : Progress hold B masks counts c first early late t k s u l levels top held) (got : ℕ)
       (picks : (i : ℕ) → i < 64 → hasBit got i ≡ chosen (tieHold 0 (hasBit held)) 64 (at (left ties nobody c free s)) (free s) i) where
     long : length c ≡ k
     long = length-take-le k array enough
@@ -205,9 +205,9 @@ module _ (hold : Bool) (B : ℕ) (masks array first early late t : List ℕ) (k 
     chooses : (i : ℕ) → i < 64 → hasBit got i ≡ lrtf ties nobody c free i s
     chooses i h =
         picks i h
-        ∙ chosen-past (tieHold 0 (hasBit held)) (ties s (holds (reached hold B masks c s))) (length (left ties nobody c free s)) 64 (at (left ties nobody c free s))
+        ∙ chosen-past (tieHold 0 (hasBit held)) (ties s (holds (reached hold counts c s))) (length (left ties nobody c free s)) 64 (at (left ties nobody c free s))
         (omega (arith, many, few)) (at-past (left ties nobody c free s))
-        (λ j m p q. tie-agrees hold s k (hasBit held) (holds (reached hold B masks c s)) (so-far .ahead) j m (omega (arith, p, many)) (omega (arith, q, many))) (free s) i
+        (λ j m p q. tie-agrees hold s k (hasBit held) (holds (reached hold counts c s)) (so-far .ahead) j m (omega (arith, p, many)) (omega (arith, q, many))) (free s) i
 
     after : (i : ℕ) → i < 64 → at (left ties nobody c free s) i - bit (hasBit got i) ≡ at (left ties nobody c free (s + 1)) i
     after i h = rw (add-one s) (omega (arith, left-step ties nobody c free i s, ap bit (chooses i h)))
@@ -219,14 +219,14 @@ module _ (hold : Bool) (B : ℕ) (masks array first early late t : List ℕ) (k 
         → RowWritten u v (s * B) B (slotCell 64 (hasBit got) (hasBit (at masks s)) (dueCells l early late) (λ b. at u (s * B + b)))
         → ((i : ℕ) → at m i ≡ at l i - bit (hasBit got i))
         → Levelled levels′ (λ i. at (left ties nobody c free s) i - bit (hasBit got i))
-        → Progress hold B masks c first early late t k (s + 1) v m levels′ top′ (cond hold got 0)
+        → Progress hold B masks counts c first early late t k (s + 1) v m levels′ top′ (cond hold got 0)
     progress-more v m levels′ top′ most row rest moved =
         record {
           table =
-              slots-more B (cellOf ties B masks c first early late t) t u v s
+              slots-more B (cellOf ties B masks counts c first early late t) t u v s
               (slotCell 64 (hasBit got) (hasBit (at masks s)) (dueCells l early late) (λ b. at u (s * B + b)))
               (so-far .table) row
-              (row-rule ties B masks c first early late t u s (hasBit got) (dueCells l early late) (omega (arith, long, few)) chooses wrote (so-far .table));
+              (row-rule ties B masks counts c first early late t u s (hasBit got) (dueCells l early late) (omega (arith, long, few)) chooses wrote (so-far .table));
           due = λ i h.
               let step = left-step ties nobody c free i s in
               rw (add-one s) (omega (arith, rest i, so-far .due i h, step, left-got ties nobody c free i s, ap bit (chooses i (omega (arith, h, few)))));
@@ -239,10 +239,10 @@ module _ (hold : Bool) (B : ℕ) (masks array first early late t : List ℕ) (k 
         }
 
   -- a slot with no free bridge: nobody has a cell in it, so that nobody holds after it
-  pub progress-over : k ≤ length array → k ≤ 64 → (s : ℕ) (u l levels : List ℕ) (top held top′ : ℕ) → Progress hold B masks c first early late t k s u l levels top held
-      → at masks s ≡ 0 → ((i : ℕ) → i < 64 → at (left ties nobody c free s) i ≤ top′)
-      → Progress hold B masks c first early late t k (s + 1) u l levels top′ (cond hold 0 0)
-  progress-over enough few s u l levels top held top′ so-far empty most =
+  pub progress-over : k ≤ length array → k ≤ 64 → (s : ℕ) (u l levels : List ℕ) (top held top′ : ℕ) → Progress hold B masks counts c first early late t k s u l levels top held
+      → at masks s ≡ 0 → free s ≡ 0 → ((i : ℕ) → i < 64 → at (left ties nobody c free s) i ≤ top′)
+      → Progress hold B masks counts c first early late t k (s + 1) u l levels top′ (cond hold 0 0)
+  progress-over enough few s u l levels top held top′ so-far empty unfilled most =
       progress-more enough few s u l levels top held so-far 0 idle u l levels top′ most
       (row-as-it-was u (s * B) _ B (λ b h. sym (rw (off b) refl))) (λ i. omega (arith, ap bit (hasBit-zero i)))
       (λ q i p r j. so-far .levelled q i p r j ∙ ap (λ (n : ℕ). eqb n q) (omega (arith, ap bit (hasBit-zero i))))
@@ -253,11 +253,11 @@ module _ (hold : Bool) (B : ℕ) (masks array first early late t : List ℕ) (k 
       idle : (i : ℕ) → i < 64 → hasBit 0 i ≡ chosen (tieHold 0 (hasBit held)) 64 (at (left ties nobody c free s)) (free s) i
       idle i h =
           hasBit-zero i
-          ∙ sym (ap (λ (d : ℕ). chosen (tieHold 0 (hasBit held)) 64 (at (left ties nobody c free s)) d i) (count-none B (λ b. freeIn masks s b) (λ b m. off b))
+          ∙ sym (ap (λ (d : ℕ). chosen (tieHold 0 (hasBit held)) 64 (at (left ties nobody c free s)) d i) unfilled
           ∙ (rw (ltb-no (position 64 (goesFirst (tieHold 0 (hasBit held)) (at (left ties nobody c free s))) i) 0 zero-le) (and-false (ltb 0 (at (left ties nobody c free s) i)))))
 
   -- Nobody needs a cell any more, and the free ones of the slots from s on are empty: these are as they are to be.
-  module _ (s : ℕ) (u l levels : List ℕ) (top held : ℕ) (so-far : Progress hold B masks c first early late t k s u l levels top held) (few : k ≤ 64)
+  module _ (s : ℕ) (u l levels : List ℕ) (top held : ℕ) (so-far : Progress hold B masks counts c first early late t k s u l levels top held) (few : k ≤ 64)
       (none : (i : ℕ) → i < 64 → at (left ties nobody c free s) i ≤ 0) where
     now : (i : ℕ) → i < length c → at (left ties nobody c free s) i ≡ 0
     now i h = omega (arith, none i (omega (arith, h, few, length-take k array)))
@@ -270,11 +270,11 @@ module _ (hold : Bool) (B : ℕ) (masks array first early late t : List ℕ) (k 
         go ih (is-true e) = rw (eq-of s (suc q) e) at (now i h)
         go ih (is-false e) = let ne : s ≡ suc q → ⊥ = ne-of s (suc q) e in omega (arith, left-step ties nobody c free i q, ih (omega (arith, ne, m)))
 
-    as-it-was : (q b : ℕ) → s ≤ q → (freeIn masks q b ≡ true → at t (q * B + b) ≡ 0) → at t (q * B + b) ≡ cellOf ties B masks c first early late t q b
+    as-it-was : (q b : ℕ) → s ≤ q → (freeIn masks q b ≡ true → at t (q * B + b) ≡ 0) → at t (q * B + b) ≡ cellOf ties B masks counts c first early late t q b
     unfolding placing
     as-it-was q b m clean = go (is (freeIn masks q b))
       where
-        go : Is (freeIn masks q b) → at t (q * B + b) ≡ cellOf ties B masks c first early late t q b
+        go : Is (freeIn masks q b) → at t (q * B + b) ≡ cellOf ties B masks counts c first early late t q b
         go (is-true e) =
             clean e
             ∙ sym (ap (λ (x : Bool). cond x (sum (length c) (λ i. only (takes (λ j. lrtf ties nobody c free j q) (λ d. freeIn masks q d) i b) (cellIn ties c free first early late i q))) (at t (q * B + b))) e
@@ -283,7 +283,7 @@ module _ (hold : Bool) (B : ℕ) (masks array first early late t : List ℕ) (k 
         go (is-false e) = sym (rw e refl)
 
     pub progress-idle : (n : ℕ) → s ≤ n → ((q : ℕ) → s ≤ q → q < n → EmptyRow t (q * B) B (freeIn masks q))
-        → SlotsPlaced B (cellOf ties B masks c first early late t) t u n
+        → SlotsPlaced B (cellOf ties B masks counts c first early late t) t u n
     progress-idle n more clean =
         record {
           long = so-far .table .long;
@@ -291,7 +291,7 @@ module _ (hold : Bool) (B : ℕ) (masks array first early late t : List ℕ) (k 
           after = λ i h. so-far .table .after i (omega (arith, h, mul-le-mul-right {m = s} {n = n} B more));
         }
       where
-        go : (q b : ℕ) → q < n → b < B → Is (ltb q s) → at u (q * B + b) ≡ cellOf ties B masks c first early late t q b
+        go : (q b : ℕ) → q < n → b < B → Is (ltb q s) → at u (q * B + b) ≡ cellOf ties B masks counts c first early late t q b
         go q b h m (is-true e) = so-far .table .inside q b (lt-of q s e) m
         go q b h m (is-false e) =
             let past : s ≤ q = ge-of q s e in
@@ -335,12 +335,12 @@ module _ (slots bridges : ℕ) (needs : List ℕ) (k cells : ℕ) where
         λ i q. let m = le-of (at needs i) 64 (every-all k (λ j. leb (at needs j) 64) (right-of fewJobs lowNeeds both-of) i q) in omega (arith, m),
       )
 
-module _ (ties : Ties) (slots bridges : ℕ) (masks needs : List ℕ) (k : ℕ) (first early late t : List ℕ) where
+module _ (ties : Ties) (slots bridges : ℕ) (masks counts needs : List ℕ) (k : ℕ) (first early late t : List ℕ) where
   pub placed-within : placeable slots bridges needs k (length t) ≡ true
-      → placedWithin ties slots bridges masks needs k first early late t ≡ placedIn ties slots bridges masks (take k needs) first early late t
+      → placedWithin ties slots bridges masks counts needs k first early late t ≡ placedIn ties slots bridges masks counts (take k needs) first early late t
   unfolding placedWithin
   placed-within e = rw e refl
 
-  pub placed-beyond : placeable slots bridges needs k (length t) ≡ false → placedWithin ties slots bridges masks needs k first early late t ≡ t
+  pub placed-beyond : placeable slots bridges needs k (length t) ≡ false → placedWithin ties slots bridges masks counts needs k first early late t ≡ t
   unfolding placedWithin
   placed-beyond e = rw e refl

@@ -1,5 +1,5 @@
 -- The check of a table as the code does it: in one pass over the cells, each by the cells before it and the presets' numbers, then by the presets and by
--- the number of jobs. That it is the test `wellFormed` of specs/Table.antt is proved in proofs/check/table/SameTest.antt. Document 01, "The table".
+-- the number of jobs. That it is the test `wellFormed` of specs/Table.antt is proved in proofs/check/table/SameTest.antt. Document 01, "The table"; document 02, 2026-03.
 -- Assumes nothing.
 use Prim.Native.Nat.{ℕ, zero, suc, _+_, _*_, _-_, _≤_, _<_}
 use mathlib.Core.Path.{_≡_}
@@ -10,7 +10,7 @@ use lib.Dec.{ltb, leb, eqb}
 use Rattle.laws.specs.Sums.{count, every}
 use Rattle.station.specs.Head.{Head, Preset, hasBit, noPreset}
 use Rattle.station.specs.Limits.{mostFrameJobs}
-use Rattle.placing.specs.Table.{cellAt, numberIn, presetCount, eachCell}
+use Rattle.placing.specs.Table.{cellAt, numberIn, presetCount, motors, eachCell}
 
 -- ---- counts
 
@@ -54,19 +54,28 @@ differs t start n a = ltb (cellAt t (start + a)) 512 || not (eqb (numberIn (cell
 abbrev pub isNew : List ℕ → ℕ → ℕ → Bool
 isNew t start b = ltb (cellAt t (start + b)) 512 || every b (differs t start (numberIn (cellAt t (start + b))))
 
--- cell (s, b) of a frame with these bridges and busy masks, by the cells before it
-abbrev pub fitsAt : ℕ → List ℕ → List ℕ → List ℕ → ℕ → ℕ → Bool
-fitsAt bridges busy ns t s b =
-    cellFits ns (tally t (s * bridges + b)) (hasBit (getD busy b 0) s) (cellAt t (s * bridges + b)) && isNew t (s * bridges) b
+-- how many of the cells from `start` on have numbers, up to the one at b and without it: where each is of the five kinds, the "cells held by presets and calls"
+abbrev pub heldBefore : List ℕ → ℕ → ℕ → ℕ
+heldBefore t start b = count b (λ a. not (ltb (cellAt t (start + a)) 512))
+
+-- "Valid placements .. obey the cap, and a sound table does too": the cell at b of the slot has no number, or fewer cells before it in the slot have one than the
+-- supply feeds motors
+abbrev pub isFed : List ℕ → ℕ → ℕ → ℕ → Bool
+isFed t start fed b = ltb (cellAt t (start + b)) 512 || ltb (heldBefore t start b) fed
+
+-- cell (s, b) of a frame with these bridges, `fed` motors in a slot and these busy masks, by the cells before it
+abbrev pub fitsAt : ℕ → ℕ → List ℕ → List ℕ → List ℕ → ℕ → ℕ → Bool
+fitsAt bridges fed busy ns t s b =
+    cellFits ns (tally t (s * bridges + b)) (hasBit (getD busy b 0) s) (cellAt t (s * bridges + b)) && isNew t (s * bridges) b && isFed t (s * bridges) fed b
 
 -- ---- the first cell at fault
 
 -- Document 01: "scan of slots and bridges stops at the first cell at fault". `at` is the place of the first cell, slot by slot and in each slot bridge by bridge,
 -- that does not fit by the cells before it; where every cell fits, it is the number of the frame's cells.
-pub record FirstFault (slots bridges : ℕ) (busy ns t : List ℕ) (at : ℕ) : Type 0 where
+pub record FirstFault (slots bridges fed : ℕ) (busy ns t : List ℕ) (at : ℕ) : Type 0 where
   pub most : at ≤ slots * bridges
-  pub before : (s b : ℕ) → b < bridges → s * bridges + b < at → fitsAt bridges busy ns t s b ≡ true
-  pub fault : (s b : ℕ) → s < slots → b < bridges → s * bridges + b ≡ at → fitsAt bridges busy ns t s b ≡ false
+  pub before : (s b : ℕ) → b < bridges → s * bridges + b < at → fitsAt bridges fed busy ns t s b ≡ true
+  pub fault : (s b : ℕ) → s < slots → b < bridges → s * bridges + b ≡ at → fitsAt bridges fed busy ns t s b ≡ false
 
 -- ---- the presets and the jobs, by the counts of the whole table
 
@@ -86,6 +95,6 @@ hasCall c n = ltb 0 (getD c (512 + n) 0)
 -- "A sound table has ..": what the code computes of a head and a table
 unfoldable pub checked : Head → List ℕ → Bool
 checked h t =
-    eachCell h (fitsAt (h .bridges) (h .busy) (numbered (h .presets) (presetCount h)) t)
+    eachCell h (fitsAt (h .bridges) (motors h) (h .busy) (numbered (h .presets) (presetCount h)) t)
     && every (presetCount h) (presetMet (h .presets) (tally t (h .slots * h .bridges)))
     && leb (count 256 (hasCall (tally t (h .slots * h .bridges)))) mostFrameJobs

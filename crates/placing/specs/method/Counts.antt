@@ -3,9 +3,9 @@
 -- In order: the counts (`CountsOf`), and what they decide (`OwnCause`, `FitBeside`, `CountedCause`); the parts that the code counts by: numbers that are marked, and the cells of a
 -- slot that a call may use.
 -- Assumes nothing.
-use Prim.Native.Nat.{ℕ, _+_, _*_, _≤_, _<_}
+use Prim.Native.Nat.{ℕ, _+_, _-_, _*_, _≤_, _<_, min}
 use mathlib.Core.Path.{_≡_}
-use mathlib.Core.Bool.{Bool, _||_}
+use mathlib.Core.Bool.{Bool, not, _&&_, _||_}
 use mathlib.Core.List.{List}
 use lib.ListN.{length, getD}
 use lib.Dec.{ltb, eqb}
@@ -15,7 +15,7 @@ use Rattle.station.specs.Limits.{mostBridges}
 use Rattle.station.specs.Head.{Head, Job, Valid}
 use Rattle.station.specs.Refusal.{firstOf}
 use Rattle.placing.specs.method.Limits.{capacityCount}
-use Rattle.placing.specs.Table.{cellAt, Cells, WellFormed, isEmpty, isOptional, callCell, isUsed, jobCount}
+use Rattle.placing.specs.Table.{cellAt, Cells, WellFormed, isEmpty, isOptional, isHeld, callCell, isUsed, jobCount}
 use Rattle.placing.specs.Valid.{usable, jobAt}
 use Rattle.placing.specs.Call.{usableCount, callFits}
 use Rattle.placing.specs.Outcomes.{jobCauses, callCauses}
@@ -25,7 +25,7 @@ use Rattle.placing.specs.method.Jobs.{marked}
 use Rattle.placing.specs.method.Grants.{Sums}
 
 -- The counts are those of the head h, the clock and the cells t: "A number is used if a preset of the head or a call cell has it"; the job numbers of the table; and the
--- capacities for 0 to 8 jobs of the cells that a call may use.
+-- capacities for 0 to 8 jobs of what a call may fill.
 pub record CountsOf (h : Head) (clock : ℕ) (t : Cells) (marks : List ℕ) (admitted : ℕ) (xs : List ℕ) : Type 0 where
   pub marks-long : length marks ≡ 256
   pub used : (n : ℕ) → n < 256 → marked marks n ≡ isUsed h t n
@@ -90,15 +90,19 @@ evictableCell v = isOptional v
 abbrev pub freeCell : ℕ → Bool
 freeCell v = isEmpty v || evictableCell v
 
--- how many of the n cells from a place of the table on are such
-unfoldable pub freeIn : List ℕ → ℕ → ℕ → ℕ
-freeIn t from n = count n (λ b. freeCell (cellAt t (from + b)))
+-- and the cells that stay held whatever it evicts
+abbrev pub stayingCell : ℕ → Bool
+stayingCell v = isHeld v && not (evictableCell v)
+
+-- how many of the n cells from a place of the table on it may fill: the smaller of those that it may use and the motors that those leave which stay
+unfoldable pub usableIn : List ℕ → ℕ → ℕ → ℕ → ℕ
+usableIn t from n motors = min (count n (λ b. freeCell (cellAt t (from + b)))) (motors - count n (λ b. stayingCell (cellAt t (from + b))))
 
 -- and of a slot; "A call uses slots from the clock on."
-unfoldable pub slotFree : List ℕ → ℕ → ℕ → ℕ → ℕ
-slotFree t bridges clock s = only (usable clock s) (freeIn t (s * bridges) bridges)
+unfoldable pub slotFree : List ℕ → ℕ → ℕ → ℕ → ℕ → ℕ
+slotFree t bridges motors clock s = only (usable clock s) (usableIn t (s * bridges) bridges motors)
 
--- the list has the capacities for 0 to 8 of the free cells of so many slots
-pub record CapacitiesAt (t : List ℕ) (slots bridges clock : ℕ) (xs : List ℕ) : Type 0 where
+-- the list has the capacities for 0 to 8 of what a call may fill in so many slots
+pub record CapacitiesAt (t : List ℕ) (slots bridges motors clock : ℕ) (xs : List ℕ) : Type 0 where
   pub long : length xs ≡ capacityCount
-  pub right : (k : ℕ) → k < capacityCount → getD xs k 0 ≡ capacity slots (slotFree t bridges clock) k
+  pub right : (k : ℕ) → k < capacityCount → getD xs k 0 ≡ capacity slots (slotFree t bridges motors clock) k

@@ -32,9 +32,9 @@ freeMask busy bridges s = bridgeMask bridges (λ b. not (hasBit (getD busy b 0) 
 abbrev pub freeMasks : ℕ → ℕ → List ℕ → List ℕ
 freeMasks slots bridges busy = filled mostSlots slots (freeMask busy bridges)
 
--- the number of free bridges of slot s, from the masks
-abbrev pub freeOnes : List ℕ → ℕ → ℕ
-freeOnes masks s = ones (getD masks s 0)
+-- the free number of slot s before a plan, from the masks: "the smaller of the empty cells and k", since nothing is held
+abbrev pub freeOnes : List ℕ → ℕ → ℕ → ℕ
+freeOnes masks motors s = min (ones (getD masks s 0)) motors
 
 -- The capacities ("the room for r") of the first slots for r up to 8. More than 8 presets have no more room than 8, since no slot has more bridges.
 abbrev pub Capacities : ℕ → (ℕ → ℕ) → List ℕ → Type 0
@@ -107,17 +107,18 @@ pub record GrantedTo (h : Head) (r : answer.Granted) : Type 0 where
   pub fits : r .fits ≡ planFits h (mandatories h)
   pub needs : r .needs ≡ needsOf h
 
--- What `grant` answers for a head record that some text yields: what the head is granted, and for the placing the mandatory slots of its presets and the
--- free bridges of its slots.
+-- What `grant` answers for a head record that some text yields: what the head is granted, and for the placing the mandatory slots of its presets, the
+-- free bridges of its slots and how many of them are filled at the most.
 pub record GrantedValid (head : record-of-head.Head) (presets : List types.Preset) (r : answer.Granted) : Type 0 where
   pub valid : r .valid ≡ true
   pub granted : GrantedTo (headIn head presets) r
   pub mandatory : r .mandatory ≡ filled mostPlaced (head .count) (λ i. recordAt presets i .mandatory)
   pub free : r .free ≡ freeMasks (head .slots) (head .bridges) (head .busy)
+  pub counts : (s : ℕ) → s < head .slots → getD (r .counts) s 0 ≡ planFreeCount (headIn head presets) s
 
 -- and for "a head record that no text yields": nothing
 abbrev pub grantedNothing : answer.Granted
-grantedNothing = record { valid = false; fits = false; needs = replicate mostPlaced 0; mandatory = replicate mostPlaced 0; free = replicate mostSlots 0 }
+grantedNothing = record { valid = false; fits = false; needs = replicate mostPlaced 0; mandatory = replicate mostPlaced 0; free = replicate mostSlots 0; counts = replicate mostSlots 0 }
 
 -- What `grant` answers for a head record and its preset records.
 pub record GrantedFor (head : record-of-head.Head) (presets : List types.Preset) (r : answer.Granted) : Type 0 where

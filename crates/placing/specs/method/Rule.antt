@@ -14,7 +14,7 @@ use Rattle.station.specs.Limits.{mostLength}
 use Rattle.station.specs.Head.{hasBit}
 use Rattle.placing.specs.method.Limits.{mostPlaced, levelCount, sizesInLimits}
 use Rattle.placing.specs.Table.{Cells}
-use Rattle.placing.specs.Plan.{placing, freeCount}
+use Rattle.placing.specs.Plan.{placing}
 
 -- the mask a without those of b
 abbrev pub without : ℕ → ℕ → ℕ
@@ -33,7 +33,7 @@ firstHeld p f d i = f i && ltb (count mostPlaced (λ j. f j && tieHold 0 p j i))
 abbrev pub Levelled : List ℕ → (ℕ → ℕ) → Type 0
 Levelled t c = (l i : ℕ) → 0 < l → l < levelCount → i < mostPlaced → hasBit (at t l) i ≡ eqb (c i) l
 
--- One slot with d free cells: the mask r has the jobs that get one, of those with the needs c, where of equal ones those of p go first; each of them stands one level lower in t.
+-- One slot with d cells to fill: the mask r has the jobs that get one, of those with the needs c, where of equal ones those of p go first; each of them stands one level lower in t.
 -- "as many presets as there are free bridges, those with the most slots still to get, never one with none left".
 pub record Served (t : List ℕ) (c : ℕ → ℕ) (p : ℕ → Bool) (d r : ℕ) : Type 0 where
   pub picks : (i : ℕ) → i < mostPlaced → hasBit r i ≡ chosen (tieHold 0 p) mostPlaced c d i
@@ -79,11 +79,15 @@ cellsIn bridges t s b = at t (s * bridges + b)
 abbrev pub CleanFrom : ℕ → ℕ → ℕ → List ℕ → List ℕ → Type 0
 CleanFrom clean slots bridges masks t = (s : ℕ) → clean ≤ s → s < slots → EmptyRow t (s * bridges) bridges (freeIn masks s)
 
--- The lent table after jobs were placed: by the rule in the cells of the frame, and "Cells past S × B are never changed".
-unfoldable pub placedIn : Ties → ℕ → ℕ → List ℕ → List ℕ → List ℕ → List ℕ → List ℕ → List ℕ → List ℕ
-placedIn ties slots bridges masks c first early late t =
+-- no slot of the frame is given more jobs than it has free cells
+abbrev pub Fillable : ℕ → ℕ → List ℕ → List ℕ → Type 0
+Fillable slots bridges masks counts = (s : ℕ) → s < slots → at counts s ≤ count bridges (freeIn masks s)
+
+-- The lent table after jobs were placed: by the rule in the cells of the frame, in slot s at most `counts` of them, and "Cells past S × B are never changed".
+unfoldable pub placedIn : Ties → ℕ → ℕ → List ℕ → List ℕ → List ℕ → List ℕ → List ℕ → List ℕ → List ℕ → List ℕ
+placedIn ties slots bridges masks counts c first early late t =
     tabulate (slots * bridges) (λ i.
-    placing (length c) (freeIn masks) (λ j s. lrtf ties nobody c (freeCount bridges (freeIn masks)) j s) (cellIn ties c (freeCount bridges (freeIn masks)) first early late)
+    placing (length c) (freeIn masks) (λ j s. lrtf ties nobody c (at counts) j s) (cellIn ties c (at counts) first early late)
     (cellsIn bridges t) (i / bridges) (i % bridges))
     ++ drop (slots * bridges) t
 
@@ -92,6 +96,6 @@ unfoldable pub placeable : ℕ → ℕ → List ℕ → ℕ → ℕ → Bool
 placeable slots bridges needs k cells = leb k mostPlaced && every k (λ i. leb (at needs i) mostLength) && sizesInLimits slots bridges 0 cells
 
 -- The lent table after `place`, for the first k needs of an array: beyond the limits it is as it was.
-unfoldable pub placedWithin : Ties → ℕ → ℕ → List ℕ → List ℕ → ℕ → List ℕ → List ℕ → List ℕ → List ℕ → List ℕ
-placedWithin ties slots bridges masks needs k first early late t =
-    cond (placeable slots bridges needs k (length t)) (placedIn ties slots bridges masks (take k needs) first early late t) t
+unfoldable pub placedWithin : Ties → ℕ → ℕ → List ℕ → List ℕ → List ℕ → ℕ → List ℕ → List ℕ → List ℕ → List ℕ → List ℕ
+placedWithin ties slots bridges masks counts needs k first early late t =
+    cond (placeable slots bridges needs k (length t)) (placedIn ties slots bridges masks counts (take k needs) first early late t) t

@@ -12,7 +12,7 @@ use lib.Count as digits
 use Rattle.laws.specs.Sums.{sum, only, count, greatest, position}
 use Rattle.laws.specs.Lists.{at}
 use Rattle.laws.specs.Placement.{before, capacity}
-use Rattle.laws.specs.Eviction.{put, ones}
+use Rattle.laws.specs.Eviction.{put, added, ones}
 use Rattle.station.specs.Limits.{mostSlots, mostBridges, mostPresets, leastCells}
 use Rattle.station.specs.Head.{Head, Job}
 use Rattle.station.specs.declared.types.Preset as record-of-preset
@@ -23,11 +23,11 @@ use Rattle.placing.specs.declared.search.taking.Tally.{Tally}
 use Rattle.placing.specs.declared.search.Evicted.{Evicted}
 use Rattle.placing.specs.declared.search.Demand.{Demand}
 use Rattle.placing.specs.method.Limits.{capacityCount, mostPlaced, sizesInLimits}
-use Rattle.placing.specs.Table.{cellAt, Cells, cell, isEmpty, numberIn}
+use Rattle.placing.specs.Table.{cellAt, Cells, cell, isEmpty, isHeld, numberIn}
 use Rattle.placing.specs.Valid.{usable}
 use Rattle.placing.specs.method.Mask.{bridgeMask}
 use Rattle.placing.specs.method.Counts.{evictableCell}
-use Rattle.placing.specs.Call.{CellPlace, downward, lengths, evictedSet, callFits, callFree}
+use Rattle.placing.specs.Call.{CellPlace, downward, evictionOrder, slotsOf, freeNumberFrom, lengths, evictedSet, callFits, callFree}
 
 -- How many of the first n of the needs cs come before that of job i: the longer first, of equal ones the earlier.
 unfoldable pub longerBelow : List ℕ → ℕ → ℕ → ℕ
@@ -64,9 +64,17 @@ emptyIn t from b = isEmpty (cellAt t (from + b))
 unfoldable pub emptyMask : List ℕ → ℕ → ℕ → ℕ
 emptyMask t from n = bridgeMask n (emptyIn t from)
 
+-- how many cells of these bridges presets and calls hold
+unfoldable pub heldFrom : List ℕ → ℕ → ℕ → ℕ
+heldFrom t from n = count n (λ b. isHeld (cellAt t (from + b)))
+
 -- The mask of the empty cells of a slot, where nothing before the clock is free: "A call uses slots from the clock on."
 unfoldable pub slotMask : List ℕ → ℕ → ℕ → ℕ → ℕ
 slotMask t bridges clock s = only (usable clock s) (emptyMask t (s * bridges) bridges)
+
+-- The free number of a slot for a call, from these: the smaller of the empty cells and the motors that are left.
+abbrev pub slotNumber : List ℕ → ℕ → ℕ → ℕ → ℕ → ℕ
+slotNumber t bridges motors clock s = min (digits.ones (slotMask t bridges clock s)) (motors - heldFrom t (s * bridges) bridges)
 
 -- By how much sums of the longest jobs exceed the capacities for 0 to k of the free cells x of n slots, at the worst. Where `sums` is what jobs demand
 -- (`Demanded`), k their number up to 8, and no slot has more than 8 free cells, this is their `excess`.
@@ -77,7 +85,7 @@ shortage sums k n x = greatest k (λ r. at sums r - capacity n x r)
 abbrev pub shortFor : Demand → (ℕ → ℕ) → ℕ
 shortFor d = shortage (d .sums) (d .jobs) (d .slots)
 
--- What the search has at a point of its walk: for each slot the mask of the bridges that the jobs may use and the number of them, and how many
+-- What the search has at a point of its walk: for each slot the mask of the bridges that the jobs may use and its free number, and how many
 -- cells are evicted so far.
 pub record Kept : Type 0 where
   pub free : List ℕ
@@ -142,11 +150,11 @@ pub record Walked (d : Demand) (zs : List CellPlace) (s r : Search) : Type 0 whe
   pub stands : Stands d r
   pub kept : keptIn r ≡ walked (shortFor d) zs (keptIn s)
 
--- what the search has before its walk: the empty cells from the clock on
-pub record Starts (t : List ℕ) (bridges clock : ℕ) (d : Demand) (s : Search) : Type 0 where
+-- what the search has before its walk: the empty cells from the clock on, and the free numbers
+pub record Starts (t : List ℕ) (bridges motors clock : ℕ) (d : Demand) (s : Search) : Type 0 where
   pub stands : Stands d s
   pub free : (z : ℕ) → getD (s .free) z 0 ≡ only (ltb z (d .slots)) (slotMask t bridges clock z)
-  pub counts : (z : ℕ) → getD (s .counts) z 0 ≡ only (ltb z (d .slots)) (digits.ones (getD (s .free) z 0))
+  pub counts : (z : ℕ) → getD (s .counts) z 0 ≡ only (ltb z (d .slots)) (slotNumber t bridges motors clock z)
   pub none : s .evicted ≡ 0
 
 -- ---- The eviction order over a list of cells, with the ranks by number in a list: `evictionOrder`, part by part. "The order of loss: worst rank
@@ -200,15 +208,17 @@ pub record Linked (first next : List ℕ) (bound : ℕ) : Type 0 where
 
 -- what is answered where the search keeps k in the end
 abbrev pub answered : Demand → Kept → Evicted
-answered d k = record { fits = eqb (shortFor d (at (k .counts))) 0; count = k .evicted; free = k .free }
+answered d k = record { fits = eqb (shortFor d (at (k .counts))) 0; count = k .evicted; free = k .free; counts = k .counts }
 
 -- What the search answers for the head h, the clock, the jobs and the cells t: whether the call fits; "the number of lost cells"; and for each slot
--- the mask of the bridges that it may use, as "jobs are then placed .. over the empty and lost cells", 0 past the frame.
+-- the mask of the bridges that it may use, as "jobs are then placed .. over the empty and lost cells", 0 past the frame, and how many of them are filled at the most: the free number and one
+-- for each lost cell.
 pub record Evicts (h : Head) (clock : ℕ) (jobs : List Job) (t : Cells) (r : Evicted) : Type 0 where
   pub fits : r .fits ≡ callFits h clock jobs t
   pub count : r .count ≡ ones (evictedSet h clock jobs t)
   pub free : (s : ℕ) → s < h .slots → getD (r .free) s 0 ≡ bridgeMask (h .bridges) (λ b. callFree h clock jobs t s b)
   pub past : (s : ℕ) → h .slots ≤ s → getD (r .free) s 0 ≡ 0
+  pub counts : (s : ℕ) → s < h .slots → getD (r .counts) s 0 ≡ added (freeNumberFrom h clock t) (slotsOf (evictionOrder h clock t)) (evictedSet h clock jobs t) s
 
 -- What the search can look at: a frame, presets and a lent table within the limits, and no more jobs than are placed at a time.
 abbrev pub searchable : record-of-head.Head → ℕ → ℕ → Bool
@@ -216,7 +226,7 @@ searchable head k cells = leb k mostPlaced && sizesInLimits (head .slots) (head 
 
 -- the answer where it cannot: the call does not fit
 abbrev pub unfit : Evicted
-unfit = record { fits = false; count = 0; free = replicate mostSlots 0 }
+unfit = record { fits = false; count = 0; free = replicate mostSlots 0; counts = replicate mostSlots 0 }
 
 -- What `evict` answers for a head record, its preset records, the first k needs and a lent table: for all jobs of these lengths what the search finds,
 -- or that the call does not fit where the search cannot look at the frame. A head record that some text yields is within the limits.

@@ -6,6 +6,7 @@ use crate::cells::MANDATORY;
 use crate::cells::OPTIONAL;
 use crate::cells::VALUES;
 use crate::cells::number_in;
+use crate::limits::motors;
 use station::limits::MOST_FRAME_JOBS;
 use station::limits::MOST_PRESETS;
 use station::types::Head;
@@ -18,6 +19,7 @@ ghost use Rattle.laws.specs.Sums.{every, count};
 ghost use Rattle.station.specs.Limits.{mostSlots, mostBridges, mostPresets, leastCells};
 ghost use Rattle.station.specs.Types.{headIn, presetIn, validRecord};
 ghost use Rattle.placing.specs.method.Check.{tally, numbered, cellFits, FirstFault, isMet, presetMet, hasCall};
+ghost use Rattle.placing.specs.method.Limits.{motorsIn};
 ghost use Rattle.placing.specs.Table.{cell, wellFormed};
 
 // The cells that have numbers are counted by value, from the first mandatory cell on: how many counts there are, and where those of the optional and of the
@@ -60,18 +62,21 @@ fn cell_fits(v: Cell, busy: bool, numbers: &[u8; 256], counts: &[u16; COUNTS]) -
 
 // The first cell at fault, slot by slot and in each slot bridge by bridge, as its place in the table; the number of the frame's cells where none is. Each cell is
 // judged by the cells before it, so those behind the first at fault are not looked at. The cells before it that have numbers are counted, and their numbers get the
-// slot's mark in `last`, so that a number which has it already stands in the slot twice.
+// slot's mark in `last`, so that a number which has it already stands in the slot twice. `held` counts the cells of the slot that have numbers, those that
+// presets and calls hold: where it has reached the motors that the supply feeds, one more is at fault.
 fn scan(head: Head, numbers: &[u8; 256], table: &[Cell], counts: &mut [u16; COUNTS]) -> usize
     requires { ⌜ (head .slots ≤ mostSlots) × (head .bridges ≤ mostBridges) × (leastCells ≤ length (now table)) × (now counts ≡ tally (now table) 0) ⌝ }
-    ensures { λ r. ⌜ FirstFault (head .slots) (head .bridges) (head .busy) (now (numbers .entry)) (now (table .entry)) r × (now (counts .exit) ≡ tally (now (table .entry)) r) ⌝ }
+    ensures { λ r. ⌜ FirstFault (head .slots) (head .bridges) (motorsIn head) (head .busy) (now (numbers .entry)) (now (table .entry)) r × (now (counts .exit) ≡ tally (now (table .entry)) r) ⌝ }
 {
     let slots = head.slots;
     let bridges = head.bridges;
+    let fed = motors(head);
     let busy = head.busy;
     let mut last = [0u8; 256];
     let mut at = 0;
     'frame: for s in 0..slots {
         let mark = s as u8 + 1;
+        let mut held = 0;
         for b in 0..bridges {
             let v = table[at];
             let taken = (busy[b] >> s) % 2 == 1;
@@ -79,6 +84,10 @@ fn scan(head: Head, numbers: &[u8; 256], table: &[Cell], counts: &mut [u16; COUN
                 break 'frame;
             }
             if MANDATORY <= v {
+                if fed <= held {
+                    break 'frame;
+                }
+                held += 1;
                 let n = number_in(v);
                 if last[n] == mark {
                     break 'frame;

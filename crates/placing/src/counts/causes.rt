@@ -103,7 +103,7 @@ fn fits_by_counts(
     fits(&all, together, capacities)
 }
 
-// Whether the first n jobs fit into the cells that they may use, whose capacities for 0 to 8 are given. Nothing is unfinished beside them, so that one job alone fits if it
+// Whether the first n jobs fit into what they may fill, whose capacities for 0 to 8 are given. Nothing is unfinished beside them, so that one job alone fits if it
 // is no longer than the capacity for one.
 fn jobs_fit(capacities: &[usize; CAPACITY_COUNT], jobs: [Job; MOST_JOBS], n: usize) -> bool
     requires { ⌜ (n ≤ mostJobs) × (jobsOutside (jobsIn n jobs) ≡ false) ⌝ }

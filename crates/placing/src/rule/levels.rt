@@ -63,11 +63,11 @@ pub(crate) fn highest(levels: &[u64; LEVELS], from: usize, served: u64) -> usize
 // The first jobs of a mask, and how many more were asked for.
 pub(crate) struct First {
     pub jobs: u64,
-    pub more: u32,
+    pub more: usize,
 }
 
 // The first d jobs of a mask, or all of it: "Equal ones: the earlier line first". The lowest bits go one by one, which costs less than to count them.
-fn first_of(mask: u64, d: u32) -> First
+fn first_of(mask: u64, d: usize) -> First
     ensures { λ r. ⌜ ((i : ℕ) → i < mostPlaced → hasBit (r .jobs) i ≡ firstFew (hasBit mask) d i) × (r .more ≡ d - count mostPlaced (hasBit mask)) ⌝ }
 {
     let mut rest = mask;
@@ -89,7 +89,7 @@ fn first_of(mask: u64, d: u32) -> First
 }
 
 // The first d jobs of a mask, those that are held before the others, or all of it.
-fn first_held(mask: u64, held: u64, d: u32) -> First
+fn first_held(mask: u64, held: u64, d: usize) -> First
     ensures { λ r. ⌜ ((i : ℕ) → i < mostPlaced → hasBit (r .jobs) i ≡ firstHeld (hasBit held) (hasBit mask) d i) × (r .more ≡ d - count mostPlaced (hasBit mask)) ⌝ }
 {
     let stay = first_of(mask & held, d);
@@ -102,7 +102,7 @@ fn first_held(mask: u64, held: u64, d: u32) -> First
 
 // The jobs that get one of d cells, where nobody stands above level `top`; of those that need the same the held ones go first. Each of them moves to the level below; there it is passed
 // over, since it has got a cell.
-pub(crate) fn choose(levels: &mut [u64; LEVELS], top: usize, d: u32, held: u64) -> u64
+pub(crate) fn choose(levels: &mut [u64; LEVELS], top: usize, d: usize, held: u64) -> u64
     requires { ⌜ (top < levelCount) × (length (now levels) ≡ levelCount) ⌝ }
     ensures { λ r. ⌜ (length (now (levels .exit)) ≡ levelCount)
         × ((c : ℕ → ℕ) → Levelled (now (levels .entry)) c → ((i : ℕ) → i < mostPlaced → c i ≤ top) → Served (now (levels .exit)) c (hasBit held) d r) ⌝ }

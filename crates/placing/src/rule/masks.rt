@@ -1,21 +1,9 @@
 // A slot's free bridges as one bit each, bridge b being the bit of worth 2^b, and jobs in the same way.
 use crate::numbers::index;
-use crate::numbers::widened;
 ghost use mathlib.Core.Path.{_≡_};
-ghost use Prim.Native.Nat.{_-_, _<_, _≤_};
+ghost use Prim.Native.Nat.{_-_};
 ghost use lib.Bits.{bitAnd};
 ghost use lib.Count.{trailingZeros};
-ghost use Rattle.laws.specs.Sums.{count};
-ghost use Rattle.station.specs.Limits.{mostBridges};
-ghost use Rattle.station.specs.Head.{hasBit};
-
-// How many of the first `bridges` bridges are free; what the mask has past them does not count.
-pub(crate) fn count_free(mask: u8, bridges: usize) -> u32
-    requires { ⌜ bridges ≤ mostBridges ⌝ }
-    ensures { λ r. ⌜ r ≡ count bridges (hasBit mask) ⌝ }
-{
-    u16::count_ones(widened(mask) % (1u16 << bridges))
-}
 
 // The next free bridge, that is the lowest one, or 8 if none is free.
 pub(crate) fn next_free(mask: u8) -> usize

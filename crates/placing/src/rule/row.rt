@@ -36,7 +36,7 @@ fn next_cell(
     early[i]
 }
 
-// Empties those bridges of the row that starts at `start` which are left in the mask; the others keep their cells. In most slots the jobs have taken every free bridge,
+// Empties those bridges of the row that starts at `start` which are left in the mask; the others keep their cells. Where the supply feeds every bridge, the jobs have taken every free one of most slots,
 // so that it goes from one bridge of the mask to the next.
 fn empty_row(table: &mut [Cell], start: usize, bridges: usize, mask: u8)
     requires { ⌜ (bridges ≤ mostBridges) × (start + bridges ≤ length (now table)) ⌝ }

@@ -45,7 +45,7 @@ fn tight_after(found: usize, x: usize, tight: usize) -> usize
     found
 }
 
-// Evicts a cell that lowers the shortage: one in a slot with fewer free cells than the least number of jobs that are short by as much. The shortage
+// Evicts a cell that lowers the shortage: one in a slot whose free number is below the least number of jobs that are short by as much. The shortage
 // is then less by 1.
 fn take_cell(
     demand: Demand,
@@ -194,5 +194,6 @@ pub(crate) fn walk(
         fits: end.short == 0,
         count: end.evicted,
         free: free,
+        counts: counts,
     }
 }

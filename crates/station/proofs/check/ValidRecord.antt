@@ -2,7 +2,7 @@
 --
 -- In order: a mask below a power of two (`shifted-out`); the masks from one bridge on (`masks-fault`, `masks-next`, `masks-end`); the presets from one
 -- record on: their limits (`limits-fault`, `limits-next`, `limits-end`), no number twice (`Marked`, `marked-none`, `marked-fault`, `marked-more`); the
--- whole record (`valid-count`, `valid-frame`, `valid-masks`, `valid-limits`, `valid-distinct`), and what a valid one says (`valid-head`, `valid-few`).
+-- whole record (`valid-count`, `valid-frame`, `valid-supply`, `valid-masks`, `valid-limits`, `valid-distinct`), and what a valid one says (`valid-head`, `valid-few`).
 -- Assumes nothing.
 use Prim.Native.Nat.{ℕ, zero, suc, _-_, _/_, _^_, _≤_, _<_}
 use native.Mathlib.Nat.{div-eq-of-lt, div-lt-iff-lt-mul}
@@ -147,6 +147,9 @@ module _ (h : Head) (ps : List Preset) where
       not-true (validRecord h ps)
       (λ v. clash (sym (both (within 1 64 (h .slots)) (within 1 8 (h .bridges)) (inner v .slots) (inner v .bridges)) ∙ e))
 
+  pub valid-supply : 8 < h .supply → validRecord h ps ≡ false
+  valid-supply l = not-true (validRecord h ps) (λ v. omega (arith, inner v .supply))
+
   pub valid-masks : (eqb (length (h .busy)) 8 && masksIn (h .bridges) (2 ^ h .slots) (h .busy)) ≡ false → validRecord h ps ≡ false
   valid-masks e =
       not-true (validRecord h ps)
@@ -158,15 +161,16 @@ module _ (h : Head) (ps : List Preset) where
   valid-limits e = not-true (validRecord h ps) (λ v. clash (sym (inner v .limits) ∙ e))
 
   -- every other part of the test holds: the answer is the last part's
-  pub valid-distinct : h .count ≤ 32 → length ps ≡ 32 → (within 1 64 (h .slots) && within 1 8 (h .bridges)) ≡ true
+  pub valid-distinct : h .count ≤ 32 → length ps ≡ 32 → (within 1 64 (h .slots) && within 1 8 (h .bridges)) ≡ true → h .supply ≤ 8
       → (eqb (length (h .busy)) 8 && masksIn (h .bridges) (2 ^ h .slots) (h .busy)) ≡ true → allInLimits (presetsIn (h .count) ps) ≡ true
       → validRecord h ps ≡ allDistinct (presetsIn (h .count) ps)
   unfolding valid
-  valid-distinct few n frame masks limits =
+  valid-distinct few n frame supply masks limits =
       let m : length (presetsIn (h .count) ps) ≡ h .count = length-map (take (h .count) ps) presetIn ∙ length-take-le (h .count) ps (omega arith) in
       rw (
         leb-yes (h .count) 32 few,
         frame,
+        leb-yes (h .supply) 8 supply,
         left-of (eqb (length (h .busy)) 8) (masksIn (h .bridges) (2 ^ h .slots) (h .busy)) masks,
         right-of (eqb (length (h .busy)) 8) (masksIn (h .bridges) (2 ^ h .slots) (h .busy)) masks,
         leb-yes (length (presetsIn (h .count) ps)) 32 (omega arith),

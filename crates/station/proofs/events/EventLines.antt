@@ -14,8 +14,8 @@ use lib.Dec.{leb}
 use Rattle.laws.proofs.Tests.{Is, is, is-true, is-false, clash}
 use Rattle.laws.proofs.Comparisons.{le-of, gt-of, leb-no}
 use Rattle.station.specs.Text.{bytes}
-use Rattle.station.specs.Form.{CallJobs, Form, frameLine, busyLine, presetLine, clockLine, callLine, tieLine, jobsOf, starts, word, _orElse_, made, readJobs, print}
-use Rattle.station.specs.Form.{frameIn, busyIn, presetIn, clockIn, callIn, tieIn, form}
+use Rattle.station.specs.Form.{CallJobs, Form, frameLine, busyLine, presetLine, clockLine, callLine, tieLine, supplyLine, jobsOf, starts, word, _orElse_, made, readJobs, print}
+use Rattle.station.specs.Form.{frameIn, busyIn, presetIn, supplyIn, clockIn, callIn, tieIn, form}
 use Rattle.station.proofs.Form.{word-had, form-had}
 use Rattle.station.specs.declared.brackets.Jobs.{Jobs}
 use Rattle.station.specs.method.Bracket.{jobsRead}
@@ -31,7 +31,7 @@ or-none (some a) = refl
 
 -- the second or third byte tells it from the other forms
 pub call-form : (l : List ℕ) → starts (bytes "(call ") l ≡ true → form l ≡ made callLine (readJobs (drop 6 l))
-unfolding form frameIn busyIn presetIn clockIn callIn tieIn word starts bytes
+unfolding form frameIn busyIn presetIn supplyIn clockIn callIn tieIn word starts bytes
 call-form l e = word-had (bytes "(call ") l (λ r. some r) (drop 6 l) (rw e refl) (λ r h q. rw h (or-none (made callLine (readJobs r))))
 
 no-call : (l : List ℕ) (p : CallJobs) → starts (bytes "(call ") l ≡ false → form l ≡ some (callLine p) → ⊥
@@ -70,3 +70,4 @@ line-read hi l s = go (form l) refl
     go (some (clockLine t)) e = refl
     go (some (callLine p)) e = absurd (no-call l p s e)
     go (some (tieLine hold)) e = refl
+    go (some (supplyLine k)) e = refl

@@ -1,6 +1,6 @@
 -- Laws of what the code makes of a line.
 --
--- In order: the first of two forms that is there (`read-first`, `read-second`); the six forms in two parts (`form-parts`); a busy line by its
+-- In order: the first of two forms that is there (`read-first`, `read-second`); the seven forms in two parts (`form-parts`); a busy line by its
 -- stretches (`busy-none`, `busy-some`); a call by its jobs (`call-none`, `call-some`);
 -- a tie line by its text (`tie-hold`, `tie-place`, `tie-none`).
 -- Assumes nothing.
@@ -14,8 +14,8 @@ use Rattle.station.specs.declared.forms.Read.{Read}
 use Rattle.station.specs.declared.forms.Line.the-variants.{Busy, Call}
 use Rattle.station.specs.declared.brackets.BusyMask.{BusyMask}
 use Rattle.station.specs.declared.brackets.Jobs.{Jobs}
-use Rattle.station.specs.Form.{Pairs, CallJobs, Form, frameLine, busyLine, presetLine, clockLine, callLine, tieLine, _orElse_, made}
-use Rattle.station.specs.Form.{frameIn, busyIn, presetIn, tieIn, form, word, whole}
+use Rattle.station.specs.Form.{Pairs, CallJobs, Form, frameLine, busyLine, presetLine, clockLine, callLine, tieLine, supplyLine, _orElse_, made}
+use Rattle.station.specs.Form.{frameIn, busyIn, presetIn, tieIn, supplyIn, form, word, whole}
 use Rattle.station.specs.Jobs.{noJobs, seen}
 use Rattle.station.specs.method.ReadLine.{readIn, hasForm, headForm, eventForm}
 use Rattle.station.specs.method.Bracket.{busyMaskIn, jobsRead}
@@ -33,6 +33,7 @@ module _ (hi : ℕ) where
   has-some (clockLine t) = refl
   has-some (callLine p) = refl
   has-some (tieLine hold) = refl
+  has-some (supplyLine k) = refl
 
   pub read-first : (x y : Option Form) (r : Read) → r ≡ readIn hi x → hasForm (r .line) ≡ true → r ≡ readIn hi (x orElse y)
   read-first none y r e h = absurd (clash (sym h ∙ ap (λ (q : Read). hasForm (q .line)) e))
@@ -42,15 +43,16 @@ module _ (hi : ℕ) where
   read-second none y q r s e h = s
   read-second (some f) y q r s e h = absurd (clash (sym (has-some f) ∙ sym (ap (λ (z : Read). hasForm (z .line)) e) ∙ h))
 
-or-three : (x y z w : Option Form) → (x orElse y orElse z orElse w) ≡ ((x orElse y orElse z) orElse w)
-or-three none none z w = refl
-or-three none (some g) z w = refl
-or-three (some f) y z w = refl
+or-four : (x y z v w : Option Form) → (x orElse y orElse z orElse v orElse w) ≡ ((x orElse y orElse z orElse v) orElse w)
+or-four none none none v w = refl
+or-four none none (some g) v w = refl
+or-four none (some g) z v w = refl
+or-four (some f) y z v w = refl
 
--- the six forms in two parts
+-- the seven forms in two parts
 pub form-parts : (l : List ℕ) → form l ≡ (headForm l orElse eventForm l)
 unfolding form
-form-parts l = or-three (frameIn l) (busyIn l) (presetIn l) (eventForm l)
+form-parts l = or-four (frameIn l) (busyIn l) (presetIn l) (supplyIn l) (eventForm l)
 
 -- ---- a busy line by its stretches
 

@@ -1,7 +1,7 @@
 -- Laws for the functions that hold one line of a head against what the lines before it make.
 --
 -- In order: numbers as they are read (`seen-ltb`, `seen-small`); the steps, a law for each way out of a function (`frame-refused`, `frame-goes`;
--- `busy-late`, `busy-refused`, `busy-goes`, `busy-from-one`; `preset-refused`, `preset-used`, `preset-many`, `preset-goes`); the numbers
+-- `supply-late`, `supply-refused`, `supply-goes`; `busy-late`, `busy-refused`, `busy-goes`, `busy-from-one`; `preset-refused`, `preset-used`, `preset-many`, `preset-goes`); the numbers
 -- in use from a record on (`used-here`, `used-further`, `used-past`); records and presets are each other's (`records-back`, `presets-back`).
 -- What a step means for the reading is in heads/StepMeaning.antt, the loop over the lines in heads/LineLoop.antt.
 -- Assumes nothing.
@@ -22,10 +22,10 @@ use Rattle.station.specs.declared.heads.steps.Verdict.the-variants.{Goes
 use Rattle.station.specs.Head as meant
 use Rattle.station.specs.Head.{within, presetInLimits, hasNumber}
 use Rattle.station.specs.Refusal.{firstOf}
-use Rattle.station.specs.Reading.{busyMisplaced}
+use Rattle.station.specs.Reading.{supplyMisplaced, busyMisplaced}
 use Rattle.station.specs.Types.{presetIn}
 use Rattle.station.specs.ReadHead.{recordOf}
-use Rattle.station.specs.method.HeadStep.{stageIn, stopped, afterFrame, frameStep, afterBusy, busyStep, afterPreset, presetStep}
+use Rattle.station.specs.method.HeadStep.{stageIn, stopped, afterFrame, frameStep, afterSupply, supplyStep, afterBusy, busyStep, afterPreset, presetStep}
 use Rattle.station.specs.Jobs.{seen}
 
 -- ---- numbers as they are read
@@ -48,6 +48,19 @@ module _ (s : State) (slots bridges : ℕ) where
   pub frame-goes : not (within 1 64 slots && within 1 8 bridges) ≡ false → record { verdict = Goes; state = afterFrame s slots bridges } ≡ frameStep s slots bridges
   unfolding firstOf
   frame-goes e = rw e refl
+
+module _ (s : State) (k : ℕ) where
+  pub supply-late : supplyMisplaced (stageIn (s .stage)) ≡ true → stopped s OutOfPlace ≡ supplyStep s k
+  unfolding firstOf
+  supply-late h = rw h refl
+
+  pub supply-refused : supplyMisplaced (stageIn (s .stage)) ≡ false → not (within 1 8 k) ≡ true → stopped s OutOfLimits ≡ supplyStep s k
+  unfolding firstOf
+  supply-refused h e = rw (h, e) refl
+
+  pub supply-goes : supplyMisplaced (stageIn (s .stage)) ≡ false → not (within 1 8 k) ≡ false → record { verdict = Goes; state = afterSupply s k } ≡ supplyStep s k
+  unfolding firstOf
+  supply-goes h e = rw (h, e) refl
 
 module _ (s : State) (b mask : ℕ) (o : Bool) where
   pub busy-late : busyMisplaced (stageIn (s .stage)) b ≡ true → stopped s OutOfPlace ≡ busyStep s b mask o

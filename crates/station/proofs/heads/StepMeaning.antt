@@ -17,7 +17,7 @@ use Rattle.laws.proofs.Tests.{Is, is, is-true, is-false, clash, left-of, right-
 use Rattle.laws.proofs.Comparisons.{gt-of}
 use Rattle.station.specs.declared.types.Preset.{Preset}
 use Rattle.station.specs.declared.heads.steps.Stage as code
-use Rattle.station.specs.declared.heads.steps.Stage.the-variants.{Frame, Tie, Busy, Presets}
+use Rattle.station.specs.declared.heads.steps.Stage.the-variants.{Frame, Supply, Tie, Busy, Presets}
 use Rattle.station.specs.declared.heads.steps.State.{State}
 use Rattle.station.specs.declared.heads.steps.Verdict.{Verdict}
 use Rattle.station.specs.declared.heads.steps.Verdict.the-variants.{Goes, Ends, Fails}
@@ -25,14 +25,14 @@ use Rattle.station.specs.declared.heads.steps.Step.{Step}
 use Rattle.station.specs.Head as meant
 use Rattle.station.specs.Head.{presetOf, withBusy, withPresets, within, presetInLimits, hasNumber}
 use Rattle.station.specs.Refusal.{firstOf}
-use Rattle.station.specs.Form.{Pairs, Form, frameLine, busyLine, presetLine, clockLine, callLine, tieLine}
+use Rattle.station.specs.Form.{Pairs, Form, frameLine, busyLine, presetLine, clockLine, callLine, tieLine, supplyLine}
 use Rattle.station.specs.Writing.{maskOf, ordered}
-use Rattle.station.specs.Reading.{Reading, accepted, refused, Stage, atFrame, atTie, atBusy, atPresets, begun, SoFar, busyMisplaced, tried, readFrom}
+use Rattle.station.specs.Reading.{Reading, accepted, refused, Stage, atFrame, atSupply, atTie, atBusy, atPresets, begun, SoFar, supplyMisplaced, busyMisplaced, tried, readFrom}
 use Rattle.station.specs.method.ReadLine.{lineIn}
-use Rattle.station.specs.Types.{refusalIn, presetIn, headIn}
+use Rattle.station.specs.Types.{refusalIn, presetIn, withSupplied, withHold, headIn}
 use Rattle.station.specs.ReadHead.{recordOf}
 use Rattle.station.specs.method.HeadStep.{stageIn, soFarIn, stepOf, stepWhere, firstStep, nextStep, afterFrame, afterBusy, afterPreset}
-use Rattle.station.specs.method.HeadStep.{frameStep, tieStepAt, busyStep, presetStep}
+use Rattle.station.specs.method.HeadStep.{frameStep, supplyStep, tieStepAt, busyStep, presetStep}
 use Rattle.station.proofs.numbers.Decimals.{seen-leb, seen-within}
 use Rattle.station.proofs.ValidHead.{within-high, limits-of}
 use mathlib.Core.List.{map-append}
@@ -44,6 +44,7 @@ use Rattle.station.specs.Jobs.{seen}
 -- the least bridge that a busy line may have, where one may come
 abbrev pub leastBridge : Stage → ℕ
 leastBridge atFrame = 0
+leastBridge atSupply = 0
 leastBridge atTie = 0
 leastBridge (atBusy b) = b
 leastBridge atPresets = 0
@@ -51,12 +52,14 @@ leastBridge atPresets = 0
 -- a bridge as it is read is as much out of its place
 seen-misplaced : (g : Stage) (b : ℕ) → leastBridge g ≤ 9 → busyMisplaced g (seen b) ≡ busyMisplaced g b
 seen-misplaced atFrame b h = refl
+seen-misplaced atSupply b h = refl
 seen-misplaced atTie b h = refl
 seen-misplaced (atBusy k) b h = seen-ltb b k (omega arith)
 seen-misplaced atPresets b h = refl
 
 not-begun : (g : Stage) → begun g ≡ false → g ≡ atFrame
 not-begun atFrame e = refl
+not-begun atSupply e = absurd (clash e)
 not-begun atTie e = absurd (clash e)
 not-begun (atBusy k) e = absurd (clash e)
 not-begun atPresets e = absurd (clash e)
@@ -136,6 +139,7 @@ module _ (old : List Preset) (s : State) (k : Kept old s) (n : ℕ) (ls : List (
     first-line hi (some (clockLine t)) = record { reads = rw e refl; kept = k }
     first-line hi (some (callLine p)) = record { reads = rw e refl; kept = k }
     first-line hi (some (tieLine hold)) = record { reads = rw (not-begun (stageIn (s .stage)) e) refl; kept = k }
+    first-line hi (some (supplyLine m)) = record { reads = rw (not-begun (stageIn (s .stage)) e) refl; kept = k }
 
   -- ---- a line after line 1
 
@@ -314,27 +318,63 @@ module _ (old : List Preset) (s : State) (k : Kept old s) (n : ℕ) (ls : List (
         go (is-true e) (is-false u) (is-true c) = raw e (preset-over e u c)
         go (is-true e) (is-false u) (is-false c) = raw e (preset-fits e u c)
 
-  -- a tie line: directly after the frame line it is one of the head, anywhere else it ends it
+  -- other lines of the head without presets after the frame line: what is kept stays
+  stage-kept : (stage : code.Stage) (motors : ℕ) (hold : Bool) → leastBridge (stageIn stage) ≤ 9 → begun (stageIn stage) ≡ true
+      → Kept old (record { stage = stage; head = withHold (withSupplied (s .head) motors) hold; presets = s .presets })
+  stage-kept stage motors hold low g = record {
+    slots = k .slots;
+    bridges = k .bridges;
+    least = low;
+    count = k .count;
+    records = k .records;
+    fresh = λ f. absurd (clash (sym g ∙ f));
+    past = k .past;
+  }
+
+  -- a tie line: directly after the frame line or its supply line it is one of the head, anywhere else it ends it
   tie-line : begun (stageIn (s .stage)) ≡ true → (stage : code.Stage) → s .stage ≡ stage → (hold : Bool)
       → LineMeans old (soFarIn s) n (some (tieLine hold)) ls (tieStepAt stage s hold)
   unfolding readFrom tried firstOf
   tie-line g Frame e hold = absurd (clash (sym (rw e at g)))
-  tie-line g Tie e true = record {
-    reads = rw e refl;
-    kept =
-        record {
-          slots = k .slots;
-          bridges = k .bridges;
-          least = omega arith;
-          count = k .count;
-          records = k .records;
-          fresh = λ f. absurd (clash f);
-          past = k .past;
-        };
-  }
+  tie-line g Supply e true = record { reads = rw e refl; kept = stage-kept (Busy 0) (s .head .supply) true (omega arith) refl }
+  tie-line g Supply e false = record { reads = rw e refl; kept = k }
+  tie-line g Tie e true = record { reads = rw e refl; kept = stage-kept (Busy 0) (s .head .supply) true (omega arith) refl }
   tie-line g Tie e false = record { reads = rw e refl; kept = k }
   tie-line g (Busy b) e hold = record { reads = rw e refl; kept = k }
   tie-line g Presets e hold = record { reads = rw e refl; kept = k }
+
+  module _ (m : ℕ) where
+    -- out of its place: anywhere but directly after the frame line
+    abbrev after : Bool
+    after = supplyMisplaced (stageIn (s .stage))
+
+    abbrev SupplyMeans : ℕ → Type 0
+    SupplyMeans m' = LineMeans old (soFarIn s) n (some (supplyLine m)) ls (supplyStep s m')
+
+    -- whatever its number
+    supply-late : (m' : ℕ) → after ≡ true → SupplyMeans m'
+    unfolding readFrom tried firstOf
+    supply-late m' e = rw e (record { reads = rw e refl; kept = k })
+
+    -- in its place, and outside its limits
+    supply-no : after ≡ false → within 1 8 m ≡ false → SupplyMeans (seen m)
+    unfolding readFrom tried firstOf
+    supply-no e w = rw (e, seen-within 1 8 m (omega arith) (omega arith), w) (record { reads = rw (e, w) refl; kept = k })
+
+    -- within them: the number was read as it is
+    supply-yes : after ≡ false → within 1 8 m ≡ true → SupplyMeans m
+    unfolding readFrom tried firstOf
+    supply-yes e w = rw (e, w) (record { reads = rw (e, w) refl; kept = stage-kept Tie m (s .head .hold) (omega arith) refl })
+
+    supply-line : SupplyMeans (seen m)
+    supply-line = go (is after) (is (within 1 8 m))
+      where
+        go : Is after → Is (within 1 8 m) → SupplyMeans (seen m)
+        go (is-true e) w = supply-late (seen m) e
+        go (is-false e) (is-false w) = supply-no e w
+        go (is-false e) (is-true w) =
+            let sm : seen m ≡ m = seen-small m 8 (omega arith) (within-high 1 8 m w) in
+            rw sm (supply-yes e w)
 
   -- a line after line 1; an event's form ends the head
   pub next-line : begun (stageIn (s .stage)) ≡ true → (f : Option Form) → LineMeans old (soFarIn s) n f ls (nextStep s (lineIn (s .head .slots) f))
@@ -346,6 +386,7 @@ module _ (old : List Preset) (s : State) (k : Kept old s) (n : ℕ) (ls : List (
   next-line g (some (clockLine t)) = record { reads = rw g refl; kept = k }
   next-line g (some (callLine p)) = record { reads = rw g refl; kept = k }
   next-line g (some (tieLine hold)) = tie-line g (s .stage) refl hold
+  next-line g (some (supplyLine m)) = supply-line m
 
   -- ---- a line wherever it stands
 

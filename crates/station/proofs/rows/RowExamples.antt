@@ -12,7 +12,7 @@ use mathlib.Core.Bool.{Bool, true}
 use mathlib.Core.Option.{Option, none, some}
 use mathlib.Core.List.{List, [], _∷_, _++_, map}
 use lib.ListN.{length, replicate}
-use Rattle.station.specs.Head.{Head, presetOf, bareHead, withTie, withBusy, withPresets, valid, hasNumber, allInLimits, allDistinct, masksIn}
+use Rattle.station.specs.Head.{Head, presetOf, bareHead, withSupply, withTie, withBusy, withPresets, valid, hasNumber, allInLimits, allDistinct, masksIn}
 use Rattle.station.specs.Refusal.{Refusal, noRow, outOfLimits, tooShort, textTooLong, firstOf}
 use Rattle.station.specs.Text.{bytes, lines}
 use Rattle.station.specs.Decimal.{digits, digitsIn, digitCount, plain, valueFrom}
@@ -216,9 +216,9 @@ rows-longest = refl
 
 -- ---- the entries over a list of records: 10, then 8, then 2 of the head record, all at row 0 before any row
 
--- a head record of 4 slots and 2 bridges and a tie line of its own, which stays, with this mask for bridge 1, slot 5 being past the last, that counts so many presets
+-- a head record of 4 slots and 2 bridges with a supply line and a tie line of its own, which stay, and this mask for bridge 1, slot 5 being past the last, that counts so many presets
 abbrev counting : ℕ → ℕ → record-of-head.Head
-counting m n = record { slots = 4; bridges = 2; hold = true; busy = m ∷ replicate 7 0; count = n }
+counting m n = record { slots = 4; bridges = 2; supply = 3; hold = true; busy = m ∷ replicate 7 0; count = n }
 
 pub entries-too-long : (rowsReading 31 (counting 16 0) [] (replicate 40000 10) ≡ refused 0 textTooLong)
     × (rowsReading 32 (counting 16 0) [] (replicate 40000 10) ≡ refused 0 textTooLong)
@@ -234,7 +234,7 @@ pub entries-tried : (rowsReading 31 (counting 16 0) [] (bytes "nonsense") ≡ re
     × (rowsReading 32 (counting 15 0) [] (bytes "nonsense") ≡ refused 1 noRow)
     × (rowsReading 31 (counting 8 0) [] (bytes "1,1,2\r\n") ≡ refused 0 tooShort)
     × (rowsReading 32 (counting 8 1) (recordsTo 32) (bytes "1,1,2\r\n")
-    ≡ accepted (withPresets (withBusy (withTie (bareHead 4 2) true) (3 ∷ replicate 7 0)) (presetOf 32 0 0 0 ∷ [])) 1)
+    ≡ accepted (withPresets (withBusy (withTie (withSupply (bareHead 4 2) 3) true) (3 ∷ replicate 7 0)) (presetOf 32 0 0 0 ∷ [])) 1)
     × (rowsReading 33 (counting 8 33) (recordsTo 33) (bytes "1,1,2\r\n") ≡ refused 0 outOfLimits)
     × (rowsReading 32 (counting 8 33) (recordsTo 32) [] ≡ refused 0 outOfLimits)
 unfolding readsRows triesRecord
@@ -245,7 +245,7 @@ abbrev entryLeaves : ℕ → List ℕ → RowsRead
 entryLeaves records t = rowsRead (rowsReading records (counting 8 32) (recordsTo 32) t) (counting 8 32)
 
 pub entries-left : (entryLeaves 32 (bytes "2,1,2\r\n2,4,4\r\n")
-    ≡ record { answer = Accepted 2; head = record { slots = 4; bridges = 2; hold = true; busy = 0 ∷ 11 ∷ replicate 6 0; count = 32 } })
+    ≡ record { answer = Accepted 2; head = record { slots = 4; bridges = 2; supply = 3; hold = true; busy = 0 ∷ 11 ∷ replicate 6 0; count = 32 } })
     × (entryLeaves 32 (bytes "2,1,2\r\n2,5,5\r\n") ≡ record { answer = Refused 2 code.OutOfLimits; head = counting 8 32 })
     × (entryLeaves 32 (bytes "2,1,2\n") ≡ record { answer = Refused 1 code.NoRow; head = counting 8 32 })
     × (entryLeaves 31 [] ≡ record { answer = Refused 0 code.TooShort; head = counting 8 32 })

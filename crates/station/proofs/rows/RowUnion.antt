@@ -206,6 +206,7 @@ busy-valid h ms v masks below past = record {
   slots-high = v .slots-high;
   bridges-low = v .bridges-low;
   bridges-high = v .bridges-high;
+  supply = v .supply;
   masks = masks;
   in-frame = below;
   no-bridge = past;

@@ -18,7 +18,7 @@ use Rattle.laws.proofs.Tests.{Is, is-true, is-false, is, clash, none-some, not-
 use Rattle.laws.proofs.Lists as all
 use Rattle.laws.proofs.Lists.{All}
 use Rattle.laws.proofs.Comparisons.{lt-of, ge-of}
-use Rattle.station.specs.Head.{Head, Valid, busyAt, bareHead, withTie, withBusy, withPresets}
+use Rattle.station.specs.Head.{Head, Valid, busyAt, bareHead, withSupply, withTie, withBusy, withPresets}
 use Rattle.station.specs.Refusal.{Refusal, firstOf}
 use Rattle.station.specs.Text.{lines}
 use Rattle.station.specs.Reading.{Reading, accepted, refused, unless}
@@ -96,10 +96,11 @@ same-masks f g v w slots bridges e = ext-getD 0 (f .busy) (g .busy) (v .masks �
         let past = ge-of b (g .bridges) q in
         v .no-bridge b (omega (arith, bridges)) ∙ sym (w .no-bridge b past)
 
-head-ext : (f g : Head) → f .slots ≡ g .slots → f .bridges ≡ g .bridges → f .hold ≡ g .hold → f .busy ≡ g .busy → f .presets ≡ g .presets → f ≡ g
-head-ext f g a b t c d =
-    let same : withPresets (withBusy (withTie (bareHead (f .slots) (f .bridges)) (f .hold)) (f .busy)) (f .presets)
-    ≡ withPresets (withBusy (withTie (bareHead (g .slots) (g .bridges)) (g .hold)) (g .busy)) (g .presets) = rw (a, b, t, c, d) refl in
+head-ext : (f g : Head) → f .slots ≡ g .slots → f .bridges ≡ g .bridges → f .supply ≡ g .supply → f .hold ≡ g .hold → f .busy ≡ g .busy
+    → f .presets ≡ g .presets → f ≡ g
+head-ext f g a b k t c d =
+    let same : withPresets (withBusy (withTie (withSupply (bareHead (f .slots) (f .bridges)) (f .supply)) (f .hold)) (f .busy)) (f .presets)
+    ≡ withPresets (withBusy (withTie (withSupply (bareHead (g .slots) (g .bridges)) (g .supply)) (g .hold)) (g .busy)) (g .presets) = rw (a, b, k, t, c, d) refl in
     same
 
 module _ (h : Head) (xs : List Row) where
@@ -109,12 +110,13 @@ module _ (h : Head) (xs : List Row) where
       let bridges = p .bridges ∙ sym (q .bridges) in
       let busy = same-masks f g (p .valid) (q .valid) slots bridges
       (λ s b l m. p .cells s b (omega (arith, q .slots)) (omega (arith, q .bridges)) ∙ sym (q .cells s b (omega (arith, q .slots)) (omega (arith, q .bridges)))) in
-      head-ext f g slots bridges (p .hold ∙ sym (q .hold)) busy (p .presets ∙ sym (q .presets))
+      head-ext f g slots bridges (p .supply ∙ sym (q .supply)) (p .hold ∙ sym (q .hold)) busy (p .presets ∙ sym (q .presets))
 
   in-place : Valid h → All (RowIn (h .slots) (h .bridges)) xs → InPlace h xs (withBusy h (rowsBusy xs))
   in-place v w = record {
     slots = refl;
     bridges = refl;
+    supply = refl;
     hold = refl;
     presets = refl;
     cells = λ s b l m. union-cells (h .slots) (h .bridges) (v .slots-high) (v .bridges-high) xs w s b (omega (arith, v .slots-high));
@@ -256,6 +258,7 @@ rows-one h t u f g m n {xs} {ys} v p q same e d =
     let here : InPlace h xs g = record {
       slots = b .slots;
       bridges = b .bridges;
+      supply = b .supply;
       hold = b .hold;
       presets = b .presets;
       cells = λ i j k l. b .cells i j k l ∙ sym (same i j k l);
@@ -282,6 +285,7 @@ rows-round h g v w slots bridges =
     mean-rows g (rowsText (h .busy)) _ w (all-pass (pass-bare g (maskRows 1 (h .busy)) inside) (record {
       slots = refl;
       bridges = refl;
+      supply = refl;
       hold = refl;
       presets = refl;
       cells = λ s b l m. sym (maskRows-cells (h .busy) s b (below b) (omega (arith, w .slots-high)));

@@ -1,15 +1,15 @@
 -- Laws of a head's text, line by line, as the writer's loops meet it.
 --
--- In order: the busy lines from one bridge on (`busy-lines-step`); the preset lines from one record on (`preset-lines-step`); the
+-- In order: the busy lines from one bridge on (`busy-lines-step`); the preset lines from one record on (`preset-lines-step`); the supply line (`supply-text`); the
 -- whole text (`head-text`); a text that was written (`text-written`); the cause of writing (`cause-short`, `cause-outside`, `cause-none`), and the answer and output by
 -- the cause that holds (`too-short`, `out-of-limits`, `head-written`).
 -- Assumes nothing.
-use Prim.Native.Nat.{ℕ, suc, _≤_, _<_}
+use Prim.Native.Nat.{ℕ, zero, suc, _≤_, _<_}
 use native.Mathlib.Omega.{arith}
 use mathlib.Core.Path.{_≡_, refl, _∙_, ap}
 use mathlib.Core.Bool.{true, false}
 use mathlib.Core.Option.{Option, none, some}
-use mathlib.Core.List.{List, _++_, map, map-append}
+use mathlib.Core.List.{List, _++_, map, map-append, append-nil}
 use lib.ListN.{length, take, drop, getD}
 use lib.Seq.{drop-cons}
 use Rattle.laws.proofs.Comparisons.{ltb-yes, ltb-no}
@@ -19,9 +19,10 @@ use Rattle.station.specs.declared.write.Writing.the-variants.{Written, R
 use Rattle.station.specs.declared.types.Refusal.the-variants.{TooShort, OutOfLimits}
 use Rattle.station.specs.Head.{Head}
 use Rattle.station.specs.Refusal.{Refusal, outOfLimits, tooShort, firstOf}
-use Rattle.station.specs.Text.{join}
-use Rattle.station.specs.Form.{Form, frameLine, presetLine, print}
-use Rattle.station.specs.Writing.{stretches, busyLineOf, busyLines, tieLines, formsOf, textOf}
+use Rattle.station.specs.Text.{bytes, _then_, join}
+use Rattle.station.specs.Decimal.{digits}
+use Rattle.station.specs.Form.{Form, frameLine, presetLine, supplyLine, print}
+use Rattle.station.specs.Writing.{stretches, busyLineOf, busyLines, supplyLines, tieLines, formsOf, textOf}
 use Rattle.station.specs.Types.{presetIn, noRecord, headIn, validRecord}
 use Rattle.station.specs.Wrote.{Wrote}
 use Rattle.station.specs.WriteHead.{written, writeCauses, answerOf, outputOf, writeAnswer, writeOutput, WroteHead}
@@ -48,14 +49,22 @@ pub preset-lines-step : (i n : ℕ) (ps : List Preset) → i < n → n ≤ lengt
     ≡ print (presetLine (presetIn (getD ps i noRecord))) ++ join (map print (map presetLine (map presetIn (drop (suc i) (take n ps)))))
 preset-lines-step i n ps h l = rw (records-step i n ps h l) refl
 
--- the text of a head: the frame line, the tie line, the busy lines, the preset lines
-pub head-text : (h : Head) → textOf h ≡ print (frameLine (h .slots) (h .bridges)) ++ (join (map print (tieLines (h .hold)))
-    ++ (join (map print (busyLines 1 (h .busy))) ++ join (map print (map presetLine (h .presets)))))
+-- the text of a supply line, where there is one
+pub supply-text : (k : ℕ) → (k ≡ 0 → ⊥) → join (map print (supplyLines k)) ≡ bytes "(supply " then digits k then bytes ")\n"
+unfolding print
+supply-text zero h = absurd (h refl)
+supply-text (suc k) h = append-nil (print (supplyLine (suc k)))
+
+-- the text of a head: the frame line, the supply line, the tie line, the busy lines, the preset lines
+pub head-text : (h : Head) → textOf h ≡ print (frameLine (h .slots) (h .bridges)) ++ (join (map print (supplyLines (h .supply)))
+    ++ (join (map print (tieLines (h .hold))) ++ (join (map print (busyLines 1 (h .busy))) ++ join (map print (map presetLine (h .presets))))))
 unfolding textOf formsOf
 head-text h =
     ap (λ (l : List ℕ). print (frameLine (h .slots) (h .bridges)) ++ l)
+    (text-append (supplyLines (h .supply)) (tieLines (h .hold) ++ (busyLines 1 (h .busy) ++ map presetLine (h .presets)))
+    ∙ ap (λ (l : List ℕ). join (map print (supplyLines (h .supply))) ++ l)
     (text-append (tieLines (h .hold)) (busyLines 1 (h .busy) ++ map presetLine (h .presets))
-    ∙ ap (λ (l : List ℕ). join (map print (tieLines (h .hold))) ++ l) (text-append (busyLines 1 (h .busy)) (map presetLine (h .presets))))
+    ∙ ap (λ (l : List ℕ). join (map print (tieLines (h .hold))) ++ l) (text-append (busyLines 1 (h .busy)) (map presetLine (h .presets)))))
 
 -- ---- the entry's answer and output, by the cause that holds
 

@@ -2,7 +2,7 @@
 -- read. Document 01, "The station text" and "Causes".
 --
 -- In order: the answers (`acceptedRead`, `refusedRead`); the state between two lines and what it stands for (`noState`, `stageIn`, `soFarIn`); one line more, by
--- its form (`frameStep`, `headTieStep`, `tieStep`, `busyStep`, `presetStep`), on line 1 (`firstStep`), after it (`nextStep`), and anywhere (`stepOf`). That a step is what
+-- its form (`frameStep`, `supplyStep`, `headTieStep`, `tieStep`, `busyStep`, `presetStep`), on line 1 (`firstStep`), after it (`nextStep`), and anywhere (`stepOf`). That a step is what
 -- `readFrom` makes of the line is shown in proofs/heads/StepMeaning.antt.
 -- Assumes nothing.
 use Prim.Native.Nat.{ℕ, _+_, _-_}
@@ -11,7 +11,7 @@ use mathlib.Core.Option.{Option, none, some}
 use mathlib.Core.List.{List, [], _∷_, map}
 use lib.ListN.{take, set}
 use lib.Dec.{leb}
-use Rattle.station.specs.Limits.{mostPresets}
+use Rattle.station.specs.Limits.{mostMotors, mostPresets}
 use Rattle.station.specs.declared.types.Preset.{Preset}
 use Rattle.station.specs.declared.types.Head.{Head}
 use Rattle.station.specs.declared.types.Refusal.{Refusal}
@@ -20,7 +20,7 @@ use Rattle.station.specs.declared.forms.Line.the-variants as line
 use Rattle.station.specs.declared.heads.ReadAnswer.the-variants.{Accepted, Refused}
 use Rattle.station.specs.declared.heads.HeadRead.{HeadRead}
 use Rattle.station.specs.declared.heads.steps.Stage as code
-use Rattle.station.specs.declared.heads.steps.Stage.the-variants.{Frame, Tie, Busy, Presets}
+use Rattle.station.specs.declared.heads.steps.Stage.the-variants.{Frame, Supply, Tie, Busy, Presets}
 use Rattle.station.specs.declared.heads.steps.State.{State}
 use Rattle.station.specs.declared.heads.steps.Verdict.the-variants.{Goes, Ends, Fails}
 use Rattle.station.specs.declared.heads.steps.Step.{Step}
@@ -28,8 +28,8 @@ use Rattle.station.specs.Head as meant
 use Rattle.station.specs.Head.{presetOf}
 use Rattle.station.specs.Refusal as meant-refusal
 use Rattle.station.specs.Refusal.{try, firstOf, noForm, outOfLimits, outOfPlace, numberUsed, tooMany}
-use Rattle.station.specs.Reading.{Stage, atFrame, atTie, atBusy, atPresets, begun, busyMisplaced, SoFar}
-use Rattle.station.specs.Types.{refusalOf, presetIn, bareRecord, withHold, withMasks, withCount, headIn}
+use Rattle.station.specs.Reading.{Stage, atFrame, atSupply, atTie, atBusy, atPresets, begun, supplyMisplaced, busyMisplaced, SoFar}
+use Rattle.station.specs.Types.{refusalOf, presetIn, bareRecord, withSupplied, withHold, withMasks, withCount, headIn}
 use Rattle.station.specs.ReadHead.{recordOf}
 
 -- ---- the answers, in the code's values
@@ -51,6 +51,7 @@ noState presets = record { stage = Frame; head = bareRecord 0 0; presets = prese
 -- what the code's stage stands for
 abbrev pub stageIn : code.Stage → Stage
 stageIn Frame = atFrame
+stageIn Supply = atSupply
 stageIn Tie = atTie
 stageIn (Busy b) = atBusy b
 stageIn Presets = atPresets
@@ -80,25 +81,38 @@ stepBy (some c) s next = failed s c
 
 -- the state after the frame line
 abbrev pub afterFrame : State → ℕ → ℕ → State
-afterFrame s slots bridges = record { stage = Tie; head = bareRecord slots bridges; presets = s .presets }
+afterFrame s slots bridges = record { stage = Supply; head = bareRecord slots bridges; presets = s .presets }
 
 -- a frame line on line 1
 abbrev pub frameStep : State → ℕ → ℕ → Step
 frameStep s slots bridges =
     stepBy (firstOf (try outOfLimits (not (meant.frameInLimits slots bridges)) ∷ [])) s (afterFrame s slots bridges)
 
+-- the causes of a supply line after the frame line
+abbrev pub supplyCauses : State → ℕ → List (Option meant-refusal.Refusal)
+supplyCauses s k = try outOfPlace (supplyMisplaced (stageIn (s .stage))) ∷ try outOfLimits (not (meant.within 1 mostMotors k)) ∷ []
+
+-- the state after the supply line
+abbrev pub afterSupply : State → ℕ → State
+afterSupply s k = record { stage = Tie; head = withSupplied (s .head) k; presets = s .presets }
+
+-- a supply line after the frame line
+abbrev pub supplyStep : State → ℕ → Step
+supplyStep s k = stepBy (firstOf (supplyCauses s k)) s (afterSupply s k)
+
 -- the state after the head's tie line
 abbrev pub afterTie : State → State
 afterTie s = record { stage = Busy 0; head = withHold (s .head) true; presets = s .presets }
 
--- a tie line directly after the frame line is one of the head, where place is out of its place
+-- a tie line directly after the frame line or its supply line is one of the head, where place is out of its place
 abbrev pub headTieStep : State → Bool → Step
 headTieStep s true = record { verdict = Goes; state = afterTie s }
 headTieStep s false = failed s outOfPlace
 
--- a tie line after the frame line: anywhere but directly after it, it has an event's form and ends the head
+-- a tie line after the frame line: anywhere but directly after it or its supply line, it has an event's form and ends the head
 abbrev pub tieStepAt : code.Stage → State → Bool → Step
 tieStepAt Frame s hold = failed s outOfPlace
+tieStepAt Supply s hold = headTieStep s hold
 tieStepAt Tie s hold = headTieStep s hold
 tieStepAt (Busy b) s hold = ended s
 tieStepAt Presets s hold = ended s
@@ -146,6 +160,7 @@ firstStep s (line.Preset n p m o) = failed s outOfPlace
 firstStep s (line.Clock t) = failed s outOfPlace
 firstStep s (line.Call n) = failed s outOfPlace
 firstStep s (line.Tie hold) = failed s outOfPlace
+firstStep s (line.Supply k) = failed s outOfPlace
 
 -- a line after line 1
 abbrev pub nextStep : State → Line → Step
@@ -156,6 +171,7 @@ nextStep s (line.Preset n p m o) = presetStep s (presetOf n p m o)
 nextStep s (line.Clock t) = ended s
 nextStep s (line.Call n) = ended s
 nextStep s (line.Tie hold) = tieStep s hold
+nextStep s (line.Supply k) = supplyStep s k
 
 -- by whether the frame line was read
 abbrev pub stepWhere : Bool → State → Line → Step

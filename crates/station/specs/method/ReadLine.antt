@@ -6,13 +6,13 @@ use mathlib.Core.Option.{Option, none, some}
 use mathlib.Core.List.{List}
 use lib.ListN.{length}
 use Rattle.station.specs.Limits.{mostJobs}
-use Rattle.station.specs.Form.{Form, frameLine, busyLine, presetLine, clockLine, callLine, tieLine, jobsOf}
-use Rattle.station.specs.Form.{_orElse_, frameIn, busyIn, presetIn, clockIn, callIn, tieIn}
+use Rattle.station.specs.Form.{Form, frameLine, busyLine, presetLine, clockLine, callLine, tieLine, supplyLine, jobsOf}
+use Rattle.station.specs.Form.{_orElse_, frameIn, busyIn, presetIn, clockIn, callIn, tieIn, supplyIn}
 use Rattle.station.specs.Writing.{maskOf, ordered}
 use Rattle.station.specs.Jobs.{padded, noJobs, seen}
 use Rattle.station.specs.declared.types.Job.{Job}
 use Rattle.station.specs.declared.forms.Line.{Line}
-use Rattle.station.specs.declared.forms.Line.the-variants.{NoForm, Frame, Busy, Preset, Clock, Call, Tie}
+use Rattle.station.specs.declared.forms.Line.the-variants.{NoForm, Frame, Busy, Preset, Clock, Call, Tie, Supply}
 use Rattle.station.specs.declared.forms.Read.{Read}
 
 -- A line in a frame of hi slots. Of a busy line: the bridge, the mask of its stretches where they are in order and within the frame, else 0,
@@ -25,6 +25,7 @@ lineIn hi (some (presetLine p)) = Preset (seen (p .number)) (seen (p .priority))
 lineIn hi (some (clockLine t)) = Clock (seen t)
 lineIn hi (some (callLine p)) = Call (seen (length (jobsOf p)))
 lineIn hi (some (tieLine hold)) = Tie hold
+lineIn hi (some (supplyLine k)) = Supply (seen k)
 
 -- the first eight jobs of a call, and no job of any other line
 abbrev pub jobsOfForm : Option Form → List Job
@@ -35,14 +36,15 @@ jobsOfForm (some (presetLine p)) = noJobs
 jobsOfForm (some (clockLine t)) = noJobs
 jobsOfForm (some (callLine p)) = padded mostJobs (jobsOf p)
 jobsOfForm (some (tieLine hold)) = noJobs
+jobsOfForm (some (supplyLine k)) = noJobs
 
 -- a line and its jobs
 abbrev pub readIn : ℕ → Option Form → Read
 readIn hi f = record { line = lineIn hi f; jobs = jobsOfForm f }
 
--- ---- the six forms in two parts
+-- ---- the seven forms in two parts
 
--- a line that is not one of the six forms is not
+-- a line that is not one of the seven forms is not
 abbrev pub hasForm : Line → Bool
 hasForm NoForm = false
 hasForm (Frame s b) = true
@@ -51,10 +53,11 @@ hasForm (Preset n p m o) = true
 hasForm (Clock t) = true
 hasForm (Call n) = true
 hasForm (Tie hold) = true
+hasForm (Supply k) = true
 
 -- "The head comes first": a line of the head
 abbrev pub headForm : List ℕ → Option Form
-headForm l = frameIn l orElse busyIn l orElse presetIn l
+headForm l = frameIn l orElse busyIn l orElse presetIn l orElse supplyIn l
 
 -- "Events follow": a line with an event's form
 abbrev pub eventForm : List ℕ → Option Form

@@ -1,6 +1,7 @@
 // One line of a head, held against what the lines before it make.
 use crate::check::frame_in_limits;
 use crate::check::preset_in_limits;
+use crate::check::supply_in_limits;
 use crate::forms::Line;
 use crate::forms::read_line;
 use crate::limits::MOST_BRIDGES;
@@ -19,14 +20,16 @@ ghost use Rattle.station.specs.Limits.{mostSlots};
 ghost use Rattle.station.specs.Head.{presetOf, within, presetInLimits, hasNumber};
 ghost use Rattle.station.specs.Form.{form};
 ghost use Rattle.station.specs.method.ReadLine.{lineIn};
-ghost use Rattle.station.specs.Reading.{begun, busyMisplaced};
+ghost use Rattle.station.specs.Reading.{begun, supplyMisplaced, busyMisplaced};
 ghost use Rattle.station.specs.Types.{presetIn};
 ghost use Rattle.station.specs.ReadHead.{recordOf};
-ghost use Rattle.station.specs.method.HeadStep.{stageIn, stopped, frameStep, headTieStep, tieStep, busyStep, presetStep, firstStep, nextStep, stepOf};
+ghost use Rattle.station.specs.method.HeadStep.{stageIn, stopped, frameStep, supplyStep, headTieStep, tieStep, busyStep, presetStep, firstStep, nextStep, stepOf};
 
-// How far a head was read: at the frame line; directly after it, where the head's tie line stands; at the busy lines, the next with this bridge at the least; at the presets.
+// How far a head was read: at the frame line; directly after it, where the head's supply line stands, and its tie line where there is no supply line; right after the supply line,
+// where its tie line stands; at the busy lines, the next with this bridge at the least; at the presets.
 pub(crate) enum Stage {
     Frame,
+    Supply,
     Tie,
     Busy(usize),
     Presets,
@@ -58,6 +61,20 @@ pub(crate) fn has_begun(stage: Stage) -> bool
 {
     match stage {
         Stage::Frame => false,
+        Stage::Supply => true,
+        Stage::Tie => true,
+        Stage::Busy(_) => true,
+        Stage::Presets => true,
+    }
+}
+
+// Whether a supply line is out of its place: anywhere but directly after the frame line.
+fn supply_misplaced(stage: Stage) -> bool
+    ensures { λ r. ⌜ r ≡ supplyMisplaced (stageIn stage) ⌝ }
+{
+    match stage {
+        Stage::Frame => true,
+        Stage::Supply => false,
         Stage::Tie => true,
         Stage::Busy(_) => true,
         Stage::Presets => true,
@@ -70,6 +87,7 @@ fn busy_misplaced(stage: Stage, bridge: usize) -> bool
 {
     match stage {
         Stage::Frame => true,
+        Stage::Supply => false,
         Stage::Tie => false,
         Stage::Busy(least) => bridge < least,
         Stage::Presets => true,
@@ -153,7 +171,7 @@ fn frame_step(state: State, slots: u32, bridges: u32) -> Step
     head.bridges = bridges as usize;
     let presets = state.presets;
     let next = State {
-        stage: Stage::Tie,
+        stage: Stage::Supply,
         head,
         presets,
     };
@@ -163,7 +181,32 @@ fn frame_step(state: State, slots: u32, bridges: u32) -> Step
     }
 }
 
-// The head's tie line, directly after the frame line: place is out of its place there.
+// A supply line after the frame line: refused anywhere but directly after it, and where its number is outside its limits; else the head has its number.
+fn supply_step(state: State, motors: u32) -> Step
+    ensures { λ r. ⌜ r ≡ supplyStep state motors ⌝ }
+{
+    let stage = state.stage;
+    if supply_misplaced(stage) {
+        return stop(state, Refusal::OutOfPlace);
+    }
+    if !supply_in_limits(motors as usize) {
+        return stop(state, Refusal::OutOfLimits);
+    }
+    let mut after = state.head;
+    after.supply = motors as usize;
+    let presets = state.presets;
+    let next = State {
+        stage: Stage::Tie,
+        head: after,
+        presets,
+    };
+    Step {
+        verdict: Verdict::Goes,
+        state: next,
+    }
+}
+
+// The head's tie line, directly after the frame line or its supply line: place is out of its place there.
 fn tie_in_head(state: State, hold: bool) -> Step
     ensures { λ r. ⌜ r ≡ headTieStep state hold ⌝ }
 {
@@ -184,13 +227,14 @@ fn tie_in_head(state: State, hold: bool) -> Step
     }
 }
 
-// A tie line after the frame line: anywhere but directly after it, it ends the head before it, as an event does.
+// A tie line after the frame line: anywhere but directly after it or its supply line, it ends the head before it, as an event does.
 fn tie_step(state: State, hold: bool) -> Step
     ensures { λ r. ⌜ r ≡ tieStep state hold ⌝ }
 {
     let stage = state.stage;
     match stage {
         Stage::Frame => stop(state, Refusal::OutOfPlace),
+        Stage::Supply => tie_in_head(state, hold),
         Stage::Tie => tie_in_head(state, hold),
         Stage::Busy(_) => Step {
             verdict: Verdict::Ends,
@@ -277,6 +321,7 @@ fn first_step(state: State, line: Line) -> Step
         Line::Clock(_) => stop(state, Refusal::OutOfPlace),
         Line::Call(_) => stop(state, Refusal::OutOfPlace),
         Line::Tie(_) => stop(state, Refusal::OutOfPlace),
+        Line::Supply(_) => stop(state, Refusal::OutOfPlace),
     }
 }
 
@@ -300,6 +345,7 @@ fn next_step(state: State, line: Line) -> Step
             state,
         },
         Line::Tie(hold) => tie_step(state, hold),
+        Line::Supply(motors) => supply_step(state, motors),
     }
 }
 

@@ -61,7 +61,7 @@ returns-2 c =
     let tried = k .cause-by-counts .ensures .0 h (a .clock) (cell h (a .table .now)) (run .valid) (run .wellFormed .cells) right in
     let known = cause-known (a .jobs) (omega (arith, s)) (a .n) h (a .clock) (cell h (a .table .now)) (sym tried ∙ ap causeIn (e .enum-told .given .1)) in
     let done = counted-done (a .head) (a .presets) (callJobs (a .n) (a .jobs)) (stateOf (a .table .now) (a .clock) (a .hold)) v run tried (e .enum-told .given .1)
-    (call-jobs (a .jobs) (omega (arith, s)) (a .n) (known .0)) (o .carry-out .ensures v (run .long) (known .0) (known .1)) in (
+    (call-jobs (a .jobs) (omega (arith, s)) (a .n) (known .0)) (o .carry-out .ensures v (run .long) (run .wellFormed .cells) (known .0) (known .1)) in (
       done,
       counted-after (a .head) (a .presets) (a .jobs) (a .n) (stateOf (a .table .now) (a .clock) (a .hold)) (omega (arith, s)) v run tried (e .enum-told .given .1) done right (m .mark-jobs .ensures)
           (c .capacities-at .ensures),

@@ -16,7 +16,7 @@ use Rattle.placing.specs.method.Search.{Evicts}
 use Rattle.placing.proofs.search.EvictedSet.{valid-searchable}
 use Rattle.placing.proofs.HeadRecord.{record-valid}
 use Rattle.placing.proofs.counts.causes.CallCauses.{jobs-length, needs-low}
-use Rattle.placing.proofs.call.CallAnswers.{carried-refused, carried-taken}
+use Rattle.placing.proofs.call.CallAnswers.{carried-refused, call-fillable, carried-taken}
 use Rattle.placing.proofs.call.EmptyFrom.{clean-from}
 use Rattle.placing.proofs.call.carry_out.Statement.{statement}
 use Rattle.placing.proofs.call.carry_out.Tie as tie
@@ -41,7 +41,7 @@ same-length c = search needs
 
 returns : tie.Need-returns
 returns c =
-    λ v long few inside.
+    λ v long formed few inside.
     let a = c .before .before .before .before .before .before .args in
     carried-refused (headIn (a .head) (a .presets)) (jobsIn (a .n) (a .jobs)) (stateOf (a .table .now) (a .clock) (a .hold))
     (sym (searched (c .before .before) v long few inside .fits) ∙ false-of-not _ (c .if1 .taken))
@@ -60,23 +60,24 @@ same-length-2 c = search needs
 
 returns-2 : tie.Need-returns-2
 returns-2 c =
-    λ v long few inside.
+    λ v long formed few inside.
     let w = c .before .before in
     let past = w .before .before in
     let k = past .before in
-    let f = k .before .before in
+    let f = k .before .before .before in
     let e = f .before .before in
     let s = e .before .before .before .before in
     let a = s .args in
     let h = headIn (a .head) (a .presets) in
     let valid = record-valid (a .head) (a .presets) v in
-    carried-taken h (jobsIn (a .n) (a .jobs)) (stateOf (a .table .now) (a .clock) (a .hold)) (e .evict .result) (searched e v long few inside) (true-of-not _ (f .if1 .left))
+    carried-taken h (jobsIn (a .n) (a .jobs)) (stateOf (a .table .now) (a .clock) (a .hold)) (e .evict .result) (searched e v long few inside) valid formed (true-of-not _ (f .if1 .left))
     (e .before .before .job-needs .result) (a .n) (k .job-cells .result)
     (is-placeable (h .slots) (h .bridges) (e .before .before .job-needs .result) (a .n) (length (a .table .now)) (valid .slots-high) (valid .bridges-high) (omega (arith, few)) long
     (needs-low (a .jobs) (omega (arith, s)) (a .n) few inside (e .before .before .job-needs .result) (e .before .before .job-needs .ensures (a .n) few inside)))
     (e .before .before .job-needs .ensures (a .n) few inside)
     (λ i l. k .job-cells .ensures (a .n) few inside i (omega (arith, l, jobs-length (a .jobs) (omega (arith, s)) (a .n) few))) (w .place .ensures (clean-from h (a .clock) (jobsIn (a .n) (a .jobs)) (a .table .now) (e .evict .result) (searched e v long few inside) (past .past-evicted .result)
-    (past .past-evicted .ensures)))
+    (past .past-evicted .ensures))
+    (call-fillable h (jobsIn (a .n) (a .jobs)) (stateOf (a .table .now) (a .clock) (a .hold)) (e .evict .result) (searched e v long few inside) valid formed))
 
 pub carry-out-spec : {M : Type 1} → statement M
 carry-out-spec =

@@ -1,10 +1,10 @@
 -- The check that the code does, `checked` of specs/method/Check.antt, is the test `wellFormed`.
 --
--- In order: the counts of a table as cells of the frame; a cell that fits, both ways; a table that passes the check is well-formed, and a well-formed one
--- passes it; the two tests are one (`wellFormed-checked`); a law for each answer.
+-- In order: the counts of a table as cells of the frame; the held cells of a slot are those that have numbers (`held-numbered`); a cell that fits, both ways; a table that passes the check is well-formed, and a well-formed one passes it; the two tests are one
+-- (`wellFormed-checked`); a law for each answer.
 -- Assumes nothing.
 use Prim.Native.Nat.{ℕ, _+_, _*_, _-_, _/_, _%_, _≤_, _<_}
-use native.Mathlib.Nat.{mod-lt, div-add-mod', div-lt-iff-lt-mul}
+use native.Mathlib.Nat.{le-refl, mod-lt, div-add-mod', div-lt-iff-lt-mul}
 use native.Mathlib.Omega.{arith}
 use mathlib.Core.Path.{_≡_, refl, sym, _∙_, ap, ap₂}
 use mathlib.Core.Logic.{⊎-elim}
@@ -17,14 +17,15 @@ use Rattle.laws.proofs.Tests.{Is, is-true, is-false, is, both, left-of, right-o
 use Rattle.laws.proofs.Tests.{false-of-not, or-left, or-right, or-cases, fails-left, fails-right, clash}
 use Rattle.laws.proofs.Comparisons.{lt-of, ge-of, le-of, gt-of, eq-of, ne-of, ltb-yes, ltb-no, leb-yes, leb-no, eqb-yes, eqb-no}
 use Rattle.laws.proofs.Every.{every-all, all-every}
-use Rattle.laws.proofs.Sums.{term-le, sum-zero, sum-split, sum-rows}
-use Rattle.laws.proofs.Counts.{count-ext, count-none, count-some}
+use Rattle.laws.proofs.Sums.{term-le, sum-zero, sum-split, sum-beyond, sum-rows}
+use Rattle.laws.proofs.Counts.{count-capped, count-ext, count-none, count-some}
 use Rattle.station.specs.Head.{Head, Valid, busyAt, presetAt}
 use Rattle.placing.specs.Table.{Cells, Each, WellFormed, cell, holding, kindOf, numberIn, mandatoryCell, optionalCell, callCell, isBusy}
-use Rattle.placing.specs.Table.{isMandatory, isOptional, isCall, presetCount, numberAt, hasPreset, hasJob, jobCount, wellFormed, eachCell}
-use Rattle.placing.specs.method.Check.{tally, numbered, cellFits, differs, isNew, fitsAt, presetMet, hasCall, checked, FirstFault}
+use Rattle.placing.specs.Table.{isMandatory, isOptional, isCall, isHeld, heldCells, motors, presetCount, numberAt, hasPreset, hasJob, jobCount, wellFormed, eachCell}
+use Rattle.placing.specs.method.Check.{tally, numbered, cellFits, differs, isNew, heldBefore, isFed, fitsAt, presetMet, hasCall, checked, FirstFault}
 use Rattle.placing.proofs.CountedCells.{cells-pos, cells-some, numberIn-lt, mandatory-of, call-of, numberIn-mandatory, numberIn-optional, numberIn-call}
 use Rattle.placing.proofs.CountedCells.{numberAt-low, numberAt-lt, preset-with, kindOf-mandatory}
+use Rattle.placing.proofs.FreeNumber.{unheld-low, held-test}
 use Rattle.placing.proofs.WellFormed.{eachCell-all, all-eachCell, wellFormed-of, of-wellFormed}
 use Rattle.placing.proofs.WrittenTable.{place-below}
 use Rattle.placing.proofs.check.table.Counted.{tally-at, numbered-at}
@@ -62,6 +63,21 @@ numbers h = numbered (h .presets) (presetCount h)
 
 preset-counted : (h : Head) (n : ℕ) → n < 256 → ltb 0 (getD (numbers h) n 0) ≡ hasPreset h n
 preset-counted h n l = ap (λ (k : ℕ). ltb 0 k) (numbered-at (h .presets) n l (presetCount h))
+
+-- ---- the held cells of a slot
+
+-- of the five kinds, a cell is held just if it has a number
+held-numbered : (v : ℕ) → kindOf v ≤ 4 → not (ltb v 512) ≡ isHeld v
+held-numbered v k = go (is (ltb v 512))
+  where
+    go : Is (ltb v 512) → not (ltb v 512) ≡ isHeld v
+    go (is-true e) = rw e (sym (unheld-low v (lt-of v 512 e)))
+    go (is-false e) = rw e (sym (ltb-yes v 1280 (omega arith)) ∙ held-test v (ge-of v 512 e))
+
+-- those before cell b of slot s
+held-so-far : (h : Head) (t : List ℕ) (s b : ℕ) → ((a : ℕ) → a < b → kindOf (cell h t s a) ≤ 4)
+    → heldBefore t (s * h .bridges) b ≡ count b (λ a. isHeld (cell h t s a))
+held-so-far h t s b kinds = count-ext b (λ a. not (ltb (cell h t s a) 512)) (λ a. isHeld (cell h t s a)) (λ a l. held-numbered (cell h t s a) (kinds a l))
 
 -- ---- a cell that fits
 
@@ -187,7 +203,7 @@ module _ (ns c : List ℕ) (v : ℕ) where
 -- the parts of `checked`, in its order
 module _ (h : Head) (t : List ℕ) where
   abbrev by-cells : Bool
-  by-cells = eachCell h (fitsAt (h .bridges) (h .busy) (numbers h) t)
+  by-cells = eachCell h (fitsAt (h .bridges) (motors h) (h .busy) (numbers h) t)
 
   abbrev by-presets : Bool
   by-presets = every (presetCount h) (presetMet (h .presets) (tally t (h .slots * h .bridges)))
@@ -213,21 +229,44 @@ module _ (h : Head) (valid : Valid h) (t : List ℕ) where
   abbrev all : List ℕ
   all = tally t (h .slots * h .bridges)
 
+  -- the test of cell b of slot s by its value
+  abbrev by-value : ℕ → ℕ → Bool
+  by-value s b = cellFits (numbers h) (so-far s b) (busyAt h s b) (T s b)
+
   -- a table that passes the check is well-formed
   module _ (e : checked h t ≡ true) where
     part : (i : ℕ) → getD (parts h t) i true ≡ true
     part i = conjunction-at (parts h t) (sym (parts-are h t) ∙ e) i
 
-    fits-both : Each h (λ s b. fitsAt (h .bridges) (h .busy) (numbers h) t s b ≡ true)
-    fits-both = eachCell-all h (fitsAt (h .bridges) (h .busy) (numbers h) t) (part 0)
+    fits : Each h (λ s b. fitsAt (h .bridges) (motors h) (h .busy) (numbers h) t s b ≡ true)
+    fits = eachCell-all h (fitsAt (h .bridges) (motors h) (h .busy) (numbers h) t) (part 0)
+
+    fits-new : Each h (λ s b. (by-value s b && isNew t (s * h .bridges) b) ≡ true)
+    fits-new s b ls lb = left-of (by-value s b && isNew t (s * h .bridges) b) (isFed t (s * h .bridges) (motors h) b) (fits s b ls lb)
 
     cell-at : Each h (λ s b. Fits (numbers h) (so-far s b) (busyAt h s b) (T s b))
     cell-at s b ls lb =
-        fits-of (numbers h) (so-far s b) (T s b) (busyAt h s b)
-        (left-of (cellFits (numbers h) (so-far s b) (busyAt h s b) (T s b)) (isNew t (s * h .bridges) b) (fits-both s b ls lb))
+        fits-of (numbers h) (so-far s b) (T s b) (busyAt h s b) (left-of (by-value s b) (isNew t (s * h .bridges) b) (fits-new s b ls lb))
 
     new-at : Each h (λ s b. isNew t (s * h .bridges) b ≡ true)
-    new-at s b ls lb = right-of (cellFits (numbers h) (so-far s b) (busyAt h s b) (T s b)) (isNew t (s * h .bridges) b) (fits-both s b ls lb)
+    new-at s b ls lb = right-of (by-value s b) (isNew t (s * h .bridges) b) (fits-new s b ls lb)
+
+    fed-at : Each h (λ s b. isFed t (s * h .bridges) (motors h) b ≡ true)
+    fed-at s b ls lb = right-of (by-value s b && isNew t (s * h .bridges) b) (isFed t (s * h .bridges) (motors h) b) (fits s b ls lb)
+
+    -- before a held cell of a slot fewer are held than the supply feeds motors, so in all no more
+    supplied : (s : ℕ) → s < h .slots → heldCells h T s ≤ motors h
+    supplied s ls =
+        omega (
+          arith,
+          held-so-far h t s (h .bridges) (λ b lb. cell-at s b ls lb .kinds),
+          count-capped (h .bridges) (motors h) (λ b. not (ltb (T s b) 512)) few,
+        )
+      where
+        few : (b : ℕ) → b < h .bridges → not (ltb (T s b) 512) ≡ true → heldBefore t (s * h .bridges) b < motors h
+        few b lb p =
+            ⊎-elim (λ q. absurd (clash (sym q ∙ false-of-not _ p))) (λ q. lt-of (heldBefore t (s * h .bridges) b) (motors h) q)
+            (or-cases (ltb (T s b) 512) (ltb (heldBefore t (s * h .bridges) b) (motors h)) (fed-at s b ls lb))
 
     -- a cell below the first mandatory one has no number
     plain : (s b : ℕ) → s < h .slots → b < h .bridges → ltb (T s b) 512 ≡ true → numberIn (T s b) ≡ 0
@@ -347,6 +386,7 @@ module _ (h : Head) (valid : Valid h) (t : List ℕ) where
           most = at-most;
           jobs = omega (arith, jobs-counted h t, le-of (count 256 (hasCall all)) 64 (part 2));
           apart = apart;
+          supplied = supplied;
         }
 
   -- a well-formed table passes the check
@@ -442,6 +482,23 @@ module _ (h : Head) (valid : Valid h) (t : List ℕ) where
             (λ a l. or-right (ltb (T s a) 512) _
             (not-is-true _ (eqb-no (numberIn (T s a)) n (λ q. omega (arith, number-low s b ls lb (ge-of (T s b) 512 e), w .once s a b ls l lb q))))))
 
+    -- a held cell is one of those that the supply feeds
+    fed : Each h (λ s b. isFed t (s * h .bridges) (motors h) b ≡ true)
+    fed s b ls lb = go (is (ltb (T s b) 512))
+      where
+        go : Is (ltb (T s b) 512) → isFed t (s * h .bridges) (motors h) b ≡ true
+        go (is-true e) = or-left _ (ltb (heldBefore t (s * h .bridges) b) (motors h)) e
+        go (is-false e) =
+            or-right (ltb (T s b) 512) _
+            (ltb-yes (heldBefore t (s * h .bridges) b) (motors h)
+            (omega (
+              arith,
+              w .supplied s ls,
+              held-so-far h t s (h .bridges) (λ a l. w .kinds s a ls l),
+              sum-beyond b (h .bridges) (λ a. bit (not (ltb (T s a) 512))) b (le-refl b) lb,
+              ap (λ (c : Bool). bit (not c)) e,
+            )))
+
     met : (i : ℕ) → i < presetCount h → presetMet (h .presets) all i ≡ true
     met i l =
         let high : numberAt h i < 256 = numberAt-lt h valid i l in
@@ -453,9 +510,10 @@ module _ (h : Head) (valid : Valid h) (t : List ℕ) where
     wellFormed-passes =
         parts-are h t
         ∙ all-conjunction (parts h t)
-        (all-eachCell h (fitsAt (h .bridges) (h .busy) (numbers h) t)
-        (λ s b ls lb. both (cellFits (numbers h) (so-far s b) (busyAt h s b) (T s b)) (isNew t (s * h .bridges) b)
-        (of-fits (numbers h) (so-far s b) (T s b) (busyAt h s b) (cell-fits s b ls lb)) (new s b ls lb))
+        (all-eachCell h (fitsAt (h .bridges) (motors h) (h .busy) (numbers h) t)
+        (λ s b ls lb. both (by-value s b && isNew t (s * h .bridges) b) (isFed t (s * h .bridges) (motors h) b)
+        (both (by-value s b) (isNew t (s * h .bridges) b) (of-fits (numbers h) (so-far s b) (T s b) (busyAt h s b) (cell-fits s b ls lb)) (new s b ls lb))
+        (fed s b ls lb))
         and all-every (presetCount h) (presetMet (h .presets) all) met
         and leb-yes (count 256 (hasCall all)) 64 (omega (arith, jobs-counted h t, w .jobs))
         and end)
@@ -471,7 +529,7 @@ module _ (h : Head) (valid : Valid h) (t : List ℕ) where
   answer = wellFormed-checked h valid t ∙ parts-are h t
 
   -- the first cell at fault is a cell of the frame: the table is not well-formed; it is none: every cell fits
-  module _ (at : ℕ) (f : FirstFault (h .slots) (h .bridges) (h .busy) (numbers h) t at) where
+  module _ (at : ℕ) (f : FirstFault (h .slots) (h .bridges) (motors h) (h .busy) (numbers h) t at) where
     pub cell-fails : at < h .slots * h .bridges → wellFormed h (cell h t) ≡ false
     cell-fails l = answer ∙ fails-left (by-cells h t && by-presets h t) (by-jobs h t) (fails-left (by-cells h t) (by-presets h t) (go (is (by-cells h t))))
       where
@@ -489,12 +547,12 @@ module _ (h : Head) (valid : Valid h) (t : List ℕ) where
 
         go : Is (by-cells h t) → by-cells h t ≡ false
         go (is-true e) =
-            absurd (clash (sym (eachCell-all h (fitsAt (h .bridges) (h .busy) (numbers h) t) e s b ls lb) ∙ f .fault s b ls lb (div-add-mod' at (h .bridges))))
+            absurd (clash (sym (eachCell-all h (fitsAt (h .bridges) (motors h) (h .busy) (numbers h) t) e s b ls lb) ∙ f .fault s b ls lb (div-add-mod' at (h .bridges))))
         go (is-false e) = e
 
     pub cells-fit : h .slots * h .bridges ≤ at → by-cells h t ≡ true
     cells-fit l =
-        all-eachCell h (fitsAt (h .bridges) (h .busy) (numbers h) t)
+        all-eachCell h (fitsAt (h .bridges) (motors h) (h .busy) (numbers h) t)
         (λ s b ls lb. f .before s b lb (omega (arith, place-below (h .slots) (h .bridges) s b ls lb)))
 
   pub preset-fails : by-presets h t ≡ false → wellFormed h (cell h t) ≡ false

@@ -6,7 +6,7 @@
 use Prim.Native.Nat.{ℕ, _+_, _-_, _%_, _≤_, _<_}
 use native.Mathlib.Omega.{arith}
 use mathlib.Core.Path.{_≡_, sym, _∙_, ap, ap₂, subst}
-use mathlib.Core.Bool.{Bool, true, false, not, _&&_, _||_}
+use mathlib.Core.Bool.{Bool, true, false, not, _&&_}
 use mathlib.Core.Option.{Option, none, some}
 use mathlib.Core.List.{List, [], _∷_, _++_, append-nil}
 use lib.ListN.{length, take, getD, replicate, length-map, length-append, length-replicate, List·getD-map}
@@ -18,7 +18,6 @@ use Rattle.laws.specs.Placement.{capacity, excess}
 use Rattle.laws.proofs.Tests.{Is, is, is-true, is-false, clash, test-ext, both, left-of, right-of, not-is-true, not-is-false, true-of-not, fails-left, fails-right}
 use Rattle.laws.proofs.Comparisons.{lt-of, ge-of, le-of, eq-of, ltb-iff, ltb-yes, ltb-no, leb-yes, leb-no, eqb-yes}
 use Rattle.laws.proofs.Every.{every-all, every-ext, every-not}
-use Rattle.laws.proofs.Counts.{count-le}
 use Rattle.laws.proofs.Loops.{sum-none, sum-more}
 use Rattle.laws.proofs.Largest.{upTo}
 use Rattle.station.specs.Head.{Head, Job, within}
@@ -27,9 +26,10 @@ use Rattle.station.proofs.Theorems.{first-of-none, passed, first-none, append-n
 use Rattle.station.specs.Jobs.{jobInLimits}
 use Rattle.station.specs.Types.{jobIn}
 use Rattle.station.specs.declared.types.Job as record-job
-use Rattle.placing.specs.Table.{Cells, isUsed, jobCount}
+use Rattle.placing.specs.Table.{Cells, isUsed, jobCount, cleared}
 use Rattle.placing.specs.Valid.{noJob, jobAt}
-use Rattle.placing.specs.Call.{usableCount, lengths, callShort, callFits, evictable, emptyFree}
+use Rattle.placing.specs.Call.{usableCount, lengths, callShort, callFits, evictable}
+use Rattle.placing.proofs.FreeNumber.{free-from-few}
 use Rattle.placing.specs.Types.{jobsIn}
 use Rattle.placing.specs.Outcomes.{jobsOutside, jobsUsed, jobsTooMany, jobCauses, callCauses}
 use Rattle.placing.proofs.Causes.{met}
@@ -235,7 +235,7 @@ fit-counted jobs xs {r} beside h clock t valid formed right =
     over = callShort h jobs (usableCount h clock t)
 
     few : (s : ℕ) → s < h .slots → x s ≤ 8
-    few s l = omega (arith, count-le (h .bridges) (λ b. emptyFree clock t s b || evictable h clock t s b), valid .bridges-high)
+    few s l = omega (arith, free-from-few h clock (cleared (evictable h clock t) t) s, valid .bridges-high)
 
     none-yet : Unfinished 0 c jobs (replicate 9 0) 0
     none-yet =

@@ -44,16 +44,19 @@ says-hold-requires c κs = search needs
 number-at-requires-12 : tie.Need-number-at-requires-12
 number-at-requires-12 c κs = search needs
 
+number-at-requires-13 : tie.Need-number-at-requires-13
+number-at-requires-13 c κs = search needs
+
 returns : tie.Need-returns
 unfolding tabulate
 returns c =
     let says = c .before in
     let n11 = says .before in
-    let n8 = n11 .before .before .before in
+    let n8 = n11 .before .before .before .before in
     let n6 = n8 .before .before in
     let n4 = n6 .before .before in
     let n2 = n4 .before .before in
-    rw (n2 .before .number-at .ensures, n2 .number-at2 .ensures, n4 .before .number-at3 .ensures, n4 .number-at4 .ensures, n6 .before .number-at5 .ensures, n6 .number-at6 .ensures, n8 .before .number-at7 .ensures, n8 .number-at8 .ensures, n11 .before .before .number-at9 .ensures, n11 .before .number-at10 .ensures, says .says-hold .ensures, n11 .number-at11 .ensures, c .number-at12 .ensures)
+    rw (n2 .before .number-at .ensures, n2 .number-at2 .ensures, n4 .before .number-at3 .ensures, n4 .number-at4 .ensures, n6 .before .number-at5 .ensures, n6 .number-at6 .ensures, n8 .before .number-at7 .ensures, n8 .number-at8 .ensures, n11 .before .before .before .number-at9 .ensures, n11 .before .before .number-at10 .ensures, n11 .before .number-at11 .ensures, says .says-hold .ensures, n11 .number-at12 .ensures, c .number-at13 .ensures)
     refl
 
 pub head-of-spec : {M : Type 1} → statement M
@@ -71,6 +74,7 @@ head-of-spec =
     number-at-requires-9
     number-at-requires-10
     number-at-requires-11
-    says-hold-requires
     number-at-requires-12
+    says-hold-requires
+    number-at-requires-13
     returns)

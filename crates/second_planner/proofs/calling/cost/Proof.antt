@@ -6,10 +6,10 @@ use Rattle.second_planner.proofs.calling.cost.Statement.{statement}
 use Rattle.second_planner.proofs.calling.cost.Tie as tie
 
 abbrev Inv-loop : tie.InvT-loop
-Inv-loop presets table set sum₀ cell₀ sum cell = cell ≤ 6
+Inv-loop head table set sum₀ cell₀ sum cell = cell ≤ 6
 
 abbrev μ-loop : tie.MeasureT-loop
-μ-loop presets table set sum₀ cell₀ sum cell = 6 - cell
+μ-loop head table set sum₀ cell₀ sum cell = 6 - cell
 
 loop-holds : tie.Need-loop-holds Inv-loop μ-loop
 loop-holds c = omega arith

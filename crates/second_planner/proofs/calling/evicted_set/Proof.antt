@@ -6,13 +6,25 @@ use Rattle.second_planner.proofs.calling.evicted_set.Statement.{stateme
 use Rattle.second_planner.proofs.calling.evicted_set.Tie as tie
 
 abbrev Inv-loop : tie.InvT-loop
-Inv-loop sets presets table call best₀ least₀ set₀ best least set = set ≤ 64
+Inv-loop sets head table call slots evictable empty best₀ least₀ set₀ best least set = set ≤ 64
 
 abbrev μ-loop : tie.MeasureT-loop
-μ-loop sets presets table call best₀ least₀ set₀ best least set = 64 - set
+μ-loop sets head table call slots evictable empty best₀ least₀ set₀ best least set = 64 - set
+
+from-clock-requires : tie.Need-from-clock-requires Inv-loop μ-loop
+from-clock-requires c κs = search needs
+
+evictable-requires : tie.Need-evictable-requires Inv-loop μ-loop
+evictable-requires c κs = search needs
+
+cells-of-requires : tie.Need-cells-of-requires Inv-loop μ-loop
+cells-of-requires c κs = search needs
 
 loop-holds : tie.Need-loop-holds Inv-loop μ-loop
 loop-holds c = omega arith
+
+supply-requires : tie.Need-supply-requires Inv-loop μ-loop
+supply-requires c κs = search needs
 
 feasible-with-requires : tie.Need-feasible-with-requires Inv-loop μ-loop
 feasible-with-requires c κs = search needs
@@ -41,7 +53,11 @@ evicted-set-spec =
     (tie.spec
     Inv-loop
     μ-loop
+    from-clock-requires
+    evictable-requires
+    cells-of-requires
     loop-holds
+    supply-requires
     feasible-with-requires
     cost-requires
     cost-requires-2

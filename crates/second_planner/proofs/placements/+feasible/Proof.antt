@@ -10,11 +10,12 @@ use Rattle.second_planner.proofs.placements.+feasible.Lts-feasible as f
 use Rattle.second_planner.proofs.packed.field.Reads as field-reads
 use Rattle.second_planner.proofs.packed.one_less.Reads as one-less-reads
 use Rattle.second_planner.proofs.packed.without_first.Reads as without-first-reads
+use Rattle.second_planner.proofs.placements.may_fill.Reads as may-fill-reads
 use Rattle.second_planner.proofs.placements.+feasible.{statement}
 use Rattle.second_planner.proofs.placements.+feasible.Tie.{close}
 
 abbrev μ-feasible : Measures 0 feasible-kinds.ps ℕ
-μ-feasible κs a = 18 - a .1 .1 .0
+μ-feasible κs a = 18 - a .1 .1 .1 .1 .0
 
 abbrev feasible-at : ℕ → In 0 feasible-kinds.ps
 feasible-at t = and 0 feasible-kinds.ps (is 0 feasible-kinds.ps μ-feasible t) feasible.Pre
@@ -27,6 +28,8 @@ abbrev claims : ℕ → feasible-lts.Claims
 claims t = (
   field-reads.Asked,
   field-reads.Learnt,
+  may-fill-reads.Asked,
+  may-fill-reads.Learnt,
   without-first-reads.Asked,
   without-first-reads.Learnt,
   one-less-reads.Asked,
@@ -46,6 +49,12 @@ field-requires t c κs = search needs
 
 field-requires-2 : (t : ℕ) → feasible-lts.Need-field-requires-2 (claims t) (feasible-at t) feasible.Post
 field-requires-2 t c κs = search needs
+
+field-requires-3 : (t : ℕ) → feasible-lts.Need-field-requires-3 (claims t) (feasible-at t) feasible.Post
+field-requires-3 t c κs = search needs
+
+may-fill-requires : (t : ℕ) → feasible-lts.Need-may-fill-requires (claims t) (feasible-at t) feasible.Post
+may-fill-requires t c κs = search needs
 
 without-first-requires : (t : ℕ) → feasible-lts.Need-without-first-requires (claims t) (feasible-at t) feasible.Post
 without-first-requires t c κs = search needs
@@ -78,6 +87,8 @@ pub +feasible-spec : {M : Type 1} → statement M
     (returns-2 t)
     (field-requires t)
     (field-requires-2 t)
+    (field-requires-3 t)
+    (may-fill-requires t)
     (without-first-requires t)
     (one-less-requires t)
     (add-feasible t)

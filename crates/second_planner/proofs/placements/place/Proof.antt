@@ -6,10 +6,10 @@ use Rattle.second_planner.proofs.placements.place.Statement.{statement}
 use Rattle.second_planner.proofs.placements.place.Tie as tie
 
 abbrev Inv-loop : tie.InvT-loop
-Inv-loop table sets hold mandatory optional marks after₀ free₀ left₀ before₀ held₀ pair₀ after free left before held pair = pair ≤ 18
+Inv-loop table sets free supply hold mandatory optional marks after₀ unfilled₀ left₀ before₀ held₀ n₀ pair₀ after unfilled left before held n pair = pair ≤ 18
 
 abbrev μ-loop : tie.MeasureT-loop
-μ-loop table sets hold mandatory optional marks after₀ free₀ left₀ before₀ held₀ pair₀ after free left before held pair = 18 - pair
+μ-loop table sets free supply hold mandatory optional marks after₀ unfilled₀ left₀ before₀ held₀ n₀ pair₀ after unfilled left before held n pair = 18 - pair
 
 wrapping-add-usize-requires : tie.Need-wrapping-add-usize-requires Inv-loop μ-loop
 wrapping-add-usize-requires c κs = search needs
@@ -23,14 +23,14 @@ held-of-requires c κs = search needs
 field-requires : tie.Need-field-requires Inv-loop μ-loop
 field-requires c κs = search needs
 
-size-requires : tie.Need-size-requires Inv-loop μ-loop
-size-requires c κs = search needs
+field-requires-2 : tie.Need-field-requires-2 Inv-loop μ-loop
+field-requires-2 c κs = search needs
+
+free-number-requires : tie.Need-free-number-requires Inv-loop μ-loop
+free-number-requires c κs = search needs
 
 is-served-requires : tie.Need-is-served-requires Inv-loop μ-loop
 is-served-requires c κs = search needs
-
-field-requires-2 : tie.Need-field-requires-2 Inv-loop μ-loop
-field-requires-2 c κs = search needs
 
 field-requires-3 : tie.Need-field-requires-3 Inv-loop μ-loop
 field-requires-3 c κs = search needs
@@ -38,11 +38,14 @@ field-requires-3 c κs = search needs
 field-requires-4 : tie.Need-field-requires-4 Inv-loop μ-loop
 field-requires-4 c κs = search needs
 
+field-requires-5 : tie.Need-field-requires-5 Inv-loop μ-loop
+field-requires-5 c κs = search needs
+
 cell-for-requires : tie.Need-cell-for-requires Inv-loop μ-loop
 cell-for-requires c κs = search needs
 
-field-requires-5 : tie.Need-field-requires-5 Inv-loop μ-loop
-field-requires-5 c κs = search needs
+field-requires-6 : tie.Need-field-requires-6 Inv-loop μ-loop
+field-requires-6 c κs = search needs
 
 first-of-requires : tie.Need-first-of-requires Inv-loop μ-loop
 first-of-requires c κs = search needs
@@ -78,13 +81,14 @@ place-spec =
     loop-holds
     held-of-requires
     field-requires
-    size-requires
-    is-served-requires
     field-requires-2
+    free-number-requires
+    is-served-requires
     field-requires-3
     field-requires-4
-    cell-for-requires
     field-requires-5
+    cell-for-requires
+    field-requires-6
     first-of-requires
     with-field-requires
     without-first-requires

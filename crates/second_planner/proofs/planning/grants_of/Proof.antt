@@ -6,10 +6,10 @@ use Rattle.second_planner.proofs.planning.grants_of.Statement.{statemen
 use Rattle.second_planner.proofs.planning.grants_of.Tie as tie
 
 abbrev Inv-loop : tie.InvT-loop
-Inv-loop sets presets grants₀ k₀ grants k = k ≤ 24
+Inv-loop sets head grants₀ k₀ grants k = k ≤ 24
 
 abbrev μ-loop : tie.MeasureT-loop
-μ-loop sets presets grants₀ k₀ grants k = 24 - k
+μ-loop sets head grants₀ k₀ grants k = 24 - k
 
 loop-holds : tie.Need-loop-holds Inv-loop μ-loop
 loop-holds c = omega arith

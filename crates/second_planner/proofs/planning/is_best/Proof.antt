@@ -6,10 +6,10 @@ use Rattle.second_planner.proofs.planning.is_best.Statement.{statement}
 use Rattle.second_planner.proofs.planning.is_best.Tie as tie
 
 abbrev Inv-loop : tie.InvT-loop
-Inv-loop sets presets plan best k₀ k = k ≤ 64
+Inv-loop sets head plan best k₀ k = k ≤ 64
 
 abbrev μ-loop : tie.MeasureT-loop
-μ-loop sets presets plan best k₀ k = 64 - k
+μ-loop sets head plan best k₀ k = 64 - k
 
 widened-requires : tie.Need-widened-requires Inv-loop μ-loop
 widened-requires c κs = search needs

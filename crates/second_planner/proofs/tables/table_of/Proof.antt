@@ -6,10 +6,10 @@ use Rattle.second_planner.proofs.tables.table_of.Statement.{statement}
 use Rattle.second_planner.proofs.tables.table_of.Tie as tie
 
 abbrev Inv-loop : tie.InvT-loop
-Inv-loop frame presets code left₀ table₀ own₀ cell₀ left table own cell = cell ≤ 6
+Inv-loop frame head code left₀ table₀ own₀ cell₀ left table own cell = cell ≤ 6
 
 abbrev μ-loop : tie.MeasureT-loop
-μ-loop frame presets code left₀ table₀ own₀ cell₀ left table own cell = 6 - cell
+μ-loop frame head code left₀ table₀ own₀ cell₀ left table own cell = 6 - cell
 
 mandatory-requires : tie.Need-mandatory-requires Inv-loop μ-loop
 mandatory-requires c κs = search needs

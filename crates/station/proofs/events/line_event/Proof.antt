@@ -42,6 +42,12 @@ refused-requires-5 c κs = search needs
 enum-known-said-2 : tie.Need-enum-known-said-2
 enum-known-said-2 c = search needs
 
+enum-told-6 : tie.Need-enum-told-6
+enum-told-6 c = search needs
+
+refused-requires-6 : tie.Need-refused-requires-6
+refused-requires-6 c κs = search needs
+
 returns : tie.Need-returns
 returns c = c .refused .ensures ∙ ap lineEvent (sym (c .before .enum-told .given .1))
 
@@ -63,6 +69,9 @@ returns-6 c = c .refused5 .ensures ∙ ap lineEvent (sym (c .before .enum-told5 
 returns-7 : tie.Need-returns-7
 returns-7 c = ap lineEvent (sym (c .before .said2 .given .1))
 
+returns-8 : tie.Need-returns-8
+returns-8 c = c .refused6 .ensures ∙ ap lineEvent (sym (c .before .enum-told6 .given .1))
+
 pub line-event-spec : {M : Type 1} → statement M
 line-event-spec =
     tie.close
@@ -79,10 +88,13 @@ line-event-spec =
     enum-told-5
     refused-requires-5
     enum-known-said-2
+    enum-told-6
+    refused-requires-6
     returns
     returns-2
     returns-3
     returns-4
     returns-5
     returns-6
-    returns-7)
+    returns-7
+    returns-8)

@@ -2,7 +2,7 @@
 -- Assumes nothing.
 use Prim.Native.Nat.{min}
 use mathlib.Core.Path.{sym, _∙_}
-use Rattle.station.specs.Form.{_orElse_, frameIn, busyIn, presetIn}
+use Rattle.station.specs.Form.{_orElse_, frameIn, busyIn, presetIn, supplyIn}
 use Rattle.station.proofs.forms.LineForms.{read-first, read-second}
 use borrow.Author.Needs.{needs}
 use Rattle.station.proofs.forms.head_line.Statement.{statement}
@@ -20,7 +20,7 @@ returns c =
     let s = c .before .before .before .before .args in
     let t = s .line .now in
     let hi = min (s .slots) 64 in
-    read-first hi (frameIn t) (busyIn t orElse presetIn t) (r .result) (r .ensures hi) (sym (c .before .has-form .ensures) ∙ c .if1 .taken)
+    read-first hi (frameIn t) (busyIn t orElse presetIn t orElse supplyIn t) (r .result) (r .ensures hi) (sym (c .before .has-form .ensures) ∙ c .if1 .taken)
 
 busy-line-requires : tie.Need-busy-line-requires
 busy-line-requires c κs = search needs
@@ -36,25 +36,51 @@ returns-2 c =
     let s = e .before .before .before .before .args in
     let t = s .line .now in
     let hi = min (s .slots) 64 in
-    read-second hi (frameIn t) (busyIn t orElse presetIn t) (r .result) (b .result)
-    (read-first hi (busyIn t) (presetIn t) (b .result) (b .ensures) (sym (c .before .has-form2 .ensures) ∙ c .if2 .taken))
+    read-second hi (frameIn t) (busyIn t orElse presetIn t orElse supplyIn t) (r .result) (b .result)
+    (read-first hi (busyIn t) (presetIn t orElse supplyIn t) (b .result) (b .ensures) (sym (c .before .has-form2 .ensures) ∙ c .if2 .taken))
     (r .ensures hi) (sym (e .before .has-form .ensures) ∙ e .if1 .left)
 
 preset-line-requires : tie.Need-preset-line-requires
 preset-line-requires c κs = search needs
 
+has-form-requires-3 : tie.Need-has-form-requires-3
+has-form-requires-3 c κs = search needs
+
 returns-3 : tie.Need-returns-3
 returns-3 c =
-    let d = c .before in
+    let p = c .before .before .preset-line in
+    let d = c .before .before .before in
     let b = d .before .before .busy-line in
     let e = d .before .before .before in
     let r = e .before .before .frame-line in
     let s = e .before .before .before .before .args in
     let t = s .line .now in
     let hi = min (s .slots) 64 in
-    let p = c .preset-line in
-    read-second hi (frameIn t) (busyIn t orElse presetIn t) (r .result) (p .result)
-    (read-second hi (busyIn t) (presetIn t) (b .result) (p .result) (p .ensures hi) (b .ensures)
+    read-second hi (frameIn t) (busyIn t orElse presetIn t orElse supplyIn t) (r .result) (p .result)
+    (read-second hi (busyIn t) (presetIn t orElse supplyIn t) (b .result) (p .result)
+    (read-first hi (presetIn t) (supplyIn t) (p .result) (p .ensures hi) (sym (c .before .has-form3 .ensures) ∙ c .if3 .taken)) (b .ensures)
+    (sym (d .before .has-form2 .ensures) ∙ d .if2 .left))
+    (r .ensures hi) (sym (e .before .has-form .ensures) ∙ e .if1 .left)
+
+supply-line-requires : tie.Need-supply-line-requires
+supply-line-requires c κs = search needs
+
+returns-4 : tie.Need-returns-4
+returns-4 c =
+    let q = c .before in
+    let p = q .before .before .preset-line in
+    let d = q .before .before .before in
+    let b = d .before .before .busy-line in
+    let e = d .before .before .before in
+    let r = e .before .before .frame-line in
+    let s = e .before .before .before .before .args in
+    let t = s .line .now in
+    let hi = min (s .slots) 64 in
+    let k = c .supply-line in
+    read-second hi (frameIn t) (busyIn t orElse presetIn t orElse supplyIn t) (r .result) (k .result)
+    (read-second hi (busyIn t) (presetIn t orElse supplyIn t) (b .result) (k .result)
+    (read-second hi (presetIn t) (supplyIn t) (p .result) (k .result) (k .ensures hi) (p .ensures hi)
+    (sym (q .before .has-form3 .ensures) ∙ q .if3 .left)) (b .ensures)
     (sym (d .before .has-form2 .ensures) ∙ d .if2 .left))
     (r .ensures hi) (sym (e .before .has-form .ensures) ∙ e .if1 .left)
 
@@ -69,4 +95,7 @@ head-line-spec =
     has-form-requires-2
     returns-2
     preset-line-requires
-    returns-3)
+    has-form-requires-3
+    returns-3
+    supply-line-requires
+    returns-4)

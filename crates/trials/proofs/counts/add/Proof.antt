@@ -1,4 +1,4 @@
--- `add` is safe and ends. The loop's invariant: `i` is at most 8. Assumes nothing.
+-- `add` is safe and ends. The loop's invariant: `i` is at most 12. Assumes nothing.
 use Prim.Native.Nat.{_≤_, _-_}
 use native.Mathlib.Omega.{arith}
 use borrow.Author.Needs.{needs}
@@ -6,13 +6,19 @@ use Rattle.trials.proofs.counts.add.Statement.{statement}
 use Rattle.trials.proofs.counts.add.Tie as tie
 
 abbrev Inv-loop : tie.InvT-loop
-Inv-loop counts₀ tally i₀ counts i = i ≤ 8
+Inv-loop counts₀ column tally i₀ counts i = i ≤ 12
 
 abbrev μ-loop : tie.MeasureT-loop
-μ-loop counts₀ tally i₀ counts i = 8 - i
+μ-loop counts₀ column tally i₀ counts i = 12 - i
 
 loop-holds : tie.Need-loop-holds Inv-loop μ-loop
 loop-holds c = omega arith
+
+mul-at : tie.Need-mul-at Inv-loop μ-loop
+mul-at c = omega arith
+
+add-at : tie.Need-add-at Inv-loop μ-loop
+add-at c = omega arith
 
 mul-wrapping-add-u64 : tie.Need-mul-wrapping-add-u64 Inv-loop μ-loop
 mul-wrapping-add-u64 c = omega arith
@@ -20,8 +26,11 @@ mul-wrapping-add-u64 c = omega arith
 element-copy-out-wrapping-add-u64 : tie.Need-element-copy-out-wrapping-add-u64 Inv-loop μ-loop
 element-copy-out-wrapping-add-u64 c = search needs
 
-field-requires : tie.Need-field-requires Inv-loop μ-loop
-field-requires c κs = search needs
+mul-wrapping-add-u64-2 : tie.Need-mul-wrapping-add-u64-2 Inv-loop μ-loop
+mul-wrapping-add-u64-2 c = omega arith
+
+shr-wrapping-add-u64 : tie.Need-shr-wrapping-add-u64 Inv-loop μ-loop
+shr-wrapping-add-u64 c = search needs
 
 wrapping-add-u64-requires : tie.Need-wrapping-add-u64-requires Inv-loop μ-loop
 wrapping-add-u64-requires c κs = search needs
@@ -51,9 +60,12 @@ add-spec =
     Inv-loop
     μ-loop
     loop-holds
+    mul-at
+    add-at
     mul-wrapping-add-u64
     element-copy-out-wrapping-add-u64
-    field-requires
+    mul-wrapping-add-u64-2
+    shr-wrapping-add-u64
     wrapping-add-u64-requires
     mul-counts
     element-write-counts

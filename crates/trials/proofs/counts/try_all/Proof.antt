@@ -1,4 +1,4 @@
--- `try_all` is safe and ends. The loop's invariant: `code` is at most 266112. Assumes nothing.
+-- `try_all` is safe and ends. The loop's invariant: `code` is at most 1064448. Assumes nothing.
 use Prim.Native.Nat.{_≤_, _-_}
 use native.Mathlib.Omega.{arith}
 use borrow.Author.Needs.{needs}
@@ -6,13 +6,16 @@ use Rattle.trials.proofs.counts.try_all.Statement.{statement}
 use Rattle.trials.proofs.counts.try_all.Tie as tie
 
 abbrev Inv-loop : tie.InvT-loop
-Inv-loop counts₀ code₀ counts code = code ≤ 266112
+Inv-loop counts₀ code₀ counts code = code ≤ 1064448
 
 abbrev μ-loop : tie.MeasureT-loop
-μ-loop counts₀ code₀ counts code = 266112 - code
+μ-loop counts₀ code₀ counts code = 1064448 - code
 
 loop-holds : tie.Need-loop-holds Inv-loop μ-loop
 loop-holds c = omega arith
+
+supply-in-requires : tie.Need-supply-in-requires Inv-loop μ-loop
+supply-in-requires c κs = search needs
 
 try-code-requires : tie.Need-try-code-requires Inv-loop μ-loop
 try-code-requires c κs = search needs
@@ -39,6 +42,7 @@ try-all-spec =
     Inv-loop
     μ-loop
     loop-holds
+    supply-in-requires
     try-code-requires
     add-requires
     add-code

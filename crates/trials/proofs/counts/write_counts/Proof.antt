@@ -1,4 +1,4 @@
--- `write_counts` is safe and ends. The loop's invariant: `i` is at most 8. Assumes nothing.
+-- `write_counts` is safe and ends. The loop's invariant: `i` is at most 12. Assumes nothing.
 use Prim.Native.Nat.{_≤_, _-_}
 use native.Mathlib.Omega.{arith}
 use borrow.Author.Needs.{needs}
@@ -6,10 +6,10 @@ use Rattle.trials.proofs.counts.write_counts.Statement.{statement}
 use Rattle.trials.proofs.counts.write_counts.Tie as tie
 
 abbrev Inv-loop : tie.InvT-loop
-Inv-loop words counts i₀ t6 i = i ≤ 8
+Inv-loop words counts i₀ i = i ≤ 12
 
 abbrev μ-loop : tie.MeasureT-loop
-μ-loop words counts i₀ t6 i = 8 - i
+μ-loop words counts i₀ i = 12 - i
 
 loop-holds : tie.Need-loop-holds Inv-loop μ-loop
 loop-holds c = omega arith
@@ -17,23 +17,47 @@ loop-holds c = omega arith
 add-at : tie.Need-add-at Inv-loop μ-loop
 add-at c = omega arith
 
+mul-at : tie.Need-mul-at Inv-loop μ-loop
+mul-at c = omega arith
+
 write-words-requires : tie.Need-write-words-requires Inv-loop μ-loop
 write-words-requires c κs = search needs
 
-mul-print-decimal : tie.Need-mul-print-decimal Inv-loop μ-loop
-mul-print-decimal c = omega arith
+mul-write-row : tie.Need-mul-write-row Inv-loop μ-loop
+mul-write-row c = omega arith
 
-array-read-print-decimal : tie.Need-array-read-print-decimal Inv-loop μ-loop
-array-read-print-decimal c = search needs
+array-read-write-row : tie.Need-array-read-write-row Inv-loop μ-loop
+array-read-write-row c = search needs
 
-print-decimal-requires : tie.Need-print-decimal-requires Inv-loop μ-loop
-print-decimal-requires c κs = search needs
+add-write-row : tie.Need-add-write-row Inv-loop μ-loop
+add-write-row c = omega arith
 
-slice-aggregate-write-all : tie.Need-slice-aggregate-write-all Inv-loop μ-loop
-slice-aggregate-write-all c = search needs
+mul-write-row-2 : tie.Need-mul-write-row-2 Inv-loop μ-loop
+mul-write-row-2 c = omega arith
 
-write-all-requires : tie.Need-write-all-requires Inv-loop μ-loop
-write-all-requires c κs = search needs
+array-read-write-row-2 : tie.Need-array-read-write-row-2 Inv-loop μ-loop
+array-read-write-row-2 c = search needs
+
+add-write-row-2 : tie.Need-add-write-row-2 Inv-loop μ-loop
+add-write-row-2 c = omega arith
+
+mul-write-row-3 : tie.Need-mul-write-row-3 Inv-loop μ-loop
+mul-write-row-3 c = omega arith
+
+array-read-write-row-3 : tie.Need-array-read-write-row-3 Inv-loop μ-loop
+array-read-write-row-3 c = search needs
+
+add-write-row-3 : tie.Need-add-write-row-3 Inv-loop μ-loop
+add-write-row-3 c = omega arith
+
+mul-write-row-4 : tie.Need-mul-write-row-4 Inv-loop μ-loop
+mul-write-row-4 c = omega arith
+
+array-read-write-row-4 : tie.Need-array-read-write-row-4 Inv-loop μ-loop
+array-read-write-row-4 c = search needs
+
+write-row-requires : tie.Need-write-row-requires Inv-loop μ-loop
+write-row-requires c κs = search needs
 
 add-i : tie.Need-add-i Inv-loop μ-loop
 add-i c = omega arith
@@ -55,12 +79,20 @@ write-counts-spec =
     μ-loop
     loop-holds
     add-at
+    mul-at
     write-words-requires
-    mul-print-decimal
-    array-read-print-decimal
-    print-decimal-requires
-    slice-aggregate-write-all
-    write-all-requires
+    mul-write-row
+    array-read-write-row
+    add-write-row
+    mul-write-row-2
+    array-read-write-row-2
+    add-write-row-2
+    mul-write-row-3
+    array-read-write-row-3
+    add-write-row-3
+    mul-write-row-4
+    array-read-write-row-4
+    write-row-requires
     add-i
     loop-less
     loop-again

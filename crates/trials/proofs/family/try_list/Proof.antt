@@ -6,10 +6,13 @@ use Rattle.trials.proofs.family.try_list.Statement.{statement}
 use Rattle.trials.proofs.family.try_list.Tie as tie
 
 abbrev Inv-loop : tie.InvT-loop
-Inv-loop frame presets table hold list tally₀ left₀ step₀ tally left step = step ≤ 3
+Inv-loop frame head table hold list tally₀ left₀ step₀ tally left step = step ≤ 3
 
 abbrev μ-loop : tie.MeasureT-loop
-μ-loop frame presets table hold list tally₀ left₀ step₀ tally left step = 3 - step
+μ-loop frame head table hold list tally₀ left₀ step₀ tally left step = 3 - step
+
+one-requires : tie.Need-one-requires Inv-loop μ-loop
+one-requires c κs = search needs
 
 loop-holds : tie.Need-loop-holds Inv-loop μ-loop
 loop-holds c = omega arith
@@ -44,6 +47,7 @@ try-list-spec =
     (tie.spec
     Inv-loop
     μ-loop
+    one-requires
     loop-holds
     call-in-requires
     compare-requires

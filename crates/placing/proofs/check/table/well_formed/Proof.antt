@@ -10,7 +10,7 @@ use borrow.Author.Needs.{needs}
 use Rattle.laws.specs.Sums.{every, count}
 use Rattle.station.specs.Head.{Head, Valid}
 use Rattle.station.specs.Types.{headIn}
-use Rattle.placing.specs.Table.{presetCount}
+use Rattle.placing.specs.Table.{presetCount, motors}
 use Rattle.placing.specs.method.Check.{tally, numbered, presetMet, hasCall, FirstFault}
 use Rattle.placing.proofs.check.table.Counted.{tally-none}
 use Rattle.placing.proofs.check.table.SameTest.{cell-fails, cells-fit, preset-fails, all-but-jobs}
@@ -62,10 +62,10 @@ module _ (c : tie.After-scan) where
   counts = c .scan .last .1 .1 .1 .0
 
   -- the first cell at fault, by the counts of the head's presets
-  first : FirstFault (begun .args .head .slots) (begun .args .head .bridges) (begun .args .head .busy)
+  first : FirstFault (begun .args .head .slots) (begun .args .head .bridges) (motors (head-of begun)) (begun .args .head .busy)
       (numbered (head-of begun .presets) (presetCount (head-of begun))) held (c .scan .result)
   first =
-      subst (λ (ns : List ℕ). FirstFault (begun .args .head .slots) (begun .args .head .bridges) (begun .args .head .busy) ns held (c .scan .result))
+      subst (λ (ns : List ℕ). FirstFault (begun .args .head .slots) (begun .args .head .bridges) (motors (head-of begun)) (begun .args .head .busy) ns held (c .scan .result))
       (c .before .before .before .preset-numbers .ensures ∙ ap (numbered (head-of begun .presets)) (sym (lines begun))) (c .scan .ensures .0)
 
 returns : tie.Need-returns

@@ -1,6 +1,6 @@
 -- `counts::usable::count_slots` meets its contract. The loop's invariant: the slots before `s` are counted, those before the clock among them. Assumes nothing.
 use native.Mathlib.Omega.{arith}
-use Prim.Native.Nat.{ℕ, _*_, _-_, _≤_, _<_, min}
+use Prim.Native.Nat.{ℕ, _-_, _≤_, _<_, min}
 use mathlib.Core.Path.{_≡_, refl, sym, _∙_, ap}
 use lib.ListN.{length, length-set}
 use lib.Dec.{eqb}
@@ -10,17 +10,17 @@ use Rattle.laws.proofs.Counts.{count-le}
 use Rattle.laws.proofs.Capacities.{with-more}
 use Rattle.placing.specs.Valid.{firstSlot}
 use Rattle.placing.specs.method.Counts.{slotFree}
-use Rattle.placing.proofs.counts.usable.UsableCells.{eight-le, free-in-le, slot-from, with-before}
+use Rattle.placing.proofs.counts.usable.UsableCells.{eight-le, slot-from, with-before}
 use borrow.Author.Needs.{needs}
 use Rattle.placing.proofs.counts.usable.count_slots.Statement.{statement}
 use Rattle.placing.proofs.counts.usable.count_slots.Tie as tie
 
 abbrev Inv-loop : tie.InvT-loop
-Inv-loop table slots bridges clock with₀ s₀ with s =
-    (min (firstSlot clock) slots ≤ s) × (s ≤ slots) × (length with ≡ 9) × ByFree with s (slotFree table bridges clock)
+Inv-loop table slots bridges motors clock with₀ s₀ with s =
+    (min (firstSlot clock) slots ≤ s) × (s ≤ slots) × (length with ≡ 9) × ByFree with s (slotFree table bridges motors clock)
 
 abbrev μ-loop : tie.MeasureT-loop
-μ-loop table slots bridges clock with₀ s₀ with s = slots - s
+μ-loop table slots bridges motors clock with₀ s₀ with s = slots - s
 
 first-slot-requires : tie.Need-first-slot-requires Inv-loop μ-loop
 first-slot-requires c κs = search needs
@@ -32,33 +32,30 @@ loop-holds : tie.Need-loop-holds Inv-loop μ-loop
 loop-holds c =
     let a = c .before .before .args in
     let e = c .first-slot .ensures in
-    (omega (arith, e), omega (arith, e), refl, with-before (a .table .now) (a .bridges) (a .clock) (c .first-slot .result) (omega (arith, e)))
+    (omega (arith, e), omega (arith, e), refl, with-before (a .table .now) (a .bridges) (a .motors) (a .clock) (c .first-slot .result) (omega (arith, e)))
 
-mul-free-in : tie.Need-mul-free-in Inv-loop μ-loop
-mul-free-in c =
+mul-usable-in : tie.Need-mul-usable-in Inv-loop μ-loop
+mul-usable-in c =
     let s = c .before .before .before .before in
     omega (arith, eight-le (c .before .loop .s) (s .args .bridges) (omega arith) (s .pre .1))
 
-free-in-requires : tie.Need-free-in-requires Inv-loop μ-loop
-free-in-requires c κs =
+usable-in-requires : tie.Need-usable-in-requires Inv-loop μ-loop
+usable-in-requires c κs =
     let s = c .before .before .before .before in
     (s .pre .1, omega (arith, eight-le (c .before .loop .s) (s .args .bridges) (omega arith) (s .pre .1), s .pre .2))
 
 -- the free cells of the slot, which is from the clock on
-free-is : (c : tie.After-free-in Inv-loop μ-loop)
+free-is : (c : tie.After-usable-in Inv-loop μ-loop)
     → let d = c .before .before in
     let a = d .before .before .before .args in
-    c .free-in .result ≡ slotFree (a .table .now) (a .bridges) (a .clock) (d .loop .s)
+    c .usable-in .result ≡ slotFree (a .table .now) (a .bridges) (a .motors) (a .clock) (d .loop .s)
 free-is c =
     let d = c .before .before in
     let a = d .before .before .before .args in
-    c .free-in .ensures ∙ sym (slot-from (a .table .now) (a .bridges) (a .clock) (d .loop .s) (omega (arith, d .loop .inv .0, c .before .loop-test .taken)))
+    c .usable-in .ensures .0 ∙ sym (slot-from (a .table .now) (a .bridges) (a .motors) (a .clock) (d .loop .s) (omega (arith, d .loop .inv .0, c .before .loop-test .taken)))
 
-few : (c : tie.After-free-in Inv-loop μ-loop) → c .free-in .result < 9
-few c =
-    let d = c .before .before in
-    let s = d .before .before .before in
-    omega (arith, c .free-in .ensures, free-in-le (s .args .table .now) (d .loop .s * s .args .bridges) (s .args .bridges), s .pre .1)
+few : (c : tie.After-usable-in Inv-loop μ-loop) → c .usable-in .result < 9
+few c = omega (arith, c .usable-in .ensures .1)
 
 mul-with : tie.Need-mul-with Inv-loop μ-loop
 mul-with c = omega (arith, few c)
@@ -72,8 +69,8 @@ add-with c =
     let a = d .before .before .before .args in
     omega (
       arith,
-      d .loop .inv .3 (c .free-in .result) (few c),
-      count-le (d .loop .s) (λ z. eqb (c .free-in .result) (slotFree (a .table .now) (a .bridges) (a .clock) z)),
+      d .loop .inv .3 (c .usable-in .result) (few c),
+      count-le (d .loop .s) (λ z. eqb (c .usable-in .result) (slotFree (a .table .now) (a .bridges) (a .motors) (a .clock) z)),
     )
 
 array-write-with-2 : tie.Need-array-write-with-2 Inv-loop μ-loop
@@ -92,7 +89,7 @@ loop-again c =
       omega (arith, l .inv .0),
       omega arith,
       simp length-set (l .inv .2),
-      with-more (l .with) (l .s) (slotFree (a .table .now) (a .bridges) (a .clock)) (c .free-in .result) (omega (arith, few c, l .inv .2)) (l .inv .3) (free-is c),
+      with-more (l .with) (l .s) (slotFree (a .table .now) (a .bridges) (a .motors) (a .clock)) (c .usable-in .result) (omega (arith, few c, l .inv .2)) (l .inv .3) (free-is c),
     )
 
 returns : tie.Need-returns Inv-loop μ-loop
@@ -100,7 +97,7 @@ returns c =
     let l = c .before .loop in
     let a = c .before .before .before .before .args in
     let e : l .s ≡ a .slots = omega (arith, l .inv .1, c .loop-test .left) in
-    let x = slotFree (a .table .now) (a .bridges) (a .clock) in
+    let x = slotFree (a .table .now) (a .bridges) (a .motors) (a .clock) in
     λ f m. l .inv .3 f m ∙ ap (λ (k : ℕ). count k (λ z. eqb f (x z))) e
 
 pub count-slots-spec : {M : Type 1} → statement M
@@ -112,8 +109,8 @@ count-slots-spec =
     first-slot-requires
     array-write-with
     loop-holds
-    mul-free-in
-    free-in-requires
+    mul-usable-in
+    usable-in-requires
     mul-with
     array-read-with
     add-with

@@ -15,12 +15,15 @@ use Rattle.placing.proofs.counts.usable.pass_slots.Statement.{statement
 use Rattle.placing.proofs.counts.usable.pass_slots.Tie as tie
 
 abbrev Inv-loop : tie.InvT-loop
-Inv-loop slots bridges table from to capacities₀ end s₀ capacities s =
+Inv-loop table from to capacities₀ slots bridges fed end s₀ capacities s =
     (from ≤ to → s ≤ end)
-    × (clockIn slots from ≡ true → clockIn slots to ≡ true → from ≤ to → CapacitiesAt table slots bridges from capacities₀ → CapacitiesAt table slots bridges (s + 1) capacities)
+    × (clockIn slots from ≡ true → clockIn slots to ≡ true → from ≤ to → CapacitiesAt table slots bridges fed from capacities₀ → CapacitiesAt table slots bridges fed (s + 1) capacities)
 
 abbrev μ-loop : tie.MeasureT-loop
-μ-loop slots bridges table from to capacities₀ end s₀ capacities s = end - s
+μ-loop table from to capacities₀ slots bridges fed end s₀ capacities s = end - s
+
+motors-requires : tie.Need-motors-requires Inv-loop μ-loop
+motors-requires c κs = search needs
 
 in-limits-requires : tie.Need-in-limits-requires Inv-loop μ-loop
 in-limits-requires c κs = search needs
@@ -36,35 +39,35 @@ first-slot-requires-2 c κs = search needs
 
 loop-holds : tie.Need-loop-holds Inv-loop μ-loop
 loop-holds c =
-    let a = c .before .before .before .before .before .args in
+    let a = c .before .before .before .before .before .before .args in
     let b = c .first-slot2 .ensures in (
       λ h. omega (arith, h, b, c .before .first-slot .ensures),
       λ in-from in-to up right.
-          let e : a .from ≡ c .first-slot2 .result + 1 = omega (arith, b, clock-from (a .slots) (a .from) in-from, clock-to (a .slots) (a .from) in-from) in
-          subst (λ (k : ℕ). CapacitiesAt (a .table .now) (a .slots) (a .bridges) k (a .capacities .now)) e right,
+          let e : a .from ≡ c .first-slot2 .result + 1 = omega (arith, b, clock-from (a .head .slots) (a .from) in-from, clock-to (a .head .slots) (a .from) in-from) in
+          subst (λ (k : ℕ). CapacitiesAt (a .table .now) (a .head .slots) (a .head .bridges) (c .before .before .before .before .motors .result) k (a .capacities .now)) e right,
     )
 
 -- the frame is within the limits, and the slot within the frame
 within : (c : tie.In-loop Inv-loop μ-loop)
-    → let a = c .before .before .before .before .before .before .before .args in
-    (a .slots ≤ 64) × (a .bridges ≤ 8) × (0 ≤ 32) × (512 ≤ length (a .table .now))
+    → let a = c .before .before .before .before .before .before .before .before .args in
+    (a .head .slots ≤ 64) × (a .head .bridges ≤ 8) × (0 ≤ 32) × (512 ≤ length (a .table .now))
 within c =
     let e = c .before .before .before .before in
-    let a = e .before .before .before .args in
-    limits-of (a .slots) (a .bridges) 0 (length (a .table .now)) (sym (e .before .in-limits .ensures) ∙ true-of-not _ (e .if1 .left))
+    let a = e .before .before .before .before .args in
+    limits-of (a .head .slots) (a .head .bridges) 0 (length (a .table .now)) (sym (e .before .in-limits .ensures) ∙ true-of-not _ (e .if1 .left))
 
 below : (c : tie.In-loop Inv-loop μ-loop) → c .before .loop .s < 64
 below c = omega (arith, c .loop-test .taken, c .before .before .before .first-slot .ensures, within c .0)
 
-mul-free-in : tie.Need-mul-free-in Inv-loop μ-loop
-mul-free-in c =
-    let a = c .before .before .before .before .before .before .before .args in
-    omega (arith, eight-le (c .before .loop .s) (a .bridges) (below c) (within c .1))
+mul-usable-in : tie.Need-mul-usable-in Inv-loop μ-loop
+mul-usable-in c =
+    let a = c .before .before .before .before .before .before .before .before .args in
+    omega (arith, eight-le (c .before .loop .s) (a .head .bridges) (below c) (within c .1))
 
-free-in-requires : tie.Need-free-in-requires Inv-loop μ-loop
-free-in-requires c κs =
-    let a = c .before .before .before .before .before .before .before .args in
-    (within c .1, omega (arith, eight-le (c .before .loop .s) (a .bridges) (below c) (within c .1), within c .3))
+usable-in-requires : tie.Need-usable-in-requires Inv-loop μ-loop
+usable-in-requires c κs =
+    let a = c .before .before .before .before .before .before .before .before .args in
+    (within c .1, omega (arith, eight-le (c .before .loop .s) (a .head .bridges) (below c) (within c .1), within c .3))
 
 take-slot-requires : tie.Need-take-slot-requires Inv-loop μ-loop
 take-slot-requires c κs = search needs
@@ -79,12 +82,12 @@ loop-again : tie.Need-loop-again Inv-loop μ-loop
 loop-again c =
     let f = c .before .before in
     let l = f .before .before .loop in
-    let a = f .before .before .before .before .before .before .before .before .args in (
+    let a = f .before .before .before .before .before .before .before .before .before .args in (
       λ h. omega (arith, f .before .loop-test .taken),
       λ in-from in-to up right.
           let r = l .inv .1 in-from in-to up right in
-          pass-slot (a .table .now) (a .slots) (a .bridges) (l .s) (omega (arith, f .before .loop-test .taken, f .before .before .before .before .first-slot .ensures)) r
-          (c .take-slot .ensures .0) (λ k m. c .take-slot .ensures .1 (r .long) k m ∙ ap (λ (z : ℕ). getD (l .capacities) k 0 - min k z) (f .free-in .ensures)),
+          pass-slot (a .table .now) (a .head .slots) (a .head .bridges) (f .before .before .before .before .before .before .before .motors .result) (l .s) (omega (arith, f .before .loop-test .taken, f .before .before .before .before .first-slot .ensures)) r
+          (c .take-slot .ensures .0) (λ k m. c .take-slot .ensures .1 (r .long) k m ∙ ap (λ (z : ℕ). getD (l .capacities) k 0 - min k z) (f .usable-in .ensures .0)),
     )
 
 returns-2 : tie.Need-returns-2 Inv-loop μ-loop
@@ -92,9 +95,10 @@ returns-2 c =
     λ e in-from in-to up right.
     let l = c .before .loop in
     let n = c .before .before .before in
-    let a = n .before .before .before .before .args in
-    let same : l .s + 1 ≡ a .to = omega (arith, l .inv .0 up, c .loop-test .left, n .first-slot .ensures, clock-from (a .slots) (a .to) in-to, clock-to (a .slots) (a .to) in-to) in
-    subst (λ (k : ℕ). CapacitiesAt (a .table .now) (a .slots) (a .bridges) k (l .capacities)) same (l .inv .1 in-from in-to up right)
+    let a = n .before .before .before .before .before .args in
+    let same : l .s + 1 ≡ a .to = omega (arith, l .inv .0 up, c .loop-test .left, n .first-slot .ensures, clock-from (a .head .slots) (a .to) in-to, clock-to (a .head .slots) (a .to) in-to) in
+    let fed = n .before .before .before .motors .ensures in
+    rw fed at (subst (λ (k : ℕ). CapacitiesAt (a .table .now) (a .head .slots) (a .head .bridges) (n .before .before .before .motors .result) k (l .capacities)) same (l .inv .1 in-from in-to up (rw fed right)))
 
 pub pass-slots-spec : {M : Type 1} → statement M
 pass-slots-spec =
@@ -102,13 +106,14 @@ pass-slots-spec =
     (tie.spec
     Inv-loop
     μ-loop
+    motors-requires
     in-limits-requires
     returns
     first-slot-requires
     first-slot-requires-2
     loop-holds
-    mul-free-in
-    free-in-requires
+    mul-usable-in
+    usable-in-requires
     take-slot-requires
     add-s
     loop-less

@@ -2,12 +2,12 @@
 use Prim.Native.Nat.{_≤_, _-_, _<_}
 use native.Mathlib.Omega.{arith}
 use mathlib.Core.Path.{_≡_, sym, _∙_}
-use Rattle.placing.proofs.grants.Arrays.{freeFrom, free-none, free-more, free-all, free-fits}
+use Rattle.placing.proofs.grants.Arrays.{freeNumberFrom, free-none, free-more, free-all, free-fits}
 use Rattle.placing.proofs.grants.free.slot_free.Statement.{statement}
 use Rattle.placing.proofs.grants.free.slot_free.Tie as tie
 
 abbrev Inv-loop : tie.InvT-loop
-Inv-loop busy bridges s mask₀ b₀ mask b = (b ≤ bridges) × (bridges ≤ 8) × (s < 64) × (mask ≡ freeFrom busy s b (bridges - b))
+Inv-loop busy bridges s mask₀ b₀ mask b = (b ≤ bridges) × (bridges ≤ 8) × (s < 64) × (mask ≡ freeNumberFrom busy s b (bridges - b))
 
 abbrev μ-loop : tie.MeasureT-loop
 μ-loop busy bridges s mask₀ b₀ mask b = b

@@ -14,11 +14,14 @@ enum-told c = search needs
 enum-told-2 : tie.Need-enum-told-2
 enum-told-2 c = search needs
 
+enum-told-3 : tie.Need-enum-told-3
+enum-told-3 c = search needs
+
 enum-known-stage : tie.Need-enum-known-stage
 enum-known-stage c = search needs
 
-enum-told-3 : tie.Need-enum-told-3
-enum-told-3 c = search needs
+enum-told-4 : tie.Need-enum-told-4
+enum-told-4 c = search needs
 
 returns : tie.Need-returns
 returns c = search needs
@@ -27,10 +30,13 @@ returns-2 : tie.Need-returns-2
 returns-2 c = search needs
 
 returns-3 : tie.Need-returns-3
-returns-3 c = ap (λ (g : Stage). busyMisplaced (stageIn g) (c .before .before .before .args .bridge)) (sym (c .before .stage .given .1))
+returns-3 c = search needs
 
 returns-4 : tie.Need-returns-4
-returns-4 c = search needs
+returns-4 c = ap (λ (g : Stage). busyMisplaced (stageIn g) (c .before .before .before .args .bridge)) (sym (c .before .stage .given .1))
+
+returns-5 : tie.Need-returns-5
+returns-5 c = search needs
 
 pub busy-misplaced-spec : {M : Type 1} → statement M
-busy-misplaced-spec = tie.close (tie.spec enum-told enum-told-2 enum-known-stage enum-told-3 returns returns-2 returns-3 returns-4)
+busy-misplaced-spec = tie.close (tie.spec enum-told enum-told-2 enum-told-3 enum-known-stage enum-told-4 returns returns-2 returns-3 returns-4 returns-5)

@@ -48,6 +48,12 @@ enum-told-6 c = search needs
 stop-requires-6 : tie.Need-stop-requires-6
 stop-requires-6 c κs = search needs
 
+enum-told-7 : tie.Need-enum-told-7
+enum-told-7 c = search needs
+
+stop-requires-7 : tie.Need-stop-requires-7
+stop-requires-7 c κs = search needs
+
 returns : tie.Need-returns
 returns c = c .stop .ensures ∙ ap (firstStep (c .before .before .before .args .state)) (sym (c .before .enum-told .given .1))
 
@@ -69,6 +75,9 @@ returns-6 c = c .stop5 .ensures ∙ ap (firstStep (c .before .before .before .ar
 returns-7 : tie.Need-returns-7
 returns-7 c = c .stop6 .ensures ∙ ap (firstStep (c .before .before .before .args .state)) (sym (c .before .enum-told6 .given .1))
 
+returns-8 : tie.Need-returns-8
+returns-8 c = c .stop7 .ensures ∙ ap (firstStep (c .before .before .before .args .state)) (sym (c .before .enum-told7 .given .1))
+
 pub first-step-spec : {M : Type 1} → statement M
 first-step-spec =
     tie.close
@@ -87,10 +96,13 @@ first-step-spec =
     stop-requires-5
     enum-told-6
     stop-requires-6
+    enum-told-7
+    stop-requires-7
     returns
     returns-2
     returns-3
     returns-4
     returns-5
     returns-6
-    returns-7)
+    returns-7
+    returns-8)

@@ -42,6 +42,12 @@ enum-known-line-3 c = search needs
 tie-step-requires : tie.Need-tie-step-requires
 tie-step-requires c κs = search needs
 
+enum-known-line-4 : tie.Need-enum-known-line-4
+enum-known-line-4 c = search needs
+
+supply-step-requires : tie.Need-supply-step-requires
+supply-step-requires c κs = search needs
+
 returns : tie.Need-returns
 returns c = c .stop .ensures ∙ ap (nextStep (c .before .before .before .args .state)) (sym (c .before .enum-told .given .1))
 
@@ -63,6 +69,9 @@ returns-6 c = ap (nextStep (c .before .before .args .state)) (sym (c .enum-told4
 returns-7 : tie.Need-returns-7
 returns-7 c = c .tie-step .ensures ∙ ap (nextStep (c .before .before .before .before .args .state)) (sym (c .before .before .line3 .given .1))
 
+returns-8 : tie.Need-returns-8
+returns-8 c = c .supply-step .ensures ∙ ap (nextStep (c .before .before .before .before .args .state)) (sym (c .before .before .line4 .given .1))
+
 pub next-step-spec : {M : Type 1} → statement M
 next-step-spec =
     tie.close
@@ -79,10 +88,13 @@ next-step-spec =
     enum-told-4
     enum-known-line-3
     tie-step-requires
+    enum-known-line-4
+    supply-step-requires
     returns
     returns-2
     returns-3
     returns-4
     returns-5
     returns-6
-    returns-7)
+    returns-7
+    returns-8)

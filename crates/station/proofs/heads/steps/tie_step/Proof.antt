@@ -22,8 +22,14 @@ tie-in-head-requires c κs = search needs
 enum-told-3 : tie.Need-enum-told-3
 enum-told-3 c = search needs
 
+tie-in-head-requires-2 : tie.Need-tie-in-head-requires-2
+tie-in-head-requires-2 c κs = search needs
+
 enum-told-4 : tie.Need-enum-told-4
 enum-told-4 c = search needs
+
+enum-told-5 : tie.Need-enum-told-5
+enum-told-5 c = search needs
 
 returns : tie.Need-returns
 returns c =
@@ -37,13 +43,18 @@ returns-2 c =
 
 returns-3 : tie.Need-returns-3
 returns-3 c =
-    let a = c .before .before .args in
-    ap (λ (g : Stage). tieStepAt g (a .state) (a .hold)) (sym (c .enum-told3 .given .1))
+    let a = c .before .before .before .args in
+    c .tie-in-head2 .ensures ∙ ap (λ (g : Stage). tieStepAt g (a .state) (a .hold)) (sym (c .before .enum-told3 .given .1))
 
 returns-4 : tie.Need-returns-4
 returns-4 c =
     let a = c .before .before .args in
     ap (λ (g : Stage). tieStepAt g (a .state) (a .hold)) (sym (c .enum-told4 .given .1))
+
+returns-5 : tie.Need-returns-5
+returns-5 c =
+    let a = c .before .before .args in
+    ap (λ (g : Stage). tieStepAt g (a .state) (a .hold)) (sym (c .enum-told5 .given .1))
 
 pub tie-step-spec : {M : Type 1} → statement M
 tie-step-spec =
@@ -54,8 +65,11 @@ tie-step-spec =
     enum-told-2
     tie-in-head-requires
     enum-told-3
+    tie-in-head-requires-2
     enum-told-4
+    enum-told-5
     returns
     returns-2
     returns-3
-    returns-4)
+    returns-4
+    returns-5)

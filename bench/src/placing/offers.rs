@@ -5,14 +5,14 @@ use crate::head::BRIDGES;
 /// How many bridges each slot offers, turned on its side: word k holds the slots that offer more than k.
 /// So capacities are sums of counted ones, and one word operation adds a bridge in many slots at once.
 #[derive(Clone, Copy, Debug, Default, PartialEq, Eq)]
-pub struct Supply {
+pub struct Offers {
     more_than: [u64; BRIDGES],
 }
 
 /// The capacity for r bridges at a time, r from 0 to 8.
 pub type Capacities = [i32; BRIDGES + 1];
 
-impl Supply {
+impl Offers {
     /// One more bridge in each of these slots, none of which may offer eight already.
     pub fn add(&mut self, slots: u64) {
         let mut raised = slots;
@@ -29,6 +29,11 @@ impl Supply {
             let offers = u64::from((k as u32) < bridges);
             *word = *word & !(1 << slot) | offers << slot;
         }
+    }
+
+    /// Leaves no slot more than so many bridges, from 1 to 8.
+    pub fn cap(&mut self, bridges: usize) {
+        self.more_than[bridges..].fill(0);
     }
 
     pub fn only_in(mut self, slots: u64) -> Self {
