@@ -111,7 +111,7 @@ pub fn event_by_value(
     let counts = counts_of(head, presets, table, clock);
     let mut used = counts.used;
     let mut admitted = counts.jobs;
-    let mut capacities = counts.capacities;
+    let mut entries = counts.entries;
     event_by_counts(
         head,
         presets,
@@ -120,7 +120,7 @@ pub fn event_by_value(
         hold,
         &mut used,
         &mut admitted,
-        &mut capacities,
+        &mut entries,
         line,
     )
 }

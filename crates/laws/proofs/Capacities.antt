@@ -1,27 +1,28 @@
 -- Laws of capacities: for a number of jobs, of slots, of free cells, and as code that counts slots by their free cells finds them.
 --
 -- In order: more free cells (`capacity-mono`, `capacity-spread`); more jobs: none, one more, all that a slot has cells for (`capacity-top`), and that each further one adds no more
--- than the one before (`capacity-concave`); no slot and one more; one cell more (`capacity-put..`); a list that has for 0 to 8 how many slots have so many free cells
--- (`with-..`), and the capacities by the slots that have r free cells or more (`least-..`). The needs that fit a capacity are in Placement and Largest.
+-- than the one before (`capacity-concave`); no slot and one more; one cell more (`capacity-put..`); the table of how many slots have at least so many free cells: that there is
+-- one (`at-least-of`), the capacities from it (`capacity-table`, `capacity-past`), a slot more and a slot less (`at-least-on`, `at-least-off`), a cell more (`trial-table`). The needs that fit a capacity are in Placement and Largest.
 -- Assumes nothing.
-use Prim.Native.Nat.{ℕ, zero, suc, _+_, _-_, _*_, _≤_, _<_, min}
+use Prim.Native.Nat.{ℕ, zero, suc, _+_, _-_, _*_, _≤_, _<_, min, max}
 use native.Mathlib.Numerals.{add-one}
 use native.Mathlib.Omega.{arith}
-use mathlib.Core.Path.{_≡_, refl, sym, _∙_, ap}
+use mathlib.Core.Path.{_≡_, refl, sym, _∙_, ap, ap₂}
 use mathlib.Core.Bool.{Bool, false, _&&_, _||_}
 use mathlib.Core.List.{List}
 use lib.ListN.{length, getD, set, replicate, length-set}
 use lib.Seq.{getD-set-same, getD-set-other}
 use lib.Dec.{leb, eqb, ltb}
-use Rattle.laws.specs.Sums.{bit, sum, count, only}
-use Rattle.laws.specs.Lists.{at}
+use Rattle.laws.specs.Sums.{bit, sum, count}
+use Rattle.laws.specs.Lists.{at, tabulate}
 use Rattle.laws.specs.Placement.{capacity}
 use Rattle.laws.specs.Eviction.{put}
-use Rattle.laws.specs.method.Capacities.{ByFree}
+use Rattle.laws.specs.method.Capacities.{AtLeast, capacityFrom, excessOver}
 use Rattle.laws.proofs.Tests.{Is, is, is-true, is-false, left-of, right-of}
 use Rattle.laws.proofs.Comparisons.{lt-of, ge-of, le-of, gt-of, eq-of, eqb-self, ne-of, leb-yes, leb-no, eqb-no}
-use Rattle.laws.proofs.Sums.{sum-ext, sum-le, sum-zero, sum-add, sum-le-two, sum-or-and, sum-const, sum-swap, sum-beyond, sum-but}
-use Rattle.laws.proofs.Counts.{bit-le, count-imp, count-all, count-eqb-le}
+use Rattle.laws.proofs.Sums.{sum-ext, sum-le, sum-zero, sum-add, sum-le-two, sum-or-and, sum-below, sum-but, greatest-ext}
+use Rattle.laws.proofs.Counts.{bit-le, count-ext, count-le, count-imp, count-none, count-eqb-le}
+use Rattle.laws.proofs.Lists.{length-tabulate, at-tabulate, at-past}
 use Rattle.laws.proofs.Stores.{zeros}
 use Rattle.laws.proofs.Loops.{sum-none, sum-more, count-more}
 
@@ -87,21 +88,6 @@ capacity-next n x r =
     one y (is-true e) = omega (arith, ap bit e, le-of (r + 1) y e)
     one y (is-false e) = omega (arith, ap bit e, gt-of (r + 1) y e)
 
--- those slots are the ones with r free cells or more, without those that have just r
-pub count-least : (n : ℕ) (x : ℕ → ℕ) (r : ℕ) → count n (λ s. leb r (x s)) ≡ count n (λ s. eqb r (x s)) + count n (λ s. leb (r + 1) (x s))
-count-least n x r =
-    sum-ext n (λ s. bit (leb r (x s))) (λ s. bit (eqb r (x s)) + bit (leb (r + 1) (x s))) (λ s l. one (x s) (is (leb (r + 1) (x s))) (is (eqb r (x s))))
-    ∙ sum-add n (λ s. bit (eqb r (x s))) (λ s. bit (leb (r + 1) (x s)))
-  where
-    one : (y : ℕ) → Is (leb (r + 1) y) → Is (eqb r y) → bit (leb r y) ≡ bit (eqb r y) + bit (leb (r + 1) y)
-    one y (is-true e) (is-true q) = absurd (omega (arith, le-of (r + 1) y e, eq-of r y q))
-    one y (is-true e) (is-false q) = omega (arith, ap bit e, ap bit q, ap bit (leb-yes r y (omega (arith, le-of (r + 1) y e))))
-    one y (is-false e) (is-true q) = omega (arith, ap bit e, ap bit q, ap bit (leb-yes r y (omega (arith, eq-of r y q))))
-    one y (is-false e) (is-false q) =
-        let ne = ne-of r y q in
-        let gt = gt-of (r + 1) y e in
-        omega (arith, ap bit e, ap bit q, ap bit (leb-no r y (omega arith)))
-
 -- ---- one slot more
 
 pub capacity-none : (x : ℕ → ℕ) (r : ℕ) → capacity 0 x r ≡ 0
@@ -114,21 +100,7 @@ capacity-more n x r = rw add-one
 
 -- ---- one cell more
 
--- it adds just one where the slot had fewer than r
-pub capacity-put : (n : ℕ) (x : ℕ → ℕ) (z r : ℕ) → z < n → capacity n (put x z) r ≡ capacity n x r + only (ltb (x z) r) 1
-capacity-put n x z r low = go (is (ltb (x z) r))
-  where
-    other : (s : ℕ) → (s ≡ z → ⊥) → min r (put x z s) ≡ min r (x s)
-    other s ne = omega (arith, ap bit (eqb-no s z ne))
-
-    but : capacity n (put x z) r + min r (x z) ≡ capacity n x r + min r (put x z z)
-    but = sum-but n (λ s. min r (put x z s)) (λ s. min r (x s)) z low (λ s m ne. other s ne)
-
-    go : Is (ltb (x z) r) → capacity n (put x z) r ≡ capacity n x r + only (ltb (x z) r) 1
-    go (is-true e) = rw e (omega (arith, but, ap bit (eqb-self z), lt-of (x z) r e))
-    go (is-false e) = rw e (omega (arith, but, ap bit (eqb-self z), ge-of (x z) r e))
-
--- at most one, wherever the cell stands
+-- it adds at most one, wherever it stands
 pub capacity-put-le : (n : ℕ) (x : ℕ → ℕ) (z r : ℕ) → capacity n (put x z) r ≤ suc (capacity n x r)
 capacity-put-le n x z r =
     omega (
@@ -164,89 +136,114 @@ pub sum-put : (n : ℕ) (x : ℕ → ℕ) (z : ℕ) → z < n → sum n (put x z
 sum-put n x z low =
     omega (arith, sum-but n (put x z) x z low (λ s m ne. omega (arith, ap bit (eqb-no s z ne))), ap bit (eqb-self z))
 
--- ---- slots counted by their free cells
+-- ---- the table of how many slots have at least so many
 
-pub with-none : (x : ℕ → ℕ) → ByFree (replicate 9 0) 0 x
-with-none x g l = zeros 9 g ∙ sym (sum-none (λ s. bit (eqb g (x s))))
-
--- one slot more, which has f of them
-pub with-more : (l : List ℕ) (n : ℕ) (x : ℕ → ℕ) (f : ℕ) → f < length l → ByFree l n x → f ≡ x n
-    → ByFree (set l f (getD l f 0 + 1)) (n + 1) x
-with-more l n x f inside h e g low = go (is (eqb g (x n)))
+-- one free cell more or fewer, as the code tests it
+least-bit : (r v : ℕ) → bit (leb (r + 1) v) ≡ bit (ltb r v)
+least-bit r v = go (is (ltb r v))
   where
-    more : count (n + 1) (λ s. eqb g (x s)) ≡ count n (λ s. eqb g (x s)) + bit (eqb g (x n))
-    more = count-more n (λ s. eqb g (x s))
+    go : Is (ltb r v) → bit (leb (r + 1) v) ≡ bit (ltb r v)
+    go (is-true e) = ap bit (leb-yes (r + 1) v (omega (arith, lt-of r v e)) ∙ sym e)
+    go (is-false e) = ap bit (leb-no (r + 1) v (omega (arith, ge-of r v e)) ∙ sym e)
 
-    go : Is (eqb g (x n)) → getD (set l f (getD l f 0 + 1)) g 0 ≡ count (n + 1) (λ s. eqb g (x s))
-    go (is-true y) =
-        let same : g ≡ f = eq-of g (x n) y ∙ sym e in
-        ap (λ (k : ℕ). getD (set l f (getD l f 0 + 1)) k 0) same
-        ∙ getD-set-same l f (getD l f 0 + 1) 0 inside
-        ∙ omega (arith, h g low, ap (λ (k : ℕ). getD l k 0) same, more, ap bit y)
-    go (is-false y) =
-        getD-set-other l f g (getD l f 0 + 1) 0 (λ q. ne-of g (x n) y (q ∙ e)) ∙ omega (arith, h g low, more, ap bit y)
-
--- no more slots are counted than there are
-pub with-le : (l : List ℕ) (n : ℕ) (x : ℕ → ℕ) → ByFree l n x → sum 9 (at l) ≤ n
-with-le l n x h =
-    omega (
-      arith,
-      sum-ext 9 (at l) (λ g. sum n (λ s. bit (eqb g (x s)))) h,
-      sum-swap 9 n (λ g s. bit (eqb g (x s))),
-      sum-le n (λ s. sum 9 (λ g. bit (eqb g (x s)))) (λ s. 1) (λ s l. count-eqb-le 9 (x s)),
-      sum-const n 1,
-    )
-
--- Of the slots counted in l, `left` have r free cells or more, and `out` has the capacities up to r.
-pub record Least (l : List ℕ) (n r left : ℕ) (out : List ℕ) : Type 0 where
-  pub long : length out ≡ 9
-  pub rest : left + sum r (at l) ≡ n
-  pub low : getD out r 0 ≤ 64 * r
-  pub right : (x : ℕ → ℕ) → ByFree l n x
-      → (left ≡ count n (λ s. leb r (x s))) × ((q : ℕ) → q ≤ r → getD out q 0 ≡ capacity n x q)
-
-pub least-none : (l : List ℕ) (n : ℕ) → Least l n 0 n (replicate 9 0)
-least-none l n =
+-- every frame has one
+pub at-least-of : (n : ℕ) (x : ℕ → ℕ) → AtLeast (tabulate 8 (λ r. count n (λ s. leb (r + 1) (x s)))) n x
+at-least-of n x =
     record {
-      long = refl;
-      rest = omega (arith, sum-none (at l));
-      low = omega arith;
-      right = λ x h. (
-        sym (count-all n (λ s. leb 0 (x s)) (λ s m. leb-yes 0 (x s) (omega arith))),
-        λ q m. let z : q ≡ 0 = omega arith in zeros 9 q ∙ sym (ap (capacity n x) z ∙ capacity-zero n x),
-      );
+      long = length-tabulate 8 (λ r. count n (λ s. leb (r + 1) (x s)));
+      each = at-tabulate 8 (λ r. count n (λ s. leb (r + 1) (x s)));
     }
 
-module _ {l : List ℕ} {n r left : ℕ} {out : List ℕ} (i : Least l n r left out) (below : r < 8) where
-  -- the slots that have just r are among those that are left
-  pub least-here : (x : ℕ → ℕ) → ByFree l n x → getD l r 0 ≤ left
-  least-here x h = omega (arith, i .rest, sum-beyond r 9 (at l) r (omega arith) (omega arith), with-le l n x h)
+-- slots without a free cell are in no entry
+pub at-least-none : (n : ℕ) (x : ℕ → ℕ) → ((s : ℕ) → s < n → x s ≡ 0) → AtLeast (replicate 8 0) n x
+at-least-none n x none =
+    record { long = refl; each = λ r l. zeros 8 r ∙ sym (count-none n (λ s. leb (r + 1) (x s)) (λ s m. leb-no (r + 1) (x s) (omega (arith, none s m)))) }
 
-  pub least-more : n ≤ 64 → getD l r 0 ≤ left → Least l n (r + 1) (left - getD l r 0) (set out (r + 1) (getD out r 0 + (left - getD l r 0)))
-  least-more most few =
+module _ {l : List ℕ} {n : ℕ} {x : ℕ → ℕ} (a : AtLeast l n x) where
+  -- an entry counts slots
+  pub at-least-le : (r : ℕ) → r < 8 → getD l r 0 ≤ n
+  at-least-le r low = omega (arith, a .each r low, count-le n (λ s. leb (r + 1) (x s)))
+
+  pub at-least-ext : (y : ℕ → ℕ) → ((s : ℕ) → s < n → x s ≡ y s) → AtLeast l n y
+  at-least-ext y same =
+      record { long = a .long; each = λ r low. a .each r low ∙ count-ext n (λ s. leb (r + 1) (x s)) (λ s. leb (r + 1) (y s)) (λ s m. ap (leb (r + 1)) (same s m)) }
+
+  -- the sum of the entries 1 to r is the capacity for r ..
+  pub capacity-table : (r : ℕ) → r ≤ 8 → capacityFrom l r ≡ capacity n x r
+  capacity-table zero low = sum-none (at l) ∙ sym (capacity-zero n x)
+  capacity-table (suc r) low =
+      let next : suc r ≡ r + 1 = omega arith in
+      rw next (omega (arith, sum-more r (at l), capacity-table r (omega arith), a .each r (omega arith), capacity-next n x r))
+
+  -- .. and past 8 it is that for 8
+  pub capacity-past : (r : ℕ) → 8 ≤ r → capacityFrom l r ≡ capacityFrom l 8
+  capacity-past r high = sym (sum-below 8 r (at l) high (λ i m h. at-past l i (omega (arith, a .long))))
+
+  -- so needs exceed the one as they exceed the other
+  pub excess-table : (sums : ℕ → ℕ) (total : ℕ) → excessOver sums total (capacityFrom l) ≡ excessOver sums total (capacity n x)
+  excess-table sums total =
+      ap₂ max
+      (greatest-ext 8 (λ r. sums r - capacityFrom l r) (λ r. sums r - capacity n x r) (λ r low. ap (λ (y : ℕ). sums r - y) (capacity-table r low)))
+      (ap (λ (y : ℕ). total - y) (capacity-table 8 (omega arith)))
+
+  -- one slot more: one more in the entries up to its free cells
+  pub at-least-on : {m : List ℕ} {free : ℕ} → free ≡ x n → length m ≡ 8 → ((r : ℕ) → r < 8 → getD m r 0 ≡ getD l r 0 + bit (ltb r free)) → AtLeast m (n + 1) x
+  at-least-on {m} {free} e long more =
       record {
-        long = length-set out (r + 1) v ∙ i .long;
-        rest = omega (arith, i .rest, sum-more r (at l), few);
-        low = omega (arith, here, i .low, i .rest, most);
-        right = λ x h.
-            let now = i .right x h in
-            let least : left - getD l r 0 ≡ count n (λ s. leb (r + 1) (x s)) = omega (arith, now .0, h r (omega arith), count-least n x r) in
-            (least, λ q m. go x q m (now .1) least (is (eqb q (r + 1))));
+        long = long;
+        each = λ r low. omega (arith, more r low, a .each r low, count-more n (λ s. leb (r + 1) (x s)), least-bit r (x n), ap (λ (v : ℕ). bit (ltb r v)) e);
       }
+
+  -- a slot that can be used no more: one less in the entries up to its free cells
+  pub at-least-off : (y : ℕ → ℕ) (z : ℕ) {m : List ℕ} {free : ℕ} → z < n → ((s : ℕ) → s < n → (s ≡ z → ⊥) → y s ≡ x s) → y z ≡ 0 → free ≡ x z → length m ≡ 8
+      → ((r : ℕ) → r < 8 → getD m r 0 ≡ getD l r 0 - bit (ltb r free)) → AtLeast m n y
+  at-least-off y z {m} {free} inside same none e long less =
+      record {
+        long = long;
+        each = λ r low.
+            omega (
+              arith,
+              less r low,
+              a .each r low,
+              sum-but n (λ s. bit (leb (r + 1) (y s))) (λ s. bit (leb (r + 1) (x s))) z inside (λ s m ne. ap (λ (v : ℕ). bit (leb (r + 1) v)) (same s m ne)),
+              ap bit (leb-no (r + 1) (y z) (omega (arith, none))),
+              least-bit r (x z),
+              ap (λ (v : ℕ). bit (ltb r v)) e,
+            );
+      }
+
+  -- One cell more, in slot z, changes one entry: the slot has at least one more than it had.
+  pub trial-table : (z : ℕ) → z < n → x z < 8 → AtLeast (set l (x z) (getD l (x z) 0 + 1)) n (put x z)
+  trial-table z inside low = record { long = length-set l (x z) (getD l (x z) 0 + 1) ∙ a .long; each = λ r few. go r few (is (eqb r (x z))) }
     where
-      v : ℕ
-      v = getD out r 0 + (left - getD l r 0)
+      but : (r : ℕ) → count n (λ s. leb (r + 1) (put x z s)) + bit (leb (r + 1) (x z)) ≡ count n (λ s. leb (r + 1) (x s)) + bit (leb (r + 1) (put x z z))
+      but r =
+          sum-but n (λ s. bit (leb (r + 1) (put x z s))) (λ s. bit (leb (r + 1) (x s))) z inside
+          (λ s m ne. ap (λ (v : ℕ). bit (leb (r + 1) v)) (omega (arith, ap bit (eqb-no s z ne))))
 
-      inside : r + 1 < length out
-      inside = omega (arith, i .long, below)
+      own : put x z z ≡ x z + 1
+      own = omega (arith, ap bit (eqb-self z))
 
-      here : getD (set out (r + 1) v) (r + 1) 0 ≡ v
-      here = getD-set-same out (r + 1) v 0 inside
-
-      go : (x : ℕ → ℕ) (q : ℕ) → q ≤ r + 1 → ((q : ℕ) → q ≤ r → getD out q 0 ≡ capacity n x q) → left - getD l r 0 ≡ count n (λ s. leb (r + 1) (x s))
-          → Is (eqb q (r + 1)) → getD (set out (r + 1) v) q 0 ≡ capacity n x q
-      go x q m known least (is-true e) =
-          rw (eq-of q (r + 1) e) (here ∙ omega (arith, known r (omega arith), least, capacity-next n x r))
-      go x q m known least (is-false e) =
-          let ne = ne-of q (r + 1) e in
-          getD-set-other out (r + 1) q v 0 ne ∙ known q (omega arith)
+      go : (r : ℕ) → r < 8 → Is (eqb r (x z)) → getD (set l (x z) (getD l (x z) 0 + 1)) r 0 ≡ count n (λ s. leb (r + 1) (put x z s))
+      go r few (is-true e) =
+          let here : r ≡ x z = eq-of r (x z) e in
+          ap (λ (k : ℕ). getD (set l (x z) (getD l (x z) 0 + 1)) k 0) here
+          ∙ getD-set-same l (x z) (getD l (x z) 0 + 1) 0 (omega (arith, a .long))
+          ∙ omega (
+            arith,
+            ap (λ (k : ℕ). getD l k 0) here,
+            a .each r few,
+            but r,
+            ap bit (leb-no (r + 1) (x z) (omega arith)),
+            ap bit (leb-yes (r + 1) (put x z z) (omega (arith, own))),
+          )
+      go r few (is-false e) =
+          let ne : r ≡ x z → ⊥ = ne-of r (x z) e in
+          getD-set-other l (x z) r (getD l (x z) 0 + 1) 0 ne
+          ∙ omega (arith, a .each r few, but r, ap bit (same r ne (is (leb (r + 1) (x z)))))
+        where
+          same : (r : ℕ) → (r ≡ x z → ⊥) → Is (leb (r + 1) (x z)) → leb (r + 1) (put x z z) ≡ leb (r + 1) (x z)
+          same r ne (is-true e) = leb-yes (r + 1) (put x z z) (omega (arith, own, le-of (r + 1) (x z) e)) ∙ sym e
+          same r ne (is-false e) =
+              let high = gt-of (r + 1) (x z) e in
+              leb-no (r + 1) (put x z z) (omega (arith, own)) ∙ sym e

@@ -1,7 +1,7 @@
 -- Comparisons of numbers as tests: `ltb`, `leb` and `eqb`.
 --
 -- In order: what a comparison says (`lt-of`, `ge-of`, ..), and the comparison that says it (`ltb-yes`, `ltb-no`, ..), for each of the three; one order is the other denied
--- (`ltb-not`), comparisons that imply each other (`ltb-iff`), one number further (`ltb-next`).
+-- (`ltb-not`), comparisons that imply each other (`ltb-iff`), one number further (`ltb-next`), at least one (`leb-one`).
 -- A comparison as a number that omega reads is in Counts (`bit-ltb`).
 -- Assumes nothing.
 use Prim.Native.Nat.{ℕ, _+_, _≤_, _<_}
@@ -85,3 +85,11 @@ ltb-next q r other = go (is (ltb q r))
     go : Is (ltb q r) → ltb q r ≡ ltb q (r + 1)
     go (is-true e) = e ∙ sym (ltb-yes q (r + 1) (omega (arith, lt-of q r e)))
     go (is-false e) = e ∙ sym (ltb-no q (r + 1) (let l = ge-of q r e in omega arith))
+
+-- at least one, or none
+pub leb-one : (v : ℕ) → leb 1 v ≡ not (eqb v 0)
+leb-one v = go (is (eqb v 0))
+  where
+    go : Is (eqb v 0) → leb 1 v ≡ not (eqb v 0)
+    go (is-true e) = rw e (leb-no 1 v (omega (arith, eq-of v 0 e)))
+    go (is-false e) = let some = ne-of v 0 e in rw e (leb-yes 1 v (omega arith))

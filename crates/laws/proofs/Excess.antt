@@ -2,21 +2,23 @@
 --
 -- In order: no r exceeds its capacity by more, one does by as much (`excess-bounds`, `excess-reached`), so there is none exactly if no r exceeds it (`excess-none`);
 -- it is greatest at some r up to m or at the last r (`excess-at`), so it is the greater of
--- those up to m and of all needs over the capacity for m (`excess-few`), which sums that are cut there give (`excess-cut`); an example.
+-- those up to m and of all needs over the capacity for m (`excess-few`), which sums and a total give (`excess-of-sums`), and whether it is so many or more (`over-some`, `over-total`); an example.
 -- Assumes nothing.
-use Prim.Native.Nat.{ℕ, _+_, _-_, _≤_, _<_, min, max}
+use Prim.Native.Nat.{ℕ, _+_, _-_, _≤_, _<_, max}
 use native.Mathlib.Nat.{le-refl}
 use native.Mathlib.Omega.{arith}
-use mathlib.Core.Path.{_≡_, refl, ap}
+use mathlib.Core.Path.{_≡_, refl, sym, _∙_, ap, ap₂}
 use mathlib.Core.Logic.{_⊎_, inl, inr, _↔_}
+use mathlib.Core.Bool.{true}
 use mathlib.Core.List.{[], _∷_}
 use lib.Dec.{leb, eqb}
 use Rattle.laws.specs.Sums.{sum, greatest}
 use Rattle.laws.specs.Lists.{at}
 use Rattle.laws.specs.Placement.{capacity, largest, excess}
+use Rattle.laws.specs.method.Capacities.{excessOver}
 use Rattle.laws.proofs.Tests.{Is, is, is-true, is-false}
-use Rattle.laws.proofs.Comparisons.{le-of, gt-of, eq-of, ne-of}
-use Rattle.laws.proofs.Sums.{greatest-bounds, greatest-attained, greatest-le}
+use Rattle.laws.proofs.Comparisons.{le-of, gt-of, eq-of, ne-of, leb-yes, leb-no}
+use Rattle.laws.proofs.Sums.{greatest-bounds, greatest-attained, greatest-le, greatest-ext}
 use Rattle.laws.proofs.Capacities.{capacity-up, capacity-high, capacity-top, capacity-zero}
 use Rattle.laws.proofs.Largest.{largest-all, largest-part, largest-none}
 
@@ -91,46 +93,31 @@ module _ (k : ℕ) (c : ℕ → ℕ) (n : ℕ) (x : ℕ → ℕ) where
                 let past = gt-of k m l in
                 omega (arith, ap over q, largest-all k c k (le-refl k), capacity-top n x m few k (omega arith))
 
-    -- Sums cut at m, with that of all needs in the last place, are enough: it is not less than that of the m largest, and the capacity for m is that for all.
-    pub excess-cut : (sums : ℕ → ℕ) (j : ℕ) → j ≡ min k m → ((r : ℕ) → r < j → sums r ≡ largest k c r) → sums j ≡ sum k c
-        → greatest j (λ r. sums r - capacity n x r) ≡ excess k c n x
-    excess-cut sums j e right total = omega (arith, greatest-le j cut (excess k c n x) down, up excess-at)
-      where
-        cut : ℕ → ℕ
-        cut r = sums r - capacity n x r
+  -- As code has them for slots of at most eight bridges, from the sums of the r largest and the total.
+  pub excess-of-sums : (sums : ℕ → ℕ) (total : ℕ) → ((s : ℕ) → s < n → x s ≤ 8) → ((r : ℕ) → r < 9 → sums r ≡ largest k c r) → total ≡ sum k c
+      → excessOver sums total (capacity n x) ≡ excess k c n x
+  excess-of-sums sums total few each all =
+      ap₂ max (greatest-ext 8 (λ r. sums r - capacity n x r) over (λ r l. ap (λ (y : ℕ). y - capacity n x r) (each r (omega arith)))) (ap (λ (y : ℕ). y - capacity n x 8) all)
+      ∙ sym (excess-few 8 few)
 
-        -- the last place is as good as that of all needs
-        last : cut j ≡ over k
-        last = go (is (leb k m))
-          where
-            go : Is (leb k m) → cut j ≡ over k
-            go (is-true l) =
-                let same : j ≡ k = omega (arith, e, le-of k m l) in
-                omega (arith, total, ap (capacity n x) same, largest-all k c k (le-refl k))
-            go (is-false l) =
-                let past = gt-of k m l in
-                let same : j ≡ m = omega (arith, e) in
-                omega (arith, total, ap (capacity n x) same, largest-all k c k (le-refl k), capacity-top n x m few k (omega arith))
+-- no excess is above all sums and the total
+pub excess-over-le : (sums : ℕ → ℕ) (total : ℕ) (limit : ℕ → ℕ) (v : ℕ) → ((r : ℕ) → r < 9 → sums r ≤ v) → total ≤ v → excessOver sums total limit ≤ v
+excess-over-le sums total limit v each all = omega (arith, greatest-le 8 (λ r. sums r - limit r) v (λ r l. omega (arith, each r (omega arith))))
 
-        down : (r : ℕ) → r ≤ j → cut r ≤ excess k c n x
-        down r l = go (is (eqb r j))
-          where
-            go : Is (eqb r j) → cut r ≤ excess k c n x
-            go (is-true q) = omega (arith, ap cut (eq-of r j q), last, greatest-bounds k over k (le-refl k))
-            go (is-false q) =
-                let other = ne-of r j q in
-                omega (arith, right r (omega arith), greatest-bounds k over r (omega (arith, e)))
+-- Whether there is an excess of v or more: some sum, or the total, tells that there is; and where no sum does, the total tells.
+module _ (sums : ℕ → ℕ) (total : ℕ) (limit : ℕ → ℕ) (v : ℕ) where
+  pub over-some : (r : ℕ) → r ≤ 8 → v + limit r ≤ sums r → leb v (excessOver sums total limit) ≡ true
+  over-some r low h = leb-yes v (excessOver sums total limit) (omega (arith, greatest-bounds 8 (λ q. sums q - limit q) r low, h))
 
-        up : ((r : ℕ) × (r ≤ k) × ((r ≤ m) ⊎ (r ≡ k)) × (over r ≡ excess k c n x)) → excess k c n x ≤ greatest j cut
-        up (r, low, inr q, w) = omega (arith, ap over q, last, greatest-bounds j cut j (le-refl j))
-        up (r, low, inl q, w) = go (is (eqb r j))
-          where
-            go : Is (eqb r j) → excess k c n x ≤ greatest j cut
-            go (is-true y) =
-                omega (arith, w, ap over (eq-of r j y), largest-part k c j, total, greatest-bounds j cut j (le-refl j))
-            go (is-false y) =
-                let other = ne-of r j y in
-                omega (arith, w, right r (omega (arith, e)), greatest-bounds j cut r (omega (arith, e)))
+  pub over-total : {b : ℕ} → 0 < v → ((r : ℕ) → r ≤ 8 → sums r < v + limit r) → b ≡ v + limit 8 → leb b total ≡ leb v (excessOver sums total limit)
+  over-total {b} some each e = go (is (leb b total))
+    where
+      go : Is (leb b total) → leb b total ≡ leb v (excessOver sums total limit)
+      go (is-true y) = y ∙ sym (leb-yes v (excessOver sums total limit) (omega (arith, e, le-of b total y)))
+      go (is-false y) =
+          y
+          ∙ sym (leb-no v (excessOver sums total limit)
+          (omega (arith, e, some, gt-of b total y, greatest-le 8 (λ q. sums q - limit q) (v - 1) (λ r l. omega (arith, some, each r l)))))
 
 -- ---- examples
 

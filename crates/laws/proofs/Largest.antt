@@ -3,23 +3,23 @@
 -- In order: a larger number of needs, all of them, none (`largest-up`, `largest-all`, `largest-part`, `largest-none`); a selection of at most r jobs
 -- (`selected-le`, `largest-some`), and needs that agree (`largest-ext`); the sums are concave (`largest-concave`); one job taken out of a selection, and
 -- taken in (`taken-out`, `taken-in`, `left-out`); the sums with a job from those of the others (`largest-with`), those of the others from those of all
--- (`largest-others`), and the sums after a need is raised (`largest-raised`); needs that come one after the other (`largest-upto-more`); the criterion from
--- the sums up to the most free cells of a slot and the sum of all needs (`criterion-of-sums`, `sums-of-criterion`, `all-of-criterion`).
+-- (`largest-others`), and the sums after a need is raised (`largest-raised`); needs that come one after the other (`largest-upto-more`); what the criterion
+-- says of the sums of the largest needs and of all (`sums-of-criterion`, `all-of-criterion`).
 -- Assumes nothing.
 use Prim.Native.Nat.{ℕ, zero, suc, _+_, _-_, _*_, _≤_, _<_, min, max}
 use native.Mathlib.Nat.{le-refl, suc-mul}
 use native.Mathlib.Omega.{arith}
 use mathlib.Core.Path.{_≡_, refl, sym, ap}
 use mathlib.Core.Bool.{Bool, true, false, not, _&&_, _||_}
-use lib.Dec.{ltb, leb, eqb}
+use lib.Dec.{ltb, eqb}
 use Rattle.laws.specs.Sums.{bit, only, sum, count, position}
 use Rattle.laws.specs.Placement.{Criterion, capacity, before, largest}
 use Rattle.laws.proofs.Tests.{Is, is, is-true, is-false, clash}
-use Rattle.laws.proofs.Comparisons.{lt-of, ge-of, le-of, gt-of, eq-of, eqb-self, ne-of, ltb-yes, ltb-no, eqb-no, ltb-next}
+use Rattle.laws.proofs.Comparisons.{lt-of, ge-of, eq-of, eqb-self, ne-of, ltb-yes, ltb-no, eqb-no, ltb-next}
 use Rattle.laws.proofs.Sums.{only-le, sum-ext, sum-le, sum-zero, sum-but}
 use Rattle.laws.proofs.Counts.{count-le}
 use Rattle.laws.proofs.Order.{position-count, position-below, before-total}
-use Rattle.laws.proofs.Capacities.{capacity-up, capacity-high, capacity-top}
+use Rattle.laws.proofs.Capacities.{capacity-up, capacity-high}
 use Rattle.laws.proofs.Placement.{largest-slope, largest-bounds, largest-attained}
 
 -- ---- a larger number of needs, all of them, and none
@@ -249,24 +249,6 @@ largest-upto-all k c r = largest-ext k (upTo c k) c r (λ i l. ap (λ (b : Bool)
 
 module _ (n : ℕ) (x : ℕ → ℕ) (m : ℕ) (few : (s : ℕ) → s < n → x s ≤ m) where
   module _ (k : ℕ) (c : ℕ → ℕ) where
-    -- the sums up to m and the sum of all needs are enough ..
-    pub criterion-of-sums : ((r : ℕ) → r ≤ m → largest k c r ≤ capacity n x r) → sum k c ≤ capacity n x m → Criterion k c n x
-    criterion-of-sums low all p = go (is (leb (count k p) m))
-      where
-        go : Is (leb (count k p) m) → sum k (λ i. only (p i) (c i)) ≤ capacity n x (count k p)
-        go (is-true e) = omega (arith, largest-bounds k c p, low (count k p) (le-of (count k p) m e))
-        go (is-false e) =
-            omega (
-              arith,
-              sum-le k (λ i. only (p i) (c i)) c (λ i l. only-part (p i) (c i)),
-              capacity-top n x m few (count k p) (omega (arith, gt-of (count k p) m e)),
-            )
-          where
-            only-part : (b : Bool) (v : ℕ) → only b v ≤ v
-            only-part true v = le-refl v
-            only-part false v = omega arith
-
-    -- .. and needed
     pub sums-of-criterion : Criterion k c n x → (r : ℕ) → largest k c r ≤ capacity n x r
     sums-of-criterion crit r =
         let w = largest-some k c r in

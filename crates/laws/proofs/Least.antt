@@ -50,6 +50,12 @@ unfolding lowest
 lowest-ext zero f g m h = refl
 lowest-ext (suc n) f g m h = omega (arith, lowest-ext n f g m (λ i k. h i (omega arith)), h n (omega arith))
 
+-- a bound beside the first one
+pub lowest-min : (n : ℕ) (f : ℕ → ℕ) (m b : ℕ) → min (lowest n f m) b ≡ lowest n f (min m b)
+unfolding lowest
+lowest-min zero f m b = refl
+lowest-min (suc n) f m b = omega (arith, lowest-min n f m b)
+
 -- ---- one job beside the others
 
 -- d has the needs of c but 0 at job i, and e those of c but v there

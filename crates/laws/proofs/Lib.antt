@@ -1,5 +1,5 @@
 -- The laws, by subject. Of numbers and lists: tests, comparisons, tests of every number, sums, counts, lists element by element, stores into them, what a loop over numbers keeps,
--- positions in an order. Of jobs and slots: capacities, placements (T1, T2), the two orders of ties computed, the sums of the largest needs, the excess, cells of a slot, eviction
+-- positions in an order. Of jobs and slots: capacities, the table of them computed, placements (T1, T2), the two orders of ties computed, the sums of the largest needs, the excess, cells of a slot, eviction
 -- (T4), grants (T3), the highest need of a job.
 pub mod Tests
 pub mod Comparisons
@@ -11,6 +11,7 @@ pub mod Stores
 pub mod Loops
 pub mod Order
 pub mod Capacities
+pub mod TableExamples
 pub mod Placement
 pub mod TieExamples
 pub mod Largest

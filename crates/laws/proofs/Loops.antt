@@ -3,13 +3,13 @@
 -- In order: sums, counts; whether some number passes a test; whether every number does; the lowest. Capacities with one slot more are in Capacities, numbers stored one by one in
 -- Stores.
 -- Assumes nothing.
-use Prim.Native.Nat.{ℕ, _+_, _≤_, _<_, min}
+use Prim.Native.Nat.{ℕ, _+_, _≤_, _<_, min, max}
 use native.Mathlib.Numerals.{add-one}
 use native.Mathlib.Omega.{arith}
 use mathlib.Core.Path.{_≡_, refl, _∙_, ap}
 use mathlib.Core.Bool.{Bool, true, false, _||_}
 use lib.Dec.{ltb}
-use Rattle.laws.specs.Sums.{bit, sum, count, every}
+use Rattle.laws.specs.Sums.{bit, sum, count, greatest, every}
 use Rattle.laws.specs.method.Least.{lowest}
 use Rattle.laws.proofs.Tests.{Is, is, is-true, is-false, both}
 use Rattle.laws.proofs.Comparisons.{lt-of, ge-of, ltb-yes}
@@ -66,3 +66,11 @@ lowest-none f m = refl
 pub lowest-more : (n : ℕ) (f : ℕ → ℕ) (m : ℕ) → lowest (n + 1) f m ≡ min (lowest n f m) (f n)
 unfolding lowest
 lowest-more n f m = rw (add-one n) refl
+
+pub greatest-none : (f : ℕ → ℕ) → greatest 0 f ≡ f 0
+unfolding greatest
+greatest-none f = refl
+
+pub greatest-more : (n : ℕ) (f : ℕ → ℕ) → greatest (n + 1) f ≡ max (greatest n f) (f (n + 1))
+unfolding greatest
+greatest-more n f = rw (add-one n) refl

@@ -1,11 +1,11 @@
 -- Stores into lists.
 --
--- In order: zeros; a list of numbers whose places from one on and below another were stored, one by one (`Stored`): none yet, one more, and over zeros; of a run of
+-- In order: zeros; a list of numbers whose places from one on and below another were stored, one by one (`Stored`): none yet, one more, one that stands already, and over zeros; one that is put back (`set-back`); of a run of
 -- stores, `sets` of lib.Seq, those past the end (`sets-out`), and one run and then another (`sets-append`). The laws of one store are lib.Seq's.
 -- Assumes nothing.
 use Prim.Native.Nat.{ℕ, zero, suc, _+_, _≤_, _<_}
 use native.Mathlib.Omega.{arith}
-use mathlib.Core.Path.{_≡_, refl, _∙_}
+use mathlib.Core.Path.{_≡_, refl, _∙_, ap}
 use mathlib.Core.List.{List, [], _∷_, _++_}
 use lib.ListN.{length, getD, set, replicate}
 use lib.Dec.{ltb, eqb}
@@ -45,6 +45,14 @@ stored-more {l} {f} {from} {n} {m} {v} h low inside e =
     go q a b (is-true y) = rw (eq-of q n y) (getD-set-same m n v 0 inside ∙ e)
     go q a b (is-false y) = let other = ne-of q n y in getD-set-other m n q v 0 other ∙ h .done q a (omega arith)
 
+-- what stands there already need not be stored
+pub stored-kept : {l : List ℕ} {f : ℕ → ℕ} {from n : ℕ} {m : List ℕ} → Stored l f from n m → getD m n 0 ≡ f n → Stored l f from (n + 1) m
+stored-kept {f = f} {from = from} {n = n} {m = m} h e = record { done = λ q a b. go q a b (is (eqb q n)); under = h .under; rest = λ q b. h .rest q (omega arith) }
+  where
+    go : (q : ℕ) → from ≤ q → q < n + 1 → Is (eqb q n) → getD m q 0 ≡ f q
+    go q a b (is-true y) = rw (eq-of q n y) e
+    go q a b (is-false y) = let other = ne-of q n y in h .done q a (omega arith)
+
 -- a list of zeros, stored into from the front
 pub stored-zeros : (k : ℕ) {f : ℕ → ℕ} {n : ℕ} {m : List ℕ} → Stored (replicate k 0) f 0 n m → (q : ℕ) → getD m q 0 ≡ only (ltb q n) (f q)
 stored-zeros k {f} {n} {m} h q = go (is (ltb q n))
@@ -52,6 +60,12 @@ stored-zeros k {f} {n} {m} h q = go (is (ltb q n))
     go : Is (ltb q n) → getD m q 0 ≡ only (ltb q n) (f q)
     go (is-true e) = rw e (h .done q (omega arith) (lt-of q n e))
     go (is-false e) = rw e (h .rest q (ge-of q n e) ∙ zeros k q)
+
+-- a place stored into and put back
+pub set-back : (l : List ℕ) (i v : ℕ) → set (set l i v) i (getD l i 0) ≡ l
+set-back [] i v = refl
+set-back (x ∷ l) zero v = refl
+set-back (x ∷ l) (suc i) v = ap (λ (r : List ℕ). x ∷ r) (set-back l i v)
 
 -- ---- runs of stores
 

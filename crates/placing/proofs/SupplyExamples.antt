@@ -1,6 +1,6 @@
 -- Small frames under a supply that feeds only so many motors, computed: what the definitions of this layer say of them. Document 02, 2026-03.
 --
--- In order: the free number of a slot (`free-numbers`), and the room for r (`capacity-supplied`); a sound table obeys the cap (`sound-supplied`); plans (`plans-supplied`); calls by what a plan leaves
+-- In order: the free number of a slot (`free-numbers`), the room for r (`capacity-supplied`), and the table that it is read from (`entries-supplied`); a sound table obeys the cap (`sound-supplied`); plans (`plans-supplied`); calls by what a plan leaves
 -- and by earlier calls (`calls-supplied`); lent tables: a lost cell may end empty (`lost-may-end-empty`), and calls one after the other (`three-calls`).
 -- Assumes nothing.
 use Prim.Native.Nat.{ℕ}
@@ -10,11 +10,15 @@ use mathlib.Core.List.{List, [], _∷_, map}
 use lib.ListN.{take, replicate}
 use Rattle.laws.specs.Sums.{sum}
 use Rattle.laws.specs.Lists.{tabulate}
+use Rattle.laws.specs.method.Capacities.{AtLeast}
+use Rattle.laws.proofs.Capacities.{at-least-of}
 use Rattle.station.specs.Head.{Head, Job, Preset, withSupply}
 use Rattle.station.specs.Refusal.{callNotFeasible, mandatoryNotFeasible, notWellFormed}
 use Rattle.placing.specs.Table.{cell, freeNumber}
 use Rattle.placing.specs.State.{stateOf}
 use Rattle.placing.specs.Valid.{lost}
+use Rattle.placing.specs.Plan.{planFreeCount}
+use Rattle.placing.specs.Call.{usableCount}
 use Rattle.placing.specs.Capacity.{planCapacity, callCapacity, freeCapacity}
 use Rattle.placing.specs.Outcomes.{cost, CallAnswer, PlanAnswer, planOf, callOf}
 use Rattle.placing.proofs.Examples.{plans, calls, noBusy, preset, job, headOf, lent}
@@ -41,6 +45,12 @@ pub capacity-supplied : (tabulate 5 (planCapacity (fed 1 4 2 [])) ≡ 0 ∷ 1 �
     × (tabulate 5 (freeCapacity (fed 1 4 3 []) 1 (cell (fed 1 4 3 []) (lent (513 ∷ 770 ∷ [])))) ≡ 0 ∷ 1 ∷ 1 ∷ 1 ∷ 1 ∷ [])
 unfolding tabulate sum
 capacity-supplied = (refl, refl, refl, refl)
+
+-- So four empty cells under a supply of 2 count in the entries 1 and 2 of the table of slots only; and a slot before the clock counts in none, for a plan it does.
+pub entries-supplied : AtLeast (2 ∷ 2 ∷ 0 ∷ 0 ∷ 0 ∷ 0 ∷ 0 ∷ 0 ∷ []) 2 (planFreeCount (fed 2 4 2 []))
+    × AtLeast (1 ∷ 1 ∷ 0 ∷ 0 ∷ 0 ∷ 0 ∷ 0 ∷ 0 ∷ []) 2 (usableCount (fed 2 4 2 []) 2 (cell (fed 2 4 2 []) (lent [])))
+unfolding tabulate sum
+entries-supplied = (at-least-of 2 (planFreeCount (fed 2 4 2 [])), at-least-of 2 (usableCount (fed 2 4 2 []) 2 (cell (fed 2 4 2 []) (lent []))))
 
 -- ---- a sound table
 

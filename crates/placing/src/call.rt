@@ -8,12 +8,12 @@ use crate::counts::causes::cause_by_counts;
 use crate::counts::counts_of;
 use crate::counts::mark_jobs;
 use crate::counts::needs::job_needs;
-use crate::counts::usable::capacities_at;
-use crate::limits::CAPACITY_COUNT;
+use crate::counts::usable::count_slots;
 use crate::limits::MOST_PLACED;
 use crate::rule::place;
 use crate::search::evict;
 use station::limits::LEAST_RECORDS;
+use station::limits::MOST_BRIDGES;
 use station::limits::MOST_JOBS;
 use station::limits::MOST_PRESETS;
 use station::records::load;
@@ -115,7 +115,7 @@ fn carry_out(
 
 // Takes a call of the first n jobs on a running frame whose clock is at `clock` and whose order of ties is `hold`, by the counts of its table and clock: the causes 2, 4, 9 of its
 // jobs, then 7 where it does not fit. A refusal changes nothing; a call that is taken brings the counts up to the table that it leaves. Who keeps them between calls need not have the
-// table counted for each. They are lent in their parts: the numbers that are used, how many of them the call cells have, and the capacities.
+// table counted for each. They are lent in their parts: the numbers that are used, how many of them the call cells have, and the slots by what a call may fill in them.
 pub fn call_by_counts(
     head: Head,
     presets: [Preset; MOST_PRESETS],
@@ -126,20 +126,20 @@ pub fn call_by_counts(
     n: usize,
     used: &mut [u8; 256],
     admitted: &mut usize,
-    capacities: &mut [usize; CAPACITY_COUNT],
+    entries: &mut [u8; MOST_BRIDGES],
 ) -> CallAnswer
     ensures { λ r. ⌜ (validRecord head presets ≡ true → Running (headIn head presets) (stateOf (now (table .entry)) clock hold)
-        → CountsOf (headIn head presets) clock (cell (headIn head presets) (now (table .entry))) (now (used .entry)) (now (admitted .entry)) (now (capacities .entry))
+        → CountsOf (headIn head presets) clock (cell (headIn head presets) (now (table .entry))) (now (used .entry)) (now (admitted .entry)) (now (entries .entry))
         → CallDone head presets (callJobs n jobs) (stateOf (now (table .entry)) clock hold) (now (table .exit)) r
-        × CountsOf (headIn head presets) clock (cell (headIn head presets) (now (table .exit))) (now (used .exit)) (now (admitted .exit)) (now (capacities .exit))) ⌝ }
+        × CountsOf (headIn head presets) clock (cell (headIn head presets) (now (table .exit))) (now (used .exit)) (now (admitted .exit)) (now (entries .exit))) ⌝ }
 {
-    if let Cause::Met(r) = cause_by_counts(used, *admitted, capacities, jobs, n) {
+    if let Cause::Met(r) = cause_by_counts(used, *admitted, entries, jobs, n) {
         return CallAnswer::Refused(0, r);
     }
     let answer = carry_out(head, presets, table, clock, hold, jobs, n);
     mark_jobs(used, jobs, n);
     *admitted = *admitted + n;
-    *capacities = capacities_at(head, table, clock);
+    *entries = count_slots(head, table, clock);
     answer
 }
 
@@ -164,7 +164,7 @@ pub fn call_by_value(
     let counts = counts_of(head, presets, table, clock);
     let mut used = counts.used;
     let mut admitted = counts.jobs;
-    let mut capacities = counts.capacities;
+    let mut entries = counts.entries;
     call_by_counts(
         head,
         presets,
@@ -175,7 +175,7 @@ pub fn call_by_value(
         n,
         &mut used,
         &mut admitted,
-        &mut capacities,
+        &mut entries,
     )
 }
 

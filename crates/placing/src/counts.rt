@@ -1,13 +1,12 @@
 // What a call's own causes are decided by, counted over the cells of the frame; and the numbers that a call adds.
 pub(crate) mod needs; // needs.rt: the lengths of a call's jobs
-pub mod usable; // usable.rt: the capacities of what a call may fill
+pub mod usable; // usable.rt: the slots by what a call may fill in them
 pub(crate) mod causes; // causes.rt: the first cause that a call meets, by the counts
 
 use crate::cells::Cell;
 use crate::cells::is_call;
 use crate::cells::number_in;
-use crate::counts::usable::capacities_at;
-use crate::limits::CAPACITY_COUNT;
+use crate::counts::usable::count_slots;
 use crate::limits::in_limits;
 use station::limits::MOST_BRIDGES;
 use station::limits::MOST_JOBS;
@@ -27,12 +26,12 @@ ghost use Rattle.placing.specs.Table.{cell, isCall, hasPreset};
 ghost use Rattle.placing.specs.method.Jobs.{marked, jobNumber};
 ghost use Rattle.placing.specs.method.Counts.{Marks, Marked, MarkedBeside, CountsOf};
 
-// What a call's own causes are decided by: 1 at each number that a preset or a call cell has, the number of job numbers in the table, and the capacities for 0 to 8 jobs
-// of what a call may fill: of each slot from the clock on the empty and the optional cells, but no more than the motors beside the cells that stay.
+// What a call's own causes are decided by: 1 at each number that a preset or a call cell has, the number of job numbers in the table, and how many slots from the clock on
+// have at least one, two, up to eight cells that a call may fill: the empty and the optional ones, but no more than the motors beside the cells that stay.
 pub struct Counts {
     pub used: [u8; 256],
     pub jobs: usize,
-    pub capacities: [usize; CAPACITY_COUNT],
+    pub entries: [u8; MOST_BRIDGES],
 }
 
 // Marks the number of a call cell; 1 where it was not marked before, else 0.
@@ -137,7 +136,7 @@ pub(crate) fn mark_jobs(used: &mut [u8; 256], jobs: [Job; MOST_JOBS], n: usize)
     }
 }
 
-// Counts a table and a clock: the numbers that are used, the job numbers, and the capacities of what a call may fill. It promises something of
+// Counts a table and a clock: the numbers that are used, the job numbers, and the slots by what a call may fill in them. It promises something of
 // a head record that some text yields and a table that is not too short, and is safe for every other.
 pub fn counts_of(
     head: Head,
@@ -145,17 +144,17 @@ pub fn counts_of(
     table: &[Cell],
     clock: usize,
 ) -> Counts
-    ensures { λ r. ⌜ (validRecord head presets ≡ true → leastCells ≤ length (now (table .entry)) → CountsOf (headIn head presets) clock (cell (headIn head presets) (now (table .entry))) (r .used) (r .jobs) (r .capacities)) ⌝ }
+    ensures { λ r. ⌜ (validRecord head presets ≡ true → leastCells ≤ length (now (table .entry)) → CountsOf (headIn head presets) clock (cell (headIn head presets) (now (table .entry))) (r .used) (r .jobs) (r .entries)) ⌝ }
 {
     let slots = head.slots;
     let bridges = head.bridges;
-    let capacities = capacities_at(head, table, clock);
+    let entries = count_slots(head, table, clock);
     let mut used = [0u8; 256];
     if !in_limits(slots, bridges, head.count, table.len()) {
         return Counts {
             used: used,
             jobs: 0,
-            capacities: capacities,
+            entries: entries,
         };
     }
     let jobs = mark_calls(table, slots, bridges, &mut used);
@@ -163,6 +162,6 @@ pub fn counts_of(
     Counts {
         used: used,
         jobs: jobs,
-        capacities: capacities,
+        entries: entries,
     }
 }

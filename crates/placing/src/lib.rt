@@ -5,7 +5,7 @@ pub mod call; // call.rt: call, over a borrowed list of preset records; with the
 // What the parts share:
 pub mod cells; // cells.rt: what a cell of the table is
 mod numbers; // numbers.rt: small functions of numbers
-mod capacities; // capacities.rt: the capacities for 0 to 8, from slots counted by their free numbers
+mod capacities; // capacities.rt: how many slots have at least so many free bridges, and by how much needs exceed the capacities
 // The causes of a frame, and the limits within which the parts look at one:
 pub mod check; // check.rt: the first cause that a running frame meets
 pub mod limits; // limits.rt: the limits, and the motors that the supply feeds

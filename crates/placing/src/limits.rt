@@ -8,8 +8,8 @@ use station::types::Head;
 ghost use mathlib.Core.Path.{_≡_};
 ghost use Rattle.placing.specs.method.Limits.{sizesInLimits, motorsIn};
 
-// How many numbers there are from 0 to the most bridges: a slot has as many free ones, and the capacities are kept for as many jobs.
-pub const CAPACITY_COUNT: usize = MOST_BRIDGES + 1;
+// How many numbers there are from 0 to the most bridges: for as many jobs there are capacities, and sums of the longest are kept.
+pub(crate) const CAPACITY_COUNT: usize = MOST_BRIDGES + 1;
 
 // How many presets or jobs are placed at a time, at the most: as many as a frame has jobs.
 pub(crate) const MOST_PLACED: usize = MOST_FRAME_JOBS;

@@ -1,30 +1,26 @@
 // The eviction search: which optional cells a call evicts, and over which cells its jobs are then placed.
-pub(crate) mod longest; // longest.rt: the sums of the longest jobs
 pub(crate) mod empty; // empty.rt: the empty cells that a call may use, and the motors to spare
-pub(crate) mod excess; // excess.rt: by how much sums exceed capacities
 mod ranks; // ranks.rt: the ranks of the presets
 mod links; // links.rt: the optional cells as chains
 mod taking; // taking.rt: the walk over them
 
-use crate::capacities::capacities_of;
+use crate::capacities::excess;
 use crate::capacities::slot_counts;
 use crate::cells::Cell;
+use crate::grants::sums_of;
+use crate::grants::total_of;
 use crate::limits::CAPACITY_COUNT;
 use crate::limits::MOST_PLACED;
 use crate::limits::in_limits;
 use crate::limits::motors;
-use crate::numbers::smaller;
 use crate::search::empty::slot_masks;
-use crate::search::excess::excess;
-use crate::search::excess::tightest;
-use crate::search::longest::demanded_sums;
 use crate::search::taking::walk;
 use station::limits::MOST_BRIDGES;
 use station::limits::MOST_PRESETS;
 use station::limits::MOST_SLOTS;
 use station::types::Head;
 use station::types::Preset;
-ghost use Prim.Native.Nat.{ℕ, _*_, _-_, _<_, _≤_};
+ghost use Prim.Native.Nat.{ℕ, _*_, _<_, _≤_};
 ghost use mathlib.Core.Path.{_≡_};
 ghost use mathlib.Core.Bool.{true};
 ghost use mathlib.Core.List.{List};
@@ -45,46 +41,40 @@ pub(crate) struct Evicted {
     pub counts: [usize; MOST_SLOTS],
 }
 
-// What the jobs demand: how many sums are held against the capacities, as many as there are jobs and at most 8; the sums of the r longest for r below, and of all
-// jobs in the last place; and the number of slots in which they are to have it.
+// What the jobs demand: the sums of the r longest for r from 0 to 8, all together, and the number of slots in which they are to have it.
 pub(crate) struct Demand {
     pub slots: usize,
-    pub jobs: usize,
     pub sums: [usize; CAPACITY_COUNT],
+    pub total: usize,
 }
 
-// What the search keeps: for each slot the mask of the bridges that the jobs may use and its free number, the capacities for 0 to 8, the shortage, the least
-// number of jobs that are short by as much, and how many cells are evicted so far.
+// What the search keeps: for each slot the mask of the bridges that the jobs may use and its free number, how many slots have at least one, two, up to eight free bridges, the
+// shortage, and how many cells are evicted so far.
 pub(crate) struct Search {
     pub free: [u8; MOST_SLOTS],
     pub counts: [usize; MOST_SLOTS],
-    pub capacities: [usize; CAPACITY_COUNT],
+    pub entries: [u8; MOST_BRIDGES],
     pub short: usize,
-    pub tight: usize,
     pub evicted: usize,
 }
 
 // What the search has before its walk: the empty cells from the clock on, and the free numbers.
 fn starting(table: &[Cell], bridges: usize, motors: usize, clock: usize, demand: Demand) -> Search
-    requires { ⌜ (bridges ≤ mostBridges) × (demand .slots ≤ mostSlots) × (demand .jobs ≤ mostBridges) × (leastCells ≤ length (now table)) × ((r : ℕ) → r < capacityCount → getD (demand .sums) r 0 ≤ 255 * mostPlaced) ⌝ }
+    requires { ⌜ (bridges ≤ mostBridges) × (demand .slots ≤ mostSlots) × (leastCells ≤ length (now table)) × ((r : ℕ) → r < capacityCount → getD (demand .sums) r 0 ≤ 255 * mostPlaced) × (demand .total ≤ 255 * mostPlaced) ⌝ }
     ensures { λ s. ⌜ Starts (now (table .entry)) bridges motors clock demand s ⌝ }
 {
     let slots = demand.slots;
-    let jobs = demand.jobs;
     let sums = demand.sums;
     let mut spare = [0usize; MOST_SLOTS];
     let free = slot_masks(table, bridges, motors, clock, slots, &mut spare);
-    let mut with = [0usize; CAPACITY_COUNT];
-    let counts = slot_counts(&free, &spare, slots, &mut with);
-    let capacities = capacities_of(&with, slots);
-    let short = excess(&sums, &capacities, jobs);
-    let tight = tightest(&sums, &capacities, jobs, short);
+    let mut entries = [0u8; MOST_BRIDGES];
+    let counts = slot_counts(&free, &spare, slots, &mut entries);
+    let short = excess(&sums, demand.total, &entries);
     Search {
         free: free,
         counts: counts,
-        capacities: capacities,
+        entries: entries,
         short: short,
-        tight: tight,
         evicted: 0,
     }
 }
@@ -103,12 +93,12 @@ fn evict_in_limits(
     requires { ⌜ searchable head k (length (now table)) ≡ true ⌝ }
     ensures { λ r. ⌜ ((jobs : List Job) → lengths jobs ≡ take k needs → Evicts (headIn head presets) clock jobs (cell (headIn head presets) (now (table .entry))) r) ⌝ }
 {
-    let sums = demanded_sums(&needs, k);
-    let jobs = smaller(k, MOST_BRIDGES);
+    let sums = sums_of(&needs, k);
+    let total = total_of(&needs, k);
     let demand = Demand {
         slots: head.slots,
-        jobs: jobs,
         sums: sums,
+        total: total,
     };
     let start = starting(table, head.bridges, motors(head), clock, demand);
     if start.short == 0 {

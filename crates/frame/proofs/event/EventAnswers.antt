@@ -13,6 +13,7 @@ use mathlib.Core.Option.{Option, none, some}
 use mathlib.Core.List.{List, [], _∷_, _++_}
 use lib.ListN.{length}
 use lib.Dec.{ltb, leb}
+use Rattle.laws.specs.method.Capacities.{AtLeast}
 use Rattle.laws.proofs.Tests.{Is, is, is-true, is-false, clash, both, left-of, right-of, not-is-true, not-is-false, true-of-not}
 use Rattle.laws.proofs.Comparisons.{gt-of, le-of, ge-of, ltb-yes, ltb-no}
 use Rattle.station.specs.Head.{Head, Job, within}
@@ -44,7 +45,7 @@ use Rattle.placing.specs.Causes.{causeIn, frameCausesOf, callJobs}
 use Rattle.placing.specs.CallDone.{callAnswerIn, callMeant, CallDone}
 use Rattle.placing.specs.Claims.{Running}
 use Rattle.placing.proofs.Theorems.{met, jobs-inside, record-valid, eleven, frame-known, same-frame, in-limits}
-use Rattle.placing.specs.method.Counts.{CountsOf, CapacitiesAt}
+use Rattle.placing.specs.method.Counts.{CountsOf, slotFree}
 use Rattle.placing.proofs.Theorems.{clock-late, call-jobs, counts-passed}
 use Rattle.frame.specs.declared.types.Answer.the-variants.{Now, Tie, Refused}
 use Rattle.frame.specs.declared.types.Outcome as result
@@ -152,11 +153,11 @@ clock-within slots c t was = go (firstOf (clockCauses slots c t)) refl
         (ap (clockIn slots) z ∙ true-of-not (clockIn slots t) (two .0), omega (arith, z, ge-of t c six))
     go (some r) e = let z = clock-stopped slots c t r e .1 in (ap (clockIn slots) z ∙ was, omega (arith, z))
 
--- so the counts are those of the clock that is left, where its slots are taken off the capacities
+-- so the counts are those of the clock that is left, where its slots are taken off
 pub clock-counts : (head : record-of-head.Head) (ps : List record-of-preset.Preset) (n : ℕ) (st : State) {r : result.Outcome} {marks xs ys : List ℕ} {admitted : ℕ}
     → ClockDone (head .slots) (st .clock) (st .hold) n r → validRecord head ps ≡ true → Running (headIn head ps) st → CountsOf (headIn head ps) (st .clock) (cell (headIn head ps) (st .table)) marks admitted xs
     → (sizesInLimits (head .slots) (head .bridges) 0 (length (st .table)) ≡ true → clockIn (head .slots) (st .clock) ≡ true → clockIn (head .slots) (r .clock) ≡ true → st .clock ≤ r .clock
-    → CapacitiesAt (st .table) (head .slots) (head .bridges) (motorsIn head) (st .clock) xs → CapacitiesAt (st .table) (head .slots) (head .bridges) (motorsIn head) (r .clock) ys)
+    → AtLeast xs (head .slots) (slotFree (st .table) (head .bridges) (motorsIn head) (st .clock)) → AtLeast ys (head .slots) (slotFree (st .table) (head .bridges) (motorsIn head) (r .clock)))
     → CountsOf (headIn head ps) (r .clock) (cell (headIn head ps) (st .table)) marks admitted ys
 clock-counts head ps n st {r} d v run was passed =
     let valid = record-valid head ps v in

@@ -6,9 +6,9 @@ use placing::call::call_by_counts;
 use placing::cells::Cell;
 use placing::check::clock_in;
 use placing::counts::usable::pass_slots;
-use placing::limits::CAPACITY_COUNT;
 use station::events::Event;
 use station::events::read_event;
+use station::limits::MOST_BRIDGES;
 use station::limits::MOST_PRESETS;
 use station::types::Head;
 use station::types::Preset;
@@ -71,13 +71,13 @@ pub(crate) fn event_by_counts(
     hold: bool,
     used: &mut [u8; 256],
     admitted: &mut usize,
-    capacities: &mut [usize; CAPACITY_COUNT],
+    entries: &mut [u8; MOST_BRIDGES],
     line: &[u8],
 ) -> Outcome
     ensures { λ r. ⌜ (validRecord head presets ≡ true → Running (headIn head presets) (stateOf (now (table .entry)) clock hold)
-        → CountsOf (headIn head presets) clock (cell (headIn head presets) (now (table .entry))) (now (used .entry)) (now (admitted .entry)) (now (capacities .entry))
+        → CountsOf (headIn head presets) clock (cell (headIn head presets) (now (table .entry))) (now (used .entry)) (now (admitted .entry)) (now (entries .entry))
         → Yields (lineMeant head presets (stateOf (now (table .entry)) clock hold) (now (line .entry))) (now (table .exit)) r
-        × CountsOf (headIn head presets) (r .clock) (cell (headIn head presets) (now (table .exit))) (now (used .exit)) (now (admitted .exit)) (now (capacities .exit))) ⌝ }
+        × CountsOf (headIn head presets) (r .clock) (cell (headIn head presets) (now (table .exit))) (now (used .exit)) (now (admitted .exit)) (now (entries .exit))) ⌝ }
 {
     let read = read_event(line);
     let event = read.event;
@@ -85,7 +85,7 @@ pub(crate) fn event_by_counts(
     match event {
         Event::SetClock(t) => {
             let done = asked_clock(head.slots, clock, hold, t as usize);
-            pass_slots(head, table, clock, done.clock, capacities);
+            pass_slots(head, table, clock, done.clock, entries);
             done
         }
         Event::PlaceJobs(n) => {
@@ -99,7 +99,7 @@ pub(crate) fn event_by_counts(
                 n,
                 used,
                 admitted,
-                capacities,
+                entries,
             );
             call_outcome(answer, clock, hold)
         }

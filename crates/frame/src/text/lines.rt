@@ -43,7 +43,7 @@ pub(crate) fn run_lines(
     let counts = counts_of(head, presets, table, clock);
     let mut used = counts.used;
     let mut admitted = counts.jobs;
-    let mut capacities = counts.capacities;
+    let mut entries = counts.entries;
     while at < text.len() {
         let line = line_at(text, at);
         let done = event_by_counts(
@@ -54,7 +54,7 @@ pub(crate) fn run_lines(
             hold,
             &mut used,
             &mut admitted,
-            &mut capacities,
+            &mut entries,
             line,
         );
         let answer = done.answer;

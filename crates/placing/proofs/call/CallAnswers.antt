@@ -12,6 +12,7 @@ use mathlib.Core.Option.{Option, none, some}
 use mathlib.Core.List.{List, [], _∷_, _++_}
 use lib.ListN.{length, getD, take, replicate}
 use Rattle.laws.specs.Lists.{at}
+use Rattle.laws.specs.method.Capacities.{AtLeast}
 use Rattle.laws.proofs.Tests.{true-of-not}
 use Rattle.laws.proofs.Stores.{zeros}
 use Rattle.station.specs.Head.{Head, Job, Valid, hasBit}
@@ -47,7 +48,7 @@ use Rattle.laws.proofs.Counts.{count-ext}
 use Rattle.placing.proofs.FreeNumber.{call-free-least}
 use Rattle.placing.proofs.CalledTable.{callFree-count}
 use Rattle.placing.proofs.MaskBits.{hasBit-mask}
-use Rattle.placing.specs.method.Counts.{CountsOf, CapacitiesAt, MarkedBeside}
+use Rattle.placing.specs.method.Counts.{CountsOf, slotFree, MarkedBeside}
 use Rattle.placing.proofs.counts.causes.CallCauses.{job-at, inside-number, call-jobs, cause-known}
 use Rattle.placing.proofs.counts.LeftByEvent.{counts-taken}
 use Rattle.placing.proofs.limits.Within.{in-limits}
@@ -221,14 +222,14 @@ module _ (head : record-of-head.Head) (ps : List record-of-preset.Preset) (jobs 
 
 -- ---- the counts afterwards
 
--- the numbers of the jobs were marked and counted, and the capacities counted anew
+-- the numbers of the jobs were marked and counted, and the slots counted anew
 pub counted-after : (head : record-of-head.Head) (ps : List record-of-preset.Preset) (js : List record-of-job.Job) (n : ℕ) (st : State) → length js ≡ 8
     → validRecord head ps ≡ true → Running (headIn head ps) st
     → {w : cause.Cause} → causeIn w ≡ firstOf (callCauses (headIn head ps) (st .clock) (callJobs n js) (cell (headIn head ps) (st .table))) → w ≡ Passed
     → {u : List ℕ} {r : reply.CallAnswer} → CallDone head ps (callJobs n js) st u r
     → {marks after xs ys : List ℕ} {admitted : ℕ} → CountsOf (headIn head ps) (st .clock) (cell (headIn head ps) (st .table)) marks admitted xs
     → (length marks ≡ 256 → n ≤ 8 → MarkedBeside (λ i. jobNumber js i % 256) marks n after)
-    → (sizesInLimits (head .slots) (head .bridges) 0 (length u) ≡ true → CapacitiesAt u (head .slots) (head .bridges) (motorsIn head) (st .clock) ys)
+    → (sizesInLimits (head .slots) (head .bridges) 0 (length u) ≡ true → AtLeast ys (head .slots) (slotFree u (head .bridges) (motorsIn head) (st .clock)))
     → CountsOf (headIn head ps) (st .clock) (cell (headIn head ps) u) after (admitted + n) ys
 counted-after head ps js n st long v run e m {u} d {after = after} {ys = ys} {admitted = admitted} was marks counted =
     let h = headIn head ps in
@@ -242,7 +243,7 @@ counted-after head ps js n st long v run e m {u} d {after = after} {ys = ys} {ad
     let free = counted (in-limits (head .slots) (head .bridges) 0 (length u) (valid .slots-high) (valid .bridges-high) (omega arith) size) in
     subst (λ (l : List ℕ). CountsOf h (st .clock) (cell h l) after (admitted + n) ys) (sym table)
     (counts-taken h st js long n (known .0) (known .1) taken was (marks (was .marks-long) (known .0))
-    (subst (λ (l : List ℕ). CapacitiesAt l (head .slots) (head .bridges) (motorsIn head) (st .clock) ys) table free))
+    (subst (λ (l : List ℕ). AtLeast ys (head .slots) (slotFree l (head .bridges) (motorsIn head) (st .clock))) table free))
 
 -- ---- the frame afterwards
 

@@ -10,6 +10,7 @@ use mathlib.Core.List.{List}
 use lib.ListN.{length}
 use lib.Dec.{ltb, eqb}
 use Rattle.laws.specs.Sums.{count}
+use Rattle.laws.specs.method.Capacities.{AtLeast}
 use Rattle.laws.proofs.Counts.{count-ext}
 use Rattle.station.specs.Head.{Head, Job}
 use Rattle.station.specs.declared.types.Job as record-job
@@ -20,23 +21,16 @@ use Rattle.placing.specs.Outcomes.{Cost, jobsOutside, CallAnswer, callOf
 use Rattle.placing.proofs.UsedNumbers.{numberOf, isOneOf, left-isUsed, left-jobCount}
 use Rattle.placing.proofs.ClaimsHold.{call-accepted, call-claim}
 use Rattle.placing.specs.method.Jobs.{jobNumber}
-use Rattle.placing.specs.method.Counts.{CountsOf, CapacitiesAt, MarkedBeside}
+use Rattle.placing.specs.method.Counts.{CountsOf, slotFree, MarkedBeside}
 use Rattle.placing.proofs.counts.MarkedNumbers.{or-comm}
-use Rattle.placing.proofs.counts.usable.UsableCells.{capacity-is}
+use Rattle.placing.proofs.counts.usable.UsableCells.{entries-are, entries-of}
 use Rattle.placing.proofs.counts.causes.CallCauses.{jobs-length, number-of, inside-number}
 
 -- the clock moved
 pub counts-passed : (h : Head) (c d : ℕ) (t : List ℕ) {u xs ys : List ℕ} {admitted : ℕ} → CountsOf h c (cell h t) u admitted xs
-    → (CapacitiesAt t (h .slots) (h .bridges) (motors h) c xs → CapacitiesAt t (h .slots) (h .bridges) (motors h) d ys) → CountsOf h d (cell h t) u admitted ys
+    → (AtLeast xs (h .slots) (slotFree t (h .bridges) (motors h) c) → AtLeast ys (h .slots) (slotFree t (h .bridges) (motors h) d)) → CountsOf h d (cell h t) u admitted ys
 counts-passed h c d t was passed =
-    let x = passed (record { long = was .long; right = λ k l. was .capacities k l ∙ sym (capacity-is h c t k) }) in
-    record {
-      marks-long = was .marks-long;
-      used = was .used;
-      jobs = was .jobs;
-      long = x .long;
-      capacities = λ k l. x .right k l ∙ capacity-is h d t k;
-    }
+    record { marks-long = was .marks-long; used = was .used; jobs = was .jobs; entries = entries-are h d t (passed (entries-of h c t (was .entries))) }
 
 -- a call of the first n jobs was taken
 module _ (h : Head) (st : State) (js : List record-job.Job) (long : length js ≡ 8) (n : ℕ) (few : n ≤ 8) (e : jobsOutside (jobsIn n js) ≡ false) where
@@ -57,7 +51,7 @@ module _ (h : Head) (st : State) (js : List record-job.Job) (long : length js �
   pub counts-taken : {q : Cost} {marks after xs ys : List ℕ} {admitted : ℕ} → callOf h jobs st .answer ≡ CallAnswer.taken q
       → CountsOf h (st .clock) (cell h (st .table)) marks admitted xs
       → MarkedBeside (λ i. jobNumber js i % 256) marks n after
-      → CapacitiesAt (callOf h jobs st .after .table) (h .slots) (h .bridges) (motors h) (st .clock) ys
+      → AtLeast ys (h .slots) (slotFree (callOf h jobs st .after .table) (h .bridges) (motors h) (st .clock))
       → CountsOf h (st .clock) (cell h (callOf h jobs st .after .table)) after (admitted + n) ys
   counts-taken {q} {marks} {admitted = admitted} taken was beside x =
       let known = call-accepted h jobs st q taken in
@@ -71,6 +65,5 @@ module _ (h : Head) (st : State) (js : List record-job.Job) (long : length js �
             ∙ or-comm (isOneOf (length jobs) (numberOf jobs) m) (isUsed h (cell h (st .table)) m)
             ∙ sym (left-isUsed h (st .clock) jobs (cell h (st .table)) u (known .1) valid (known .2) m);
         jobs = omega (arith, was .jobs, left-jobCount h (st .clock) jobs (cell h (st .table)) u (known .1) valid (known .2), jobs-length js long n few);
-        long = x .long;
-        capacities = λ k l. x .right k l ∙ capacity-is h (st .clock) (callOf h jobs st .after .table) k;
+        entries = entries-are h (st .clock) (callOf h jobs st .after .table) x;
       }

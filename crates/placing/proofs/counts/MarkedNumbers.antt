@@ -1,7 +1,7 @@
 -- Laws of the numbers that are marked, and of the counts of a table and a clock.
 --
 -- In order: numbers that are marked, by one cell (`mark-..`) and by those so far (`marked-..`); numbers marked beside others (`beside-..`); the counts of the frame (`counts-of`). Those of what an event
--- leaves are in counts/LeftByEvent.antt, the capacities in counts/usable/UsableCells.antt.
+-- leaves are in counts/LeftByEvent.antt, the slots by what a call may fill in them in counts/usable/UsableCells.antt.
 -- Assumes nothing.
 use Prim.Native.Nat.{ℕ, _+_, _*_, _≤_, _<_}
 use native.Mathlib.Omega.{arith}
@@ -12,6 +12,7 @@ use lib.ListN.{length, getD, set, replicate, length-set}
 use lib.Seq.{getD-set-same, getD-set-other}
 use lib.Dec.{ltb, eqb}
 use Rattle.laws.specs.Sums.{bit, sum, count}
+use Rattle.laws.specs.method.Capacities.{AtLeast}
 use Rattle.laws.proofs.Tests.{Is, is, is-true, is-false, or-left, or-right}
 use Rattle.laws.proofs.Comparisons.{eq-of, ne-of, ge-of, ltb-yes, ltb-no, eqb-yes, eqb-no, eqb-self}
 use Rattle.laws.proofs.Sums.{sum-but, sum-split, sum-rows}
@@ -22,8 +23,8 @@ use Rattle.station.specs.Head.{Head}
 use Rattle.placing.specs.Table.{cell, kindOf, numberIn, isCall, callCell, hasJob, hasPreset, motors}
 use Rattle.placing.proofs.CountedCells.{kindOf-call, numberIn-call, isCall-call}
 use Rattle.placing.specs.method.Jobs.{marked}
-use Rattle.placing.specs.method.Counts.{CountsOf, Marked, Marks, CapacitiesAt, MarkedBeside}
-use Rattle.placing.proofs.counts.usable.UsableCells.{capacity-is}
+use Rattle.placing.specs.method.Counts.{CountsOf, Marked, Marks, slotFree, MarkedBeside}
+use Rattle.placing.proofs.counts.usable.UsableCells.{entries-are}
 
 -- ---- numbers that are marked
 
@@ -177,12 +178,11 @@ module _ (h : Head) (clock : ℕ) (t : List ℕ) {u : List ℕ} (m : Marked t (h
       m .which n l ∙ ap (λ (k : ℕ). ltb 0 k) (sum-rows (h .slots) (h .bridges) (λ i. bit (eqb (getD t i 0) (callCell n))))
 
   pub counts-of : {w xs : List ℕ} {admitted : ℕ} → length w ≡ 256 → ((n : ℕ) → n < 256 → marked w n ≡ (hasPreset h n || marked u n)) → admitted ≡ count 256 (marked u)
-      → CapacitiesAt t (h .slots) (h .bridges) (motors h) clock xs → CountsOf h clock (cell h t) w admitted xs
+      → AtLeast xs (h .slots) (slotFree t (h .bridges) (motors h) clock) → CountsOf h clock (cell h t) w admitted xs
   counts-of size numbers many x =
       record {
         marks-long = size;
         used = λ n l. numbers n l ∙ ap (λ (b : Bool). hasPreset h n || b) (job-marked n l);
         jobs = many ∙ count-ext 256 (marked u) (λ n. hasJob h (cell h t) n) job-marked;
-        long = x .long;
-        capacities = λ k l. x .right k l ∙ capacity-is h clock t k;
+        entries = entries-are h clock t x;
       }

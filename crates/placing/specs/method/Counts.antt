@@ -7,14 +7,14 @@ use Prim.Native.Nat.{ℕ, _+_, _-_, _*_, _≤_, _<_, min}
 use mathlib.Core.Path.{_≡_}
 use mathlib.Core.Bool.{Bool, not, _&&_, _||_}
 use mathlib.Core.List.{List}
-use lib.ListN.{length, getD}
+use lib.ListN.{length}
 use lib.Dec.{ltb, eqb}
 use Rattle.laws.specs.Sums.{sum, count, only}
-use Rattle.laws.specs.Placement.{capacity, excess}
+use Rattle.laws.specs.Placement.{excess}
+use Rattle.laws.specs.method.Capacities.{AtLeast}
 use Rattle.station.specs.Limits.{mostBridges}
 use Rattle.station.specs.Head.{Head, Job, Valid}
 use Rattle.station.specs.Refusal.{firstOf}
-use Rattle.placing.specs.method.Limits.{capacityCount}
 use Rattle.placing.specs.Table.{cellAt, Cells, WellFormed, isEmpty, isOptional, isHeld, callCell, isUsed, jobCount}
 use Rattle.placing.specs.Valid.{usable, jobAt}
 use Rattle.placing.specs.Call.{usableCount, callFits}
@@ -24,14 +24,13 @@ use Rattle.placing.specs.declared.check.Cause as cause
 use Rattle.placing.specs.method.Jobs.{marked}
 use Rattle.placing.specs.method.Grants.{Sums}
 
--- The counts are those of the head h, the clock and the cells t: "A number is used if a preset of the head or a call cell has it"; the job numbers of the table; and the
--- capacities for 0 to 8 jobs of what a call may fill.
+-- The counts are those of the head h, the clock and the cells t: "A number is used if a preset of the head or a call cell has it"; the job numbers of the table; and how many
+-- slots have at least one, two, up to eight cells that a call may fill.
 pub record CountsOf (h : Head) (clock : ℕ) (t : Cells) (marks : List ℕ) (admitted : ℕ) (xs : List ℕ) : Type 0 where
   pub marks-long : length marks ≡ 256
   pub used : (n : ℕ) → n < 256 → marked marks n ≡ isUsed h t n
   pub jobs : admitted ≡ jobCount h t
-  pub long : length xs ≡ capacityCount
-  pub capacities : (k : ℕ) → k < capacityCount → getD xs k 0 ≡ capacity (h .slots) (usableCount h clock t) k
+  pub entries : AtLeast xs (h .slots) (usableCount h clock t)
 
 -- What `own_cause` answers: for every table that has these used numbers and so many job numbers, the first of the causes 2, 4, 9 of the jobs.
 abbrev pub OwnCause : List ℕ → ℕ → List Job → cause.Cause → Type 0
@@ -44,22 +43,21 @@ pub record Unfinished (k : ℕ) (c : ℕ → ℕ) (jobs : List Job) (sums : List
   pub all : total ≡ sum k c
   pub others : (i : ℕ) → i < length jobs → c (k + i) ≡ jobAt jobs i .slots
 
--- What `fits_by_counts` answers: whether the jobs and what is unfinished fit together into any cells whose capacities for 0 to 8 are xs.
+-- What `fits_by_counts` answers: whether the jobs and what is unfinished fit together into any slots of which xs has how many have at least so many free cells.
 abbrev pub FitBeside : List ℕ → ℕ → List ℕ → List Job → Bool → Type 0
 FitBeside sums total xs jobs r =
     (k : ℕ) (c : ℕ → ℕ) → Unfinished k c jobs sums total → (n : ℕ) (x : ℕ → ℕ) → ((s : ℕ) → s < n → x s ≤ mostBridges)
-    → ((q : ℕ) → q < capacityCount → getD xs q 0 ≡ capacity n x q) → r ≡ eqb (excess (k + length jobs) c n x) 0
+    → AtLeast xs n x → r ≡ eqb (excess (k + length jobs) c n x) 0
 
 -- What `cause_by_counts` answers: on every well-formed table of which these are the counts, the first of the causes of the call itself.
 abbrev pub CountedCause : List ℕ → ℕ → List ℕ → List Job → cause.Cause → Type 0
 CountedCause marks admitted xs jobs r =
     (h : Head) (clock : ℕ) (t : Cells) → Valid h → WellFormed h t → CountsOf h clock t marks admitted xs → causeIn r ≡ firstOf (callCauses h clock jobs t)
 
--- whether the jobs fit, likewise, by the capacities alone
+-- whether the jobs fit, likewise, by these slots alone
 abbrev pub CountedFit : List ℕ → List Job → Bool → Type 0
 CountedFit xs jobs r =
-    (h : Head) (clock : ℕ) (t : Cells) → Valid h → WellFormed h t
-    → ((k : ℕ) → k < capacityCount → getD xs k 0 ≡ capacity (h .slots) (usableCount h clock t) k) → r ≡ callFits h clock jobs t
+    (h : Head) (clock : ℕ) (t : Cells) → Valid h → WellFormed h t → AtLeast xs (h .slots) (usableCount h clock t) → r ≡ callFits h clock jobs t
 
 -- ---- numbers that are marked
 
@@ -101,8 +99,3 @@ usableIn t from n motors = min (count n (λ b. freeCell (cellAt t (from + b)))) 
 -- and of a slot; "A call uses slots from the clock on."
 unfoldable pub slotFree : List ℕ → ℕ → ℕ → ℕ → ℕ → ℕ
 slotFree t bridges motors clock s = only (usable clock s) (usableIn t (s * bridges) bridges motors)
-
--- the list has the capacities for 0 to 8 of what a call may fill in so many slots
-pub record CapacitiesAt (t : List ℕ) (slots bridges motors clock : ℕ) (xs : List ℕ) : Type 0 where
-  pub long : length xs ≡ capacityCount
-  pub right : (k : ℕ) → k < capacityCount → getD xs k 0 ≡ capacity slots (slotFree t bridges motors clock) k

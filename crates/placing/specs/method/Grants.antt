@@ -2,14 +2,14 @@
 -- Assumes nothing.
 use Prim.Native.Nat.{ℕ, suc, _+_, _-_, _≤_, _<_, min, max}
 use mathlib.Core.Path.{_≡_}
-use mathlib.Core.Bool.{Bool, true, false, not, _&&_}
+use mathlib.Core.Bool.{Bool, true, false, not}
 use mathlib.Core.List.{List}
 use lib.ListN.{length, getD, replicate}
-use lib.Count.{ones}
-use lib.Dec.{ltb, leb}
-use Rattle.laws.specs.Sums.{bit, only, sum, count, every}
+use lib.Dec.{ltb}
+use Rattle.laws.specs.Sums.{bit, only, sum, count}
 use Rattle.laws.specs.Lists.{at}
-use Rattle.laws.specs.Placement.{capacity, largest}
+use Rattle.laws.specs.Placement.{largest}
+use Rattle.laws.specs.method.Capacities.{AtLeast, capacityFrom}
 use Rattle.laws.specs.method.Least.{lowest}
 use Rattle.station.specs.Limits.{mostSlots, mostBridges, mostPresets}
 use Rattle.station.specs.Head.{Head, hasBit}
@@ -32,22 +32,10 @@ freeMask busy bridges s = bridgeMask bridges (λ b. not (hasBit (getD busy b 0) 
 abbrev pub freeMasks : ℕ → ℕ → List ℕ → List ℕ
 freeMasks slots bridges busy = filled mostSlots slots (freeMask busy bridges)
 
--- the free number of slot s before a plan, from the masks: "the smaller of the empty cells and k", since nothing is held
-abbrev pub freeOnes : List ℕ → ℕ → ℕ → ℕ
-freeOnes masks motors s = min (ones (getD masks s 0)) motors
-
--- The capacities ("the room for r") of the first slots for r up to 8. More than 8 presets have no more room than 8, since no slot has more bridges.
-abbrev pub Capacities : ℕ → (ℕ → ℕ) → List ℕ → Type 0
-Capacities slots free capacities = (r : ℕ) → r < capacityCount → getD capacities r 0 ≡ capacity slots free r
-
 -- "the r largest needs together" for r up to 8, of the first k needs
 pub record Sums (k : ℕ) (needs : ℕ → ℕ) (sums : List ℕ) : Type 0 where
   pub long : length sums ≡ capacityCount
   pub each : (r : ℕ) → r < capacityCount → getD sums r 0 ≡ largest k needs r
-
--- "Needs fit exactly if, for every r, the r largest needs together do not exceed" the capacity for r: these for r up to 8, and all needs together that for 8
-abbrev pub fitsIn : List ℕ → ℕ → List ℕ → Bool
-fitsIn sums total capacities = every capacityCount (λ r. leb (at sums r) (at capacities r)) && leb total (at capacities mostBridges)
 
 -- the r largest needs of the others together, from the sums of all and the need m of one preset
 abbrev pub otherSum : List ℕ → ℕ → ℕ → ℕ
@@ -55,8 +43,8 @@ otherSum sums m r = min (at sums r) (at sums (suc r) - m)
 
 -- the highest need up to `limit` that fits beside the needs of the others
 abbrev pub highestIn : List ℕ → ℕ → ℕ → List ℕ → ℕ → ℕ
-highestIn sums total m capacities limit =
-    lowest mostBridges (λ r. at capacities (suc r) - otherSum sums m r) (min limit (at capacities mostBridges - (total - m)))
+highestIn sums total m entries limit =
+    min (lowest mostBridges (λ r. capacityFrom entries (suc r) - otherSum sums m r) limit) (capacityFrom entries mostBridges - (total - m))
 
 -- the sums after one need was raised from m to `top`
 pub record Raised (sums : List ℕ) (m top : ℕ) (r : List ℕ) : Type 0 where
@@ -90,10 +78,10 @@ OrderOf ps k order = (i : ℕ) → i < k → getD order (rankIn ps k i) 0 ≡ i
 abbrev pub needsOf : Head → List ℕ
 needsOf h = filled mostPlaced (only (planFits h (mandatories h)) (presetCount h)) (at (needs h))
 
--- What the loop over the ranks stands on: a head record that some text yields, its capacities, and mandatory slots that fit.
-pub record Fitting (head : record-of-head.Head) (presets : List types.Preset) (capacities : List ℕ) : Type 0 where
+-- What the loop over the ranks stands on: a head record that some text yields, its slots by their free numbers, and mandatory slots that fit.
+pub record Fitting (head : record-of-head.Head) (presets : List types.Preset) (entries : List ℕ) : Type 0 where
   pub valid : validRecord head presets ≡ true
-  pub known : Capacities (head .slots) (planFreeCount (headIn head presets)) capacities
+  pub known : AtLeast entries (head .slots) (planFreeCount (headIn head presets))
   pub start : planFits (headIn head presets) (mandatories (headIn head presets)) ≡ true
 
 -- what it starts from: the mandatory slots, their sums, and all of them together

@@ -9,7 +9,7 @@ use Rattle.station.specs.Types.{headIn}
 use Rattle.station.specs.declared.types.Head as record-of-head
 use Rattle.placing.specs.Table.{motors}
 
--- how many numbers there are from 0 to the most bridges: a slot has as many free ones, and capacities are kept for as many jobs
+-- how many numbers there are from 0 to the most bridges: the sums of the longest are kept for as many jobs
 abbrev pub capacityCount : ℕ
 capacityCount = mostBridges + 1
 

@@ -9,9 +9,10 @@ use lib.ListN.{length, getD, set, take, replicate}
 use lib.Bits.{bitOr}
 use lib.Dec.{ltb, leb, eqb}
 use lib.Count as digits
-use Rattle.laws.specs.Sums.{sum, only, count, greatest, position}
+use Rattle.laws.specs.Sums.{sum, only, count}
 use Rattle.laws.specs.Lists.{at}
-use Rattle.laws.specs.Placement.{before, capacity}
+use Rattle.laws.specs.Placement.{capacity}
+use Rattle.laws.specs.method.Capacities.{AtLeast, excessOver}
 use Rattle.laws.specs.Eviction.{put, added, ones}
 use Rattle.station.specs.Limits.{mostSlots, mostBridges, mostPresets, leastCells}
 use Rattle.station.specs.Head.{Head, Job}
@@ -22,39 +23,16 @@ use Rattle.placing.specs.declared.search.Search.{Search}
 use Rattle.placing.specs.declared.search.taking.Tally.{Tally}
 use Rattle.placing.specs.declared.search.Evicted.{Evicted}
 use Rattle.placing.specs.declared.search.Demand.{Demand}
-use Rattle.placing.specs.method.Limits.{capacityCount, mostPlaced, sizesInLimits}
+use Rattle.placing.specs.method.Limits.{mostPlaced, sizesInLimits}
 use Rattle.placing.specs.Table.{cellAt, Cells, cell, isEmpty, isHeld, numberIn}
 use Rattle.placing.specs.Valid.{usable}
 use Rattle.placing.specs.method.Mask.{bridgeMask}
 use Rattle.placing.specs.method.Counts.{evictableCell}
 use Rattle.placing.specs.Call.{CellPlace, downward, evictionOrder, slotsOf, freeNumberFrom, lengths, evictedSet, callFits, callFree}
 
--- How many of the first n of the needs cs come before that of job i: the longer first, of equal ones the earlier.
-unfoldable pub longerBelow : List ℕ → ℕ → ℕ → ℕ
-longerBelow cs i n = position n (before (at cs)) i
-
--- what the first n of k needs add to the sum of the r longest of the k
-unfoldable pub longestBelow : List ℕ → ℕ → ℕ → ℕ → ℕ
-longestBelow cs k n r = sum n (λ i. only (ltb (longerBelow cs i k) r) (at cs i))
-
--- the sum of the r longest of the first k needs
-abbrev pub longest : List ℕ → ℕ → ℕ → ℕ
-longest cs k r = longestBelow cs k k r
-
--- The sums that k jobs with the needs cs are held to: of the r longest for r below k and 8, and in the last place all together. No slot has more than 8 free cells, so that the capacity
--- for 8 is that for more jobs too, and past 8 the excess is greatest for all of them.
-pub record Demanded (cs : List ℕ) (k : ℕ) (sums : List ℕ) : Type 0 where
-  pub below : (r : ℕ) → r < min k mostBridges → getD sums r 0 ≡ longest cs k r
-  pub total : getD sums (min k mostBridges) 0 ≡ sum k (at cs)
-  pub low : (r : ℕ) → r < capacityCount → getD sums r 0 ≤ 255 * k
-
 -- what the first n of some lines have in all at the value m: w i for each line i whose value v i is m
 unfoldable pub totalAt : (ℕ → ℕ) → (ℕ → ℕ) → ℕ → ℕ → ℕ
 totalAt v w n m = sum n (λ i. only (eqb (v i) m) (w i))
-
--- the greatest excess of the sums cs over the capacities xs, for r from 0 to k
-unfoldable pub excessUpTo : List ℕ → List ℕ → ℕ → ℕ
-excessUpTo cs xs k = greatest k (λ r. at cs r - at xs r)
 
 -- the empty cells among the bridges from a place of the table on
 abbrev pub emptyIn : List ℕ → ℕ → ℕ → Bool
@@ -76,14 +54,10 @@ slotMask t bridges clock s = only (usable clock s) (emptyMask t (s * bridges) br
 abbrev pub slotNumber : List ℕ → ℕ → ℕ → ℕ → ℕ → ℕ
 slotNumber t bridges motors clock s = min (digits.ones (slotMask t bridges clock s)) (motors - heldFrom t (s * bridges) bridges)
 
--- By how much sums of the longest jobs exceed the capacities for 0 to k of the free cells x of n slots, at the worst. Where `sums` is what jobs demand
--- (`Demanded`), k their number up to 8, and no slot has more than 8 free cells, this is their `excess`.
-unfoldable pub shortage : List ℕ → ℕ → ℕ → (ℕ → ℕ) → ℕ
-shortage sums k n x = greatest k (λ r. at sums r - capacity n x r)
-
--- the same for what the jobs demand
+-- By how much what the jobs demand exceeds the capacities of the free cells x at the worst. Where the sums are those of the r longest jobs, the total that of all, and no slot has more than 8 free
+-- cells, this is their `excess`.
 abbrev pub shortFor : Demand → (ℕ → ℕ) → ℕ
-shortFor d = shortage (d .sums) (d .jobs) (d .slots)
+shortFor d x = excessOver (at (d .sums)) (d .total) (capacity (d .slots) x)
 
 -- What the search has at a point of its walk: for each slot the mask of the bridges that the jobs may use and its free number, and how many
 -- cells are evicted so far.
@@ -116,34 +90,17 @@ keptIn s = record { free = s .free; counts = s .counts; evicted = s .evicted }
 
 -- a search by its arrays and its numbers, as the parts of the walk pass them
 abbrev pub searchOf : List ℕ → List ℕ → List ℕ → Tally → Search
-searchOf free counts capacities t =
-    record { free = free; counts = counts; capacities = capacities; short = t .short; tight = t .tight; evicted = t .evicted }
+searchOf free counts entries t = record { free = free; counts = counts; entries = entries; short = t .short; evicted = t .evicted }
 
--- r is the least number up to k at which the sums cs exceed the capacities xs by `short`, or k where there is none below it
-pub record Tightest (cs xs : List ℕ) (k short r : ℕ) : Type 0 where
-  pub within : r ≤ k
-  pub before : (q : ℕ) → q < r → at cs q - at xs q < short
-  pub here : r < k → short ≤ at cs r - at xs r
-
--- by how much what the r longest jobs demand exceeds the capacity for r of the free cells x
-abbrev pub overAt : Demand → (ℕ → ℕ) → ℕ → ℕ
-overAt d x r = at (d .sums) r - capacity (d .slots) x r
-
--- The numbers that the search keeps beside that are right: the capacities for 0 to 8, the shortage, and the least r at which there is as much of it. The bounds
--- keep sums from overflowing: a cell is taken only where the shortage falls.
+-- The numbers that the search keeps beside that are right, before and after each cell that is tried: "It is shown to hold that count at each trial". The last bound keeps a sum from overflowing: a cell is taken only where
+-- the shortage falls.
 pub record Stands (d : Demand) (s : Search) : Type 0 where
-  pub few-jobs : d .jobs ≤ mostBridges
   pub few-slots : d .slots ≤ mostSlots
   pub free-long : length (s .free) ≡ mostSlots
   pub counts-long : length (s .counts) ≡ mostSlots
-  pub capacities-long : length (s .capacities) ≡ capacityCount
-  pub capacities : (r : ℕ) → r < capacityCount → getD (s .capacities) r 0 ≡ capacity (d .slots) (at (s .counts)) r
+  pub table : AtLeast (s .entries) (d .slots) (at (s .counts))
   pub short : s .short ≡ shortFor d (at (s .counts))
-  pub tight-in : s .tight ≤ d .jobs
-  pub tight-at : overAt d (at (s .counts)) (s .tight) ≡ s .short
-  pub tight-first : (r : ℕ) → r < s .tight → overAt d (at (s .counts)) r < s .short
-  pub few : s .evicted + s .short ≤ 16384
-  pub low : (z : ℕ) → getD (s .counts) z 0 + s .short ≤ 16384
+  pub few : s .evicted + s .short ≤ 255 * mostPlaced
 
 -- what a part of the walk answers: the numbers stand, and what is kept is what the walk over zs makes of what was kept
 pub record Walked (d : Demand) (zs : List CellPlace) (s r : Search) : Type 0 where

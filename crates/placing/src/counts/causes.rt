@@ -1,9 +1,11 @@
 // The causes of a call itself, tried by the counts of the table and the clock: 2, 4 and 9 of its jobs, then 7.
+use crate::capacities::lacks;
 use crate::check::Cause;
-use crate::grants::fits;
 use crate::grants::raise_sums;
 use crate::limits::CAPACITY_COUNT;
+use crate::numbers::wide;
 use station::check::job_in_limits;
+use station::limits::MOST_BRIDGES;
 use station::limits::MOST_FRAME_JOBS;
 use station::limits::MOST_JOBS;
 use station::types::Job;
@@ -78,17 +80,17 @@ fn jobs_used(used: &[u8; 256], jobs: [Job; MOST_JOBS], n: usize) -> bool
     false
 }
 
-// Whether the first n jobs fit beside what is unfinished, of which the sums of the r longest for r from 0 to 8 and all of it together are given, into cells whose
-// capacities for 0 to 8 are given.
+// Whether the first n jobs fit beside what is unfinished, of which the sums of the r longest for r from 0 to 8 and all of it together are given, into slots
+// of which it is given how many have at least one, two, up to eight free bridges.
 fn fits_by_counts(
     sums: [usize; CAPACITY_COUNT],
     total: usize,
-    capacities: &[usize; CAPACITY_COUNT],
+    entries: &[u8; MOST_BRIDGES],
     jobs: [Job; MOST_JOBS],
     n: usize,
 ) -> bool
     requires { ⌜ (n ≤ mostJobs) × (jobsOutside (jobsIn n jobs) ≡ false) × ((r : ℕ) → r < capacityCount → at sums r ≤ mostFrameJobs * mostLength) × (total ≤ mostFrameJobs * mostLength) ⌝ }
-    ensures { λ r. ⌜ FitBeside sums total (now (capacities .entry)) (jobsIn n jobs) r ⌝ }
+    ensures { λ r. ⌜ FitBeside sums total (now (entries .entry)) (jobsIn n jobs) r ⌝ }
 {
     let mut all = sums;
     let mut together = total;
@@ -100,21 +102,21 @@ fn fits_by_counts(
         together += need;
         i += 1;
     }
-    fits(&all, together, capacities)
+    !lacks(&all, together, entries, 1)
 }
 
-// Whether the first n jobs fit into what they may fill, whose capacities for 0 to 8 are given. Nothing is unfinished beside them, so that one job alone fits if it
-// is no longer than the capacity for one.
-fn jobs_fit(capacities: &[usize; CAPACITY_COUNT], jobs: [Job; MOST_JOBS], n: usize) -> bool
+// Whether the first n jobs fit into slots of which it is given how many have at least one, two, up to eight free bridges. Nothing is unfinished beside them, so that one job alone fits if it
+// is no longer than the slots with at least one are many.
+fn jobs_fit(entries: &[u8; MOST_BRIDGES], jobs: [Job; MOST_JOBS], n: usize) -> bool
     requires { ⌜ (n ≤ mostJobs) × (jobsOutside (jobsIn n jobs) ≡ false) ⌝ }
-    ensures { λ r. ⌜ CountedFit (now (capacities .entry)) (jobsIn n jobs) r ⌝ }
+    ensures { λ r. ⌜ CountedFit (now (entries .entry)) (jobsIn n jobs) r ⌝ }
 {
     if n == 1 {
         let job = jobs[0];
-        return job.slots as usize <= capacities[1];
+        return job.slots as usize <= wide(entries[0]);
     }
     let none = [0usize; CAPACITY_COUNT];
-    fits_by_counts(none, 0, capacities, jobs, n)
+    fits_by_counts(none, 0, entries, jobs, n)
 }
 
 // The causes of the first n jobs of a call, by the numbers that are used and how many of them the call cells have: 2 for a ninth job, for none, or for one outside its
@@ -141,16 +143,16 @@ fn own_cause(used: &[u8; 256], admitted: usize, jobs: [Job; MOST_JOBS], n: usize
 pub(crate) fn cause_by_counts(
     used: &[u8; 256],
     admitted: usize,
-    capacities: &[usize; CAPACITY_COUNT],
+    entries: &[u8; MOST_BRIDGES],
     jobs: [Job; MOST_JOBS],
     n: usize,
 ) -> Cause
-    ensures { λ r. ⌜ CountedCause (now (used .entry)) admitted (now (capacities .entry)) (callJobs n jobs) r × (causeIn r ≡ none → admitted + n ≤ mostFrameJobs) ⌝ }
+    ensures { λ r. ⌜ CountedCause (now (used .entry)) admitted (now (entries .entry)) (callJobs n jobs) r × (causeIn r ≡ none → admitted + n ≤ mostFrameJobs) ⌝ }
 {
     if let Cause::Met(r) = own_cause(used, admitted, jobs, n) {
         return Cause::Met(r);
     }
-    if !jobs_fit(capacities, jobs, n) {
+    if !jobs_fit(entries, jobs, n) {
         return Cause::Met(Refusal::CallNotFeasible);
     }
     Cause::Passed

@@ -1,13 +1,11 @@
 // The walk over the optional cells in eviction order: a cell that lowers the shortage is evicted.
+use crate::capacities::lacks;
 use crate::cells::Cell;
-use crate::limits::CAPACITY_COUNT;
 use crate::search::Demand;
 use crate::search::Evicted;
 use crate::search::Search;
 use crate::search::empty::bridge_bit;
-use crate::search::excess::tightest;
 use crate::search::links::link_slots;
-use crate::search::longest::raise;
 use crate::search::ranks::ranks_of;
 use station::limits::LEAST_CELLS;
 use station::limits::MOST_BRIDGES;
@@ -30,62 +28,53 @@ ghost use Rattle.placing.specs.method.Search.{searchOf, Stands, shortFor
 // The numbers of a search, beside its arrays, which the walk changes in place.
 pub(crate) struct Tally {
     pub short: usize,
-    pub tight: usize,
     pub evicted: usize,
 }
 
-// The least number of jobs that are short by as much, after one cell more in a slot with x free ones, where it was `tight`: `found` of those up to x, or as before, since
-// for more jobs than x the excess fell as much as the shortage did.
-fn tight_after(found: usize, x: usize, tight: usize) -> usize
-    ensures { λ r. ⌜ (found ≤ x → r ≡ found) × (x < found → r ≡ tight) ⌝ }
-{
-    if x < found {
-        return tight;
-    }
-    found
-}
-
-// Evicts a cell that lowers the shortage: one in a slot whose free number is below the least number of jobs that are short by as much. The shortage
-// is then less by 1.
-fn take_cell(
+// Tries a cell: one more free bridge in its slot, which then has at least one more than it had. The cell is evicted if that lowers the shortage, else the slot is entered as before. (A slot whose
+// bridges are all free has no cell to try.)
+fn try_cell(
     demand: Demand,
     free: &mut [u8; MOST_SLOTS],
     counts: &mut [usize; MOST_SLOTS],
-    capacities: &mut [usize; CAPACITY_COUNT],
+    entries: &mut [u8; MOST_BRIDGES],
     kept: Tally,
     slot: usize,
     bridge: usize,
 ) -> Tally
-    requires { ⌜ (slot < demand .slots) × (bridge < mostBridges) × Stands demand (searchOf (now free) (now counts) (now capacities) kept) × (getD (now counts) slot 0 < kept .tight) ⌝ }
-    ensures { λ r. ⌜ Walked demand (record { slot = slot; bridge = bridge } ∷ []) (searchOf (now (free .entry)) (now (counts .entry)) (now (capacities .entry)) kept) (searchOf (now (free .exit)) (now (counts .exit)) (now (capacities .exit)) r) ⌝ }
+    requires { ⌜ (slot < demand .slots) × (bridge < mostBridges) × (0 < kept .short) × Stands demand (searchOf (now free) (now counts) (now entries) kept) ⌝ }
+    ensures { λ r. ⌜ Walked demand (record { slot = slot; bridge = bridge } ∷ []) (searchOf (now (free .entry)) (now (counts .entry)) (now (entries .entry)) kept) (searchOf (now (free .exit)) (now (counts .exit)) (now (entries .exit)) r) ⌝ }
 {
     let sums = demand.sums;
     let x = counts[slot];
-    let short = kept.short - 1;
+    if MOST_BRIDGES <= x {
+        return kept;
+    }
+    entries[x] += 1;
+    if lacks(&sums, demand.total, entries, kept.short) {
+        entries[x] -= 1;
+        return kept;
+    }
     free[slot] = free[slot] | bridge_bit(bridge);
     counts[slot] = x + 1;
-    raise(capacities, x, MOST_BRIDGES, 1);
-    let found = tightest(&sums, capacities, x + 1, short);
-    let tight = tight_after(found, x, kept.tight);
     Tally {
-        short: short,
-        tight: tight,
+        short: kept.short - 1,
         evicted: kept.evicted + 1,
     }
 }
 
-// The walk over a chain of cells: those that lower the shortage are evicted. It ends as soon as there is no shortage.
+// The walk over a chain of cells: each is tried. It ends as soon as there is no shortage.
 fn through_chain(
     next: &[u16; LEAST_CELLS],
     from: usize,
     demand: Demand,
     free: &mut [u8; MOST_SLOTS],
     counts: &mut [usize; MOST_SLOTS],
-    capacities: &mut [usize; CAPACITY_COUNT],
+    entries: &mut [u8; MOST_BRIDGES],
     kept: Tally,
 ) -> Tally
-    requires { ⌜ (from ≤ demand .slots * mostBridges) × ((c : ℕ) → getD (now next) c 0 ≤ c) × Stands demand (searchOf (now free) (now counts) (now capacities) kept) ⌝ }
-    ensures { λ r. ⌜ Stands demand (searchOf (now (free .exit)) (now (counts .exit)) (now (capacities .exit)) r) × ((zs : List CellPlace) → Chain (now (next .entry)) from zs → Walked demand zs (searchOf (now (free .entry)) (now (counts .entry)) (now (capacities .entry)) kept) (searchOf (now (free .exit)) (now (counts .exit)) (now (capacities .exit)) r)) ⌝ }
+    requires { ⌜ (from ≤ demand .slots * mostBridges) × ((c : ℕ) → getD (now next) c 0 ≤ c) × Stands demand (searchOf (now free) (now counts) (now entries) kept) ⌝ }
+    ensures { λ r. ⌜ Stands demand (searchOf (now (free .exit)) (now (counts .exit)) (now (entries .exit)) r) × ((zs : List CellPlace) → Chain (now (next .entry)) from zs → Walked demand zs (searchOf (now (free .entry)) (now (counts .entry)) (now (entries .entry)) kept) (searchOf (now (free .exit)) (now (counts .exit)) (now (entries .exit)) r)) ⌝ }
 {
     let mut current = kept;
     let mut c = from;
@@ -96,18 +85,16 @@ fn through_chain(
         let place = c - 1;
         let slot = place / MOST_BRIDGES;
         c = next[place] as usize;
-        if counts[slot] < current.tight {
-            let taken = take_cell(
-                demand,
-                free,
-                counts,
-                capacities,
-                current,
-                slot,
-                place % MOST_BRIDGES,
-            );
-            current = taken;
-        }
+        let tried = try_cell(
+            demand,
+            free,
+            counts,
+            entries,
+            current,
+            slot,
+            place % MOST_BRIDGES,
+        );
+        current = tried;
     }
     current
 }
@@ -120,11 +107,11 @@ fn through_ranks(
     demand: Demand,
     free: &mut [u8; MOST_SLOTS],
     counts: &mut [usize; MOST_SLOTS],
-    capacities: &mut [usize; CAPACITY_COUNT],
+    entries: &mut [u8; MOST_BRIDGES],
     kept: Tally,
 ) -> Tally
-    requires { ⌜ (n ≤ mostPresets) × Linked (now first) (now next) (demand .slots * mostBridges) × Stands demand (searchOf (now free) (now counts) (now capacities) kept) ⌝ }
-    ensures { λ r. ⌜ ((of : ℕ → List CellPlace) → Chains (now (first .entry)) (now (next .entry)) of → Walked demand (downward n of) (searchOf (now (free .entry)) (now (counts .entry)) (now (capacities .entry)) kept) (searchOf (now (free .exit)) (now (counts .exit)) (now (capacities .exit)) r)) ⌝ }
+    requires { ⌜ (n ≤ mostPresets) × Linked (now first) (now next) (demand .slots * mostBridges) × Stands demand (searchOf (now free) (now counts) (now entries) kept) ⌝ }
+    ensures { λ r. ⌜ ((of : ℕ → List CellPlace) → Chains (now (first .entry)) (now (next .entry)) of → Walked demand (downward n of) (searchOf (now (free .entry)) (now (counts .entry)) (now (entries .entry)) kept) (searchOf (now (free .exit)) (now (counts .exit)) (now (entries .exit)) r)) ⌝ }
 {
     let mut current = kept;
     let mut r = n;
@@ -139,7 +126,7 @@ fn through_ranks(
             demand,
             free,
             counts,
-            capacities,
+            entries,
             current,
         );
         current = walked;
@@ -162,10 +149,9 @@ pub(crate) fn walk(
     let count = head.count;
     let mut free = start.free;
     let mut counts = start.counts;
-    let mut capacities = start.capacities;
+    let mut entries = start.entries;
     let tally = Tally {
         short: start.short,
-        tight: start.tight,
         evicted: start.evicted,
     };
     let ranks = ranks_of(presets, count);
@@ -187,7 +173,7 @@ pub(crate) fn walk(
         demand,
         &mut free,
         &mut counts,
-        &mut capacities,
+        &mut entries,
         tally,
     );
     Evicted {

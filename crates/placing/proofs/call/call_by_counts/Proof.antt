@@ -42,8 +42,8 @@ add-admitted c =
     let e = c .before .before .before .before .before .before in
     omega (arith, e .before .before .cause-by-counts .ensures .1 (ap causeIn (e .enum-told .given .1)))
 
-capacities-at-requires : tie.Need-capacities-at-requires
-capacities-at-requires c κs = search needs
+count-slots-requires : tie.Need-count-slots-requires
+count-slots-requires c κs = search needs
 
 same-length : tie.Need-same-length
 same-length c = search needs
@@ -64,7 +64,7 @@ returns-2 c =
     (call-jobs (a .jobs) (omega (arith, s)) (a .n) (known .0)) (o .carry-out .ensures v (run .long) (run .wellFormed .cells) (known .0) (known .1)) in (
       done,
       counted-after (a .head) (a .presets) (a .jobs) (a .n) (stateOf (a .table .now) (a .clock) (a .hold)) (omega (arith, s)) v run tried (e .enum-told .given .1) done right (m .mark-jobs .ensures)
-          (c .capacities-at .ensures),
+          (c .count-slots .ensures),
     )
 
 pub call-by-counts-spec : {M : Type 1} → statement M
@@ -78,6 +78,6 @@ call-by-counts-spec =
     carry-out-requires
     mark-jobs-requires
     add-admitted
-    capacities-at-requires
+    count-slots-requires
     same-length
     returns-2)

@@ -6,7 +6,7 @@
 use Prim.Native.Nat.{ℕ, _+_, _-_, _%_, _≤_, _<_}
 use native.Mathlib.Omega.{arith}
 use mathlib.Core.Path.{_≡_, sym, _∙_, ap, ap₂, subst}
-use mathlib.Core.Bool.{Bool, true, false, not, _&&_}
+use mathlib.Core.Bool.{Bool, true, false, not, _&&_, Bool·not-not}
 use mathlib.Core.Option.{Option, none, some}
 use mathlib.Core.List.{List, [], _∷_, _++_, append-nil}
 use lib.ListN.{length, take, getD, replicate, length-map, length-append, length-replicate, List·getD-map}
@@ -15,10 +15,12 @@ use lib.Dec.{ltb, leb, eqb}
 use Rattle.laws.specs.Sums.{sum, greatest, every}
 use Rattle.laws.specs.Lists.{at}
 use Rattle.laws.specs.Placement.{capacity, excess}
+use Rattle.laws.specs.method.Capacities.{capacityFrom, excessOver}
 use Rattle.laws.proofs.Tests.{Is, is, is-true, is-false, clash, test-ext, both, left-of, right-of, not-is-true, not-is-false, true-of-not, fails-left, fails-right}
-use Rattle.laws.proofs.Comparisons.{lt-of, ge-of, le-of, eq-of, ltb-iff, ltb-yes, ltb-no, leb-yes, leb-no, eqb-yes}
+use Rattle.laws.proofs.Comparisons.{lt-of, ge-of, le-of, eq-of, ltb-iff, ltb-yes, ltb-no, leb-yes, leb-no, leb-one, eqb-yes}
 use Rattle.laws.proofs.Every.{every-all, every-ext, every-not}
 use Rattle.laws.proofs.Loops.{sum-none, sum-more}
+use Rattle.laws.proofs.Capacities.{capacity-table}
 use Rattle.laws.proofs.Largest.{upTo}
 use Rattle.station.specs.Head.{Head, Job, within}
 use Rattle.station.specs.Refusal.{outOfLimits, numberUsed, tooMany, callNotFeasible, Refusal, try, firstOf}
@@ -38,8 +40,8 @@ use Rattle.placing.proofs.CallByNumbers.{fits-by-room}
 use Rattle.placing.specs.Causes.{callJobs}
 use Rattle.placing.specs.method.Jobs.{jobRecord, jobNumber, withinAt, marked, isOther, jobNew}
 use Rattle.placing.specs.method.Counts.{Unfinished, FitBeside, CountedFit}
-use Rattle.placing.proofs.grants.Arrays.{sums-none, sums-more, sums-all, fits-in-excess}
-use Rattle.placing.specs.method.Grants.{Sums, Raised, fitsIn}
+use Rattle.placing.proofs.grants.Arrays.{sums-none, sums-more, sums-all, excess-in}
+use Rattle.placing.specs.method.Grants.{Sums, Raised}
 
 -- ---- a number that is new
 
@@ -208,15 +210,19 @@ module _ (jobs : List Job) (sums : List ℕ) (total : ℕ) where
         omega (arith, m, was .1, own, sum-more (k + i) c, ap (λ (q : ℕ). sum q c) same),
       )
 
-  pub beside-fits : (i : ℕ) (all xs : List ℕ) {together : ℕ} {r : Bool} → i ≡ length jobs → Beside i all together → r ≡ fitsIn all together xs
-      → FitBeside sums total xs jobs r
+  pub beside-fits : (i : ℕ) (all xs : List ℕ) {together : ℕ} {short : Bool} → i ≡ length jobs → Beside i all together → short ≡ leb 1 (excessOver (at all) together (capacityFrom xs))
+      → FitBeside sums total xs jobs (not short)
   beside-fits i all xs {together} e b q k c u n x few known =
       let was = b k c u in
       let same : k + i ≡ k + length jobs = omega arith in
-      q
-      ∙ fits-in-excess (k + length jobs) c n x all together xs few known
+      ap not
+      (q
+      ∙ ap (leb 1)
+      (excess-in (k + length jobs) c n x all together xs few known
       (sums-all (k + length jobs) c all (subst (λ (m : ℕ). Sums (k + length jobs) (upTo c m) all) same (was .0)))
-      (was .1 ∙ ap (λ (m : ℕ). sum m c) same)
+      (was .1 ∙ ap (λ (m : ℕ). sum m c) same))
+      ∙ leb-one (excess (k + length jobs) c n x))
+      ∙ Bool·not-not (eqb (excess (k + length jobs) c n x) 0)
 
 -- beside nothing that is unfinished
 pub fit-counted : (jobs : List Job) (xs : List ℕ) {r : Bool} → FitBeside (replicate 9 0) 0 xs jobs r → CountedFit xs jobs r
@@ -251,16 +257,16 @@ fit-counted jobs xs {r} beside h clock t valid formed right =
         ∙ ap (λ (k : ℕ). eqb (excess k (at (lengths jobs)) (h .slots) (usableCount h clock t)) 0)
         (let same : 0 + length jobs ≡ length (lengths jobs) = omega (arith, length-lengths jobs) in same)
 
--- one job exceeds the cells by what it is longer than the capacity for one
+-- one job exceeds the cells by what it is longer than the slots are many that have one
 excess-one : (c : ℕ → ℕ) (n : ℕ) (x : ℕ → ℕ) → excess 1 c n x ≡ c 0 - capacity n x 1
 unfolding sum greatest
 excess-one c n x = rw (ltb-no (c 0) (c 0 + 0) (omega arith)) (omega arith)
 
-pub fit-one : (js : List record-job.Job) → length js ≡ 8 → (n : ℕ) (xs : List ℕ) → n ≡ 1 → CountedFit xs (jobsIn n js) (leb (jobRecord js 0 .slots) (getD xs 1 0))
-fit-one js long n xs one h clock t valid formed right =
-    test-ext (leb c (getD xs 1 0)) (callFits h clock jobs t)
-    (λ q. fits-by-room h clock jobs t valid formed .1 (omega (arith, is-excess, le-of c (getD xs 1 0) q)))
-    (λ q. leb-yes c (getD xs 1 0) (omega (arith, is-excess, fits-by-room h clock jobs t valid formed .0 q)))
+pub fit-one : (js : List record-job.Job) → length js ≡ 8 → (n : ℕ) (xs : List ℕ) {v : ℕ} → n ≡ 1 → v ≡ getD xs 0 0 → CountedFit xs (jobsIn n js) (leb (jobRecord js 0 .slots) v)
+fit-one js long n xs {v} one first h clock t valid formed right =
+    test-ext (leb c v) (callFits h clock jobs t)
+    (λ q. fits-by-room h clock jobs t valid formed .1 (omega (arith, is-excess, le-of c v q)))
+    (λ q. leb-yes c v (omega (arith, is-excess, fits-by-room h clock jobs t valid formed .0 q)))
   where
     jobs : List Job
     jobs = jobsIn n js
@@ -268,11 +274,15 @@ fit-one js long n xs one h clock t valid formed right =
     c : ℕ
     c = jobRecord js 0 .slots
 
-    is-excess : callShort h jobs (usableCount h clock t) ≡ c - getD xs 1 0
+    -- the capacity for one is the first entry
+    for-one : capacity (h .slots) (usableCount h clock t) 1 ≡ v
+    for-one = sym (capacity-table right 1 (omega arith)) ∙ omega (arith, sum-more 0 (at xs), sum-none (at xs), first)
+
+    is-excess : callShort h jobs (usableCount h clock t) ≡ c - v
     is-excess =
         ap (λ (k : ℕ). excess k (at (lengths jobs)) (h .slots) (usableCount h clock t)) (length-lengths jobs ∙ jobs-length js long n (omega arith) ∙ one)
         ∙ excess-one (at (lengths jobs)) (h .slots) (usableCount h clock t)
-        ∙ ap₂ (λ (a b : ℕ). a - b) (at-lengths jobs 0 ∙ ap (λ (j : Job). j .slots) (job-at js long n (omega arith) 0 (omega arith))) (sym (right 1 (omega arith)))
+        ∙ ap₂ (λ (a b : ℕ). a - b) (at-lengths jobs 0 ∙ ap (λ (j : Job). j .slots) (job-at js long n (omega arith) 0 (omega arith))) for-one
 
 -- ---- the causes of the jobs
 

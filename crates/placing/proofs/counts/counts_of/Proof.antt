@@ -20,8 +20,8 @@ within c =
     let a = c .before .before .before .before .args in
     limits-of (a .head .slots) (a .head .bridges) (a .head .count) (length (a .table .now)) (sym (c .before .in-limits .ensures) ∙ true-of-not _ (c .if1 .left))
 
-capacities-at-requires : tie.Need-capacities-at-requires
-capacities-at-requires c κs = search needs
+count-slots-requires : tie.Need-count-slots-requires
+count-slots-requires c κs = search needs
 
 in-limits-requires : tie.Need-in-limits-requires
 in-limits-requires c κs = search needs
@@ -53,13 +53,13 @@ returns-2 c =
     let a = x .before .before .args in
     let l = within (k .before .before) in
     counts-of (headIn (a .head) (a .presets)) (a .clock) (a .table .now) (k .mark-calls .ensures .0) (c .mark-presets .ensures .0) (c .mark-presets .ensures .1) (k .mark-calls .ensures .1)
-    (x .capacities-at .ensures (in-limits (a .head .slots) (a .head .bridges) 0 (length (a .table .now)) (l .0) (l .1) (omega arith) long))
+    (x .count-slots .ensures (in-limits (a .head .slots) (a .head .bridges) 0 (length (a .table .now)) (l .0) (l .1) (omega arith) long))
 
 pub counts-of-spec : {M : Type 1} → statement M
 counts-of-spec =
     tie.close
     (tie.spec
-    capacities-at-requires
+    count-slots-requires
     in-limits-requires
     returns
     mark-calls-requires

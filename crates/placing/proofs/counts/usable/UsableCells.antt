@@ -1,6 +1,6 @@
--- Laws of the cells that a call may use, and of their capacities.
+-- Laws of the cells that a call may use, and of how many slots have at least so many.
 --
--- In order: a cell that a call may use (`free-..`), and one that stays (`stays-..`); slots before the clock and from it on (`slot-..`, `with-before`), and a slot that it passes (`pass-slot`); the capacities of the frame (`capacity-is`).
+-- In order: a cell that a call may use (`free-..`), and one that stays (`stays-..`); slots before the clock and from it on (`slot-..`, `entries-before`), and a slot that it passes (`pass-slot`); what a call may fill of the frame's slots (`entries-are`, `entries-of`).
 -- Assumes nothing.
 use Prim.Native.Nat.{ℕ, _+_, _*_, _-_, _≤_, _<_, min}
 use native.Mathlib.Omega.{arith}
@@ -8,23 +8,20 @@ use native.Mathlib.Nat.{mul-le-mul}
 use mathlib.Core.Path.{_≡_, sym, _∙_, ap, ap₂}
 use mathlib.Core.Bool.{Bool, true, false, not, _&&_, _||_, and-false}
 use mathlib.Core.List.{List}
-use lib.ListN.{length, getD, set, replicate}
-use lib.Seq.{getD-set-other}
-use lib.Dec.{ltb, eqb}
+use lib.ListN.{length, getD, replicate}
+use lib.Dec.{ltb}
 use Rattle.laws.specs.Sums.{bit, only, count}
-use Rattle.laws.specs.Placement.{capacity}
-use Rattle.laws.specs.method.Capacities.{ByFree}
+use Rattle.laws.specs.method.Capacities.{AtLeast}
 use Rattle.laws.proofs.Tests.{Is, is, is-true, is-false, or-right}
-use Rattle.laws.proofs.Comparisons.{eq-of, ne-of, lt-of, ge-of, eqb-yes, eqb-no}
-use Rattle.laws.proofs.Sums.{sum-ext, sum-but}
-use Rattle.laws.proofs.Counts.{count-ext, count-none, count-all}
-use Rattle.laws.proofs.Stores.{zeros}
+use Rattle.laws.proofs.Comparisons.{lt-of, ge-of, eqb-no}
+use Rattle.laws.proofs.Counts.{count-ext}
+use Rattle.laws.proofs.Capacities.{at-least-none, at-least-off, at-least-ext}
 use Rattle.station.specs.Head.{Head}
 use Rattle.placing.proofs.WellFormedFrame.{usable-from, usable-before}
 use Rattle.placing.specs.Table.{cell, isEmpty, isHeld, motors, cleared}
 use Rattle.placing.specs.Valid.{usable, firstSlot}
 use Rattle.placing.specs.Call.{evictable, usableCount}
-use Rattle.placing.specs.method.Counts.{evictableCell, freeCell, stayingCell, usableIn, slotFree, CapacitiesAt}
+use Rattle.placing.specs.method.Counts.{evictableCell, freeCell, stayingCell, usableIn, slotFree}
 use Rattle.placing.proofs.FreeNumber.{cleared-empty, cleared-held}
 
 -- ---- a cell that a call may use
@@ -53,7 +50,7 @@ stays-held v p q = sym (ap₂ (λ (a b : Bool). bit (a && not b)) p q)
 pub eight-le : (s m : ℕ) → s < 64 → m ≤ 8 → s * m + 8 ≤ 512
 eight-le s m ls lm = omega (arith, mul-le-mul {n₁ = s} {n₂ = 63} {m₂ = 8} (omega arith) lm)
 
--- ---- capacities, and a slot that the clock passes
+-- ---- slots by their free cells, and one that the clock passes
 
 -- a slot before the clock has no free cells, and one from it on has its own
 slot-before : (t : List ℕ) (bridges motors clock s : ℕ) → s < firstSlot clock → slotFree t bridges motors clock s ≡ 0
@@ -64,27 +61,16 @@ pub slot-from : (t : List ℕ) (bridges motors clock s : ℕ) → firstSlot cloc
 unfolding slotFree
 slot-from t bridges motors clock s l = ap (λ (b : Bool). only b (usableIn t (s * bridges) bridges motors)) (usable-from clock s l)
 
--- the slots before the clock are counted as having none
-pub with-before : (t : List ℕ) (bridges motors clock n : ℕ) → n ≤ firstSlot clock → ByFree (set (replicate 9 0) 0 n) n (slotFree t bridges motors clock)
-with-before t bridges motors clock n l f low = go (is (eqb f 0))
-  where
-    none : (s : ℕ) → s < n → slotFree t bridges motors clock s ≡ 0
-    none s m = slot-before t bridges motors clock s (omega arith)
-
-    go : Is (eqb f 0) → getD (set (replicate 9 0) 0 n) f 0 ≡ count n (λ s. eqb f (slotFree t bridges motors clock s))
-    go (is-true e) =
-        let z : f ≡ 0 = eq-of f 0 e in
-        ap (λ (k : ℕ). getD (set (replicate 9 0) 0 n) k 0) z
-        ∙ sym (count-all n (λ s. eqb f (slotFree t bridges motors clock s)) (λ s m. eqb-yes f (slotFree t bridges motors clock s) (z ∙ sym (none s m))))
-    go (is-false e) =
-        getD-set-other (replicate 9 0) 0 f n 0 (ne-of f 0 e)
-        ∙ zeros 9 f
-        ∙ sym (count-none n (λ s. eqb f (slotFree t bridges motors clock s)) (λ s m. eqb-no f (slotFree t bridges motors clock s) (λ q. ne-of f 0 e (q ∙ none s m))))
+-- the slots before the clock are in no entry
+pub entries-before : (t : List ℕ) (bridges motors clock n : ℕ) → n ≤ firstSlot clock → AtLeast (replicate 8 0) n (slotFree t bridges motors clock)
+entries-before t bridges motors clock n l = at-least-none n (slotFree t bridges motors clock) (λ s m. slot-before t bridges motors clock s (omega arith))
 
 -- the clock passes one slot: its free cells are no more
-pub pass-slot : (t : List ℕ) (slots bridges motors s : ℕ) {xs ys : List ℕ} → s < slots → CapacitiesAt t slots bridges motors (s + 1) xs → length ys ≡ length xs
-    → ((k : ℕ) → k < 9 → getD ys k 0 ≡ getD xs k 0 - min k (usableIn t (s * bridges) bridges motors)) → CapacitiesAt t slots bridges motors (s + 1 + 1) ys
-pass-slot t slots bridges motors s {xs} {ys} inside was size less = record { long = size ∙ was .long; right = next }
+pub pass-slot : (t : List ℕ) (slots bridges motors s : ℕ) {xs ys : List ℕ} {free : ℕ} → s < slots → AtLeast xs slots (slotFree t bridges motors (s + 1)) → free ≡ usableIn t (s * bridges) bridges motors
+    → length ys ≡ length xs → ((r : ℕ) → r < 8 → getD ys r 0 ≡ getD xs r 0 - bit (ltb r free)) → AtLeast ys slots (slotFree t bridges motors (s + 1 + 1))
+pass-slot t slots bridges motors s inside was own size less =
+    at-least-off was (slotFree t bridges motors (s + 1 + 1)) s inside (λ z m ne. other z ne (is (ltb z s))) (slot-before t bridges motors (s + 1 + 1) s (omega arith))
+    (own ∙ sym (slot-from t bridges motors (s + 1) s (omega arith))) (size ∙ was .long) less
   where
     other : (z : ℕ) → (z ≡ s → ⊥) → Is (ltb z s) → slotFree t bridges motors (s + 1 + 1) z ≡ slotFree t bridges motors (s + 1) z
     other z ne (is-true e) =
@@ -94,18 +80,7 @@ pass-slot t slots bridges motors s {xs} {ys} inside was size less = record { lon
         let l = ge-of z s e in
         slot-from t bridges motors (s + 1 + 1) z (omega arith) ∙ sym (slot-from t bridges motors (s + 1) z (omega arith))
 
-    next : (k : ℕ) → k < 9 → getD ys k 0 ≡ capacity slots (slotFree t bridges motors (s + 1 + 1)) k
-    next k low =
-        omega (
-          arith,
-          less k low,
-          was .right k low,
-          sum-but slots (λ z. min k (slotFree t bridges motors (s + 1 + 1) z)) (λ z. min k (slotFree t bridges motors (s + 1) z)) s inside (λ z m ne. ap (min k) (other z ne (is (ltb z s)))),
-          ap (min k) (slot-before t bridges motors (s + 1 + 1) s (omega arith)),
-          ap (min k) (slot-from t bridges motors (s + 1) s (omega arith)),
-        )
-
--- ---- the capacities of the frame
+-- ---- the table of the frame's slots
 
 -- what a call may fill of a slot's cells is its free number with all that it may evict made empty
 slot-free-is : (h : Head) (t : List ℕ) (clock s : ℕ) → slotFree t (h .bridges) (motors h) clock s ≡ usableCount h clock (cell h t) s
@@ -126,7 +101,9 @@ slot-free-is h t clock s = go (is (usable clock s))
         (λ b m. sym (cleared-held h gone (cell h t) s b ∙ ap (λ (u : Bool). isHeld (cell h t s b) && not (u && evictableCell (cell h t s b))) e)))
     go (is-false e) = rw e
 
--- the capacities of the table, as those of what a call may fill
-pub capacity-is : (h : Head) (clock : ℕ) (t : List ℕ) (k : ℕ) → capacity (h .slots) (slotFree t (h .bridges) (motors h) clock) k ≡ capacity (h .slots) (usableCount h clock (cell h t)) k
-capacity-is h clock t k =
-    sum-ext (h .slots) (λ s. min k (slotFree t (h .bridges) (motors h) clock s)) (λ s. min k (usableCount h clock (cell h t) s)) (λ s z. ap (min k) (slot-free-is h t clock s))
+-- the table of its slots, as those of what a call may fill
+pub entries-are : (h : Head) (clock : ℕ) (t : List ℕ) {xs : List ℕ} → AtLeast xs (h .slots) (slotFree t (h .bridges) (motors h) clock) → AtLeast xs (h .slots) (usableCount h clock (cell h t))
+entries-are h clock t a = at-least-ext a (usableCount h clock (cell h t)) (λ s l. slot-free-is h t clock s)
+
+pub entries-of : (h : Head) (clock : ℕ) (t : List ℕ) {xs : List ℕ} → AtLeast xs (h .slots) (usableCount h clock (cell h t)) → AtLeast xs (h .slots) (slotFree t (h .bridges) (motors h) clock)
+entries-of h clock t a = at-least-ext a (slotFree t (h .bridges) (motors h) clock) (λ s l. sym (slot-free-is h t clock s))

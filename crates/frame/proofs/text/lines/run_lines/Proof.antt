@@ -10,11 +10,11 @@ use Rattle.frame.proofs.text.lines.run_lines.Statement.{statement}
 use Rattle.frame.proofs.text.lines.run_lines.Tie as tie
 
 abbrev Inv-loop : tie.InvT-loop
-Inv-loop text from first head presets table₀ start order out₀ position at₀ n₀ clock₀ hold₀ next₀ used₀ admitted₀ capacities₀ table out at n clock hold next used admitted capacities =
-    AtEvent head presets text from first (stateOf table₀ start order) out₀ position at n clock hold next table out used admitted capacities
+Inv-loop text from first head presets table₀ start order out₀ position at₀ n₀ clock₀ hold₀ next₀ used₀ admitted₀ entries₀ table out at n clock hold next used admitted entries =
+    AtEvent head presets text from first (stateOf table₀ start order) out₀ position at n clock hold next table out used admitted entries
 
 abbrev μ-loop : tie.MeasureT-loop
-μ-loop text from first head presets table₀ start order out₀ position at₀ n₀ clock₀ hold₀ next₀ used₀ admitted₀ capacities₀ table out at n clock hold next used admitted capacities =
+μ-loop text from first head presets table₀ start order out₀ position at₀ n₀ clock₀ hold₀ next₀ used₀ admitted₀ entries₀ table out at n clock hold next used admitted entries =
     length text - at
 
 counts-of-requires : tie.Need-counts-of-requires Inv-loop μ-loop

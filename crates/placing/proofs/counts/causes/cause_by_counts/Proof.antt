@@ -41,7 +41,7 @@ known e = e .before .before .own-cause .ensures .1 (ap causeIn (e .enum-told .gi
 
 -- none of the causes of the jobs is met
 own-none : (e : tie.After-enum-told) → let a = e .before .before .before .args in
-    (h : Head) (clock : ℕ) (t : Cells) → CountsOf h clock t (a .used .now) (a .admitted) (a .capacities .now) → none ≡ firstOf (jobCauses h (callJobs (a .n) (a .jobs)) t)
+    (h : Head) (clock : ℕ) (t : Cells) → CountsOf h clock t (a .used .now) (a .admitted) (a .entries .now) → none ≡ firstOf (jobCauses h (callJobs (a .n) (a .jobs)) t)
 own-none e h clock t right = sym (ap causeIn (e .enum-told .given .1)) ∙ e .before .before .own-cause .ensures .0 h t (right .used) (right .jobs)
 
 jobs-fit-requires : tie.Need-jobs-fit-requires
@@ -53,7 +53,7 @@ returns-2 c =
     let s = e .before .before .before in
     let a = s .args in (
       λ h clock t valid formed right. cause-seven (a .jobs) (omega (arith, s)) (a .n) h clock t (own-none e h clock t right) (known e .1)
-          (sym (c .before .jobs-fit .ensures h clock t valid formed (right .capacities)) ∙ false-of-not _ (c .if1 .taken)),
+          (sym (c .before .jobs-fit .ensures h clock t valid formed (right .entries)) ∙ false-of-not _ (c .if1 .taken)),
       λ q. absurd (none-some (sym q)),
     )
 
@@ -63,7 +63,7 @@ returns-3 c =
     let s = e .before .before .before in
     let a = s .args in (
       λ h clock t valid formed right. cause-passed (a .jobs) (omega (arith, s)) (a .n) h clock t (own-none e h clock t right) (known e .1)
-          (sym (c .before .jobs-fit .ensures h clock t valid formed (right .capacities)) ∙ true-of-not _ (c .if1 .left)),
+          (sym (c .before .jobs-fit .ensures h clock t valid formed (right .entries)) ∙ true-of-not _ (c .if1 .left)),
       λ q. known e .0,
     )
 

@@ -15,12 +15,12 @@ use Rattle.placing.proofs.counts.causes.fits_by_counts.Statement.{state
 use Rattle.placing.proofs.counts.causes.fits_by_counts.Tie as tie
 
 abbrev Inv-loop : tie.InvT-loop
-Inv-loop total capacities n jobs all₀ together₀ i₀ all together i =
+Inv-loop total entries n jobs all₀ together₀ i₀ all together i =
     (i ≤ n) × (n ≤ 8) × (length all ≡ 9) × ((r : ℕ) → r < 9 → at all r ≤ 4096 + 255 * i) × (together ≤ 4096 + 255 * i)
     × Beside (jobsIn n jobs) all₀ together₀ i all together
 
 abbrev μ-loop : tie.MeasureT-loop
-μ-loop total capacities n jobs all₀ together₀ i₀ all together i = n - i
+μ-loop total entries n jobs all₀ together₀ i₀ all together i = n - i
 
 loop-holds : tie.Need-loop-holds Inv-loop μ-loop
 loop-holds c =
@@ -73,8 +73,8 @@ loop-again c =
       beside-more jobs (a .sums) (a .total) (l .i) _ (l .all) _ here own (l .inv .5) (c .raise-sums .ensures) refl,
     )
 
-fits-requires : tie.Need-fits-requires Inv-loop μ-loop
-fits-requires c κs = search needs
+lacks-requires : tie.Need-lacks-requires Inv-loop μ-loop
+lacks-requires c κs = search needs
 
 returns : tie.Need-returns Inv-loop μ-loop
 returns c =
@@ -82,8 +82,8 @@ returns c =
     let s = d .before in
     let a = s .args in
     let l = d .loop in
-    beside-fits (jobsIn (a .n) (a .t4)) (a .sums) (a .total) (l .i) (l .all) (a .capacities .now)
-    (omega (arith, jobs-length (a .t4) (omega (arith, s)) (a .n) (s .pre .0))) (l .inv .5) (c .fits2 .ensures)
+    beside-fits (jobsIn (a .n) (a .t4)) (a .sums) (a .total) (l .i) (l .all) (a .entries .now)
+    (omega (arith, jobs-length (a .t4) (omega (arith, s)) (a .n) (s .pre .0))) (l .inv .5) (c .lacks .ensures)
 
 pub fits-by-counts-spec : {M : Type 1} → statement M
 fits-by-counts-spec =
@@ -100,5 +100,5 @@ fits-by-counts-spec =
     add-i
     loop-less
     loop-again
-    fits-requires
+    lacks-requires
     returns)

@@ -1,104 +1,93 @@
--- `counts::usable::count_slots` meets its contract. The loop's invariant: the slots before `s` are counted, those before the clock among them. Assumes nothing.
+-- `counts::usable::count_slots` meets its contract: beyond the limits it promises nothing. The loop's invariant: the slots before `s` are entered, of which those before the clock are in no entry. Assumes nothing.
 use native.Mathlib.Omega.{arith}
-use Prim.Native.Nat.{ℕ, _-_, _≤_, _<_, min}
-use mathlib.Core.Path.{_≡_, refl, sym, _∙_, ap}
-use lib.ListN.{length, length-set}
-use lib.Dec.{eqb}
-use Rattle.laws.specs.Sums.{count}
-use Rattle.laws.specs.method.Capacities.{ByFree}
-use Rattle.laws.proofs.Counts.{count-le}
-use Rattle.laws.proofs.Capacities.{with-more}
+use Prim.Native.Nat.{_+_, _*_, _-_, _≤_, min}
+use mathlib.Core.Path.{_≡_, sym, _∙_}
+use lib.ListN.{length}
+use Rattle.laws.specs.method.Capacities.{AtLeast}
+use Rattle.laws.proofs.Tests.{clash, false-of-not, true-of-not}
+use Rattle.laws.proofs.Capacities.{at-least-le, at-least-on}
 use Rattle.placing.specs.Valid.{firstSlot}
 use Rattle.placing.specs.method.Counts.{slotFree}
-use Rattle.placing.proofs.counts.usable.UsableCells.{eight-le, slot-from, with-before}
+use Rattle.placing.proofs.limits.Within.{limits-of}
+use Rattle.placing.proofs.counts.usable.UsableCells.{eight-le, slot-from, entries-before}
 use borrow.Author.Needs.{needs}
 use Rattle.placing.proofs.counts.usable.count_slots.Statement.{statement}
 use Rattle.placing.proofs.counts.usable.count_slots.Tie as tie
 
 abbrev Inv-loop : tie.InvT-loop
-Inv-loop table slots bridges motors clock with₀ s₀ with s =
-    (min (firstSlot clock) slots ≤ s) × (s ≤ slots) × (length with ≡ 9) × ByFree with s (slotFree table bridges motors clock)
+Inv-loop table clock slots bridges fed entries₀ s₀ entries s =
+    (slots ≤ 64) × (min (firstSlot clock) slots ≤ s) × (s ≤ slots) × AtLeast entries s (slotFree table bridges fed clock)
 
 abbrev μ-loop : tie.MeasureT-loop
-μ-loop table slots bridges motors clock with₀ s₀ with s = slots - s
+μ-loop table clock slots bridges fed entries₀ s₀ entries s = slots - s
+
+motors-requires : tie.Need-motors-requires Inv-loop μ-loop
+motors-requires c κs = search needs
+
+in-limits-requires : tie.Need-in-limits-requires Inv-loop μ-loop
+in-limits-requires c κs = search needs
+
+returns : tie.Need-returns Inv-loop μ-loop
+returns c = λ e. absurd (clash (sym e ∙ sym (c .before .in-limits .ensures) ∙ false-of-not _ (c .if1 .taken)))
 
 first-slot-requires : tie.Need-first-slot-requires Inv-loop μ-loop
 first-slot-requires c κs = search needs
 
-array-write-with : tie.Need-array-write-with Inv-loop μ-loop
-array-write-with c = omega arith
+-- the frame is within the limits
+within : (c : tie.Else1 Inv-loop μ-loop)
+    → let a = c .before .before .before .before .args in
+    (a .head .slots ≤ 64) × (a .head .bridges ≤ 8) × (0 ≤ 32) × (512 ≤ length (a .table .now))
+within c =
+    let a = c .before .before .before .before .args in
+    limits-of (a .head .slots) (a .head .bridges) 0 (length (a .table .now)) (sym (c .before .in-limits .ensures) ∙ true-of-not _ (c .if1 .left))
 
 loop-holds : tie.Need-loop-holds Inv-loop μ-loop
 loop-holds c =
-    let a = c .before .before .args in
+    let m = c .before .before .before in
+    let a = m .before .before .args in
     let e = c .first-slot .ensures in
-    (omega (arith, e), omega (arith, e), refl, with-before (a .table .now) (a .bridges) (a .motors) (a .clock) (c .first-slot .result) (omega (arith, e)))
+    (within (c .before) .0, omega (arith, e), omega (arith, e), entries-before (a .table .now) (a .head .bridges) (m .motors .result) (a .clock) (c .first-slot .result) (omega (arith, e)))
+
+-- the eight cells from the slot's first on are in the table
+inside : (c : tie.In-loop Inv-loop μ-loop) → let a = c .before .before .before .before .before .before .before .args in c .before .loop .s * a .head .bridges + 8 ≤ 512
+inside c =
+    let l = within (c .before .before .before) in
+    let a = c .before .before .before .before .before .before .before .args in
+    eight-le (c .before .loop .s) (a .head .bridges) (omega (arith, c .loop-test .taken, l .0)) (l .1)
 
 mul-usable-in : tie.Need-mul-usable-in Inv-loop μ-loop
-mul-usable-in c =
-    let s = c .before .before .before .before in
-    omega (arith, eight-le (c .before .loop .s) (s .args .bridges) (omega arith) (s .pre .1))
+mul-usable-in c = omega (arith, inside c)
 
 usable-in-requires : tie.Need-usable-in-requires Inv-loop μ-loop
-usable-in-requires c κs =
-    let s = c .before .before .before .before in
-    (s .pre .1, omega (arith, eight-le (c .before .loop .s) (s .args .bridges) (omega arith) (s .pre .1), s .pre .2))
+usable-in-requires c κs = let l = within (c .before .before .before) in (l .1, omega (arith, inside c, l .3))
 
--- the free cells of the slot, which is from the clock on
-free-is : (c : tie.After-usable-in Inv-loop μ-loop)
-    → let d = c .before .before in
-    let a = d .before .before .before .args in
-    c .usable-in .result ≡ slotFree (a .table .now) (a .bridges) (a .motors) (a .clock) (d .loop .s)
-free-is c =
-    let d = c .before .before in
-    let a = d .before .before .before .args in
-    c .usable-in .ensures .0 ∙ sym (slot-from (a .table .now) (a .bridges) (a .motors) (a .clock) (d .loop .s) (omega (arith, d .loop .inv .0, c .before .loop-test .taken)))
-
-few : (c : tie.After-usable-in Inv-loop μ-loop) → c .usable-in .result < 9
-few c = omega (arith, c .usable-in .ensures .1)
-
-mul-with : tie.Need-mul-with Inv-loop μ-loop
-mul-with c = omega (arith, few c)
-
-array-read-with : tie.Need-array-read-with Inv-loop μ-loop
-array-read-with c = omega (arith, few c)
-
-add-with : tie.Need-add-with Inv-loop μ-loop
-add-with c =
-    let d = c .before .before in
-    let a = d .before .before .before .args in
-    omega (
-      arith,
-      d .loop .inv .3 (c .usable-in .result) (few c),
-      count-le (d .loop .s) (λ z. eqb (c .usable-in .result) (slotFree (a .table .now) (a .bridges) (a .motors) (a .clock) z)),
-    )
-
-array-write-with-2 : tie.Need-array-write-with-2 Inv-loop μ-loop
-array-write-with-2 c = omega (arith, few c)
+enter-slot-requires : tie.Need-enter-slot-requires Inv-loop μ-loop
+enter-slot-requires c κs = let l = c .before .before .before .loop in (l .inv .3 .long, λ r low. omega (arith, at-least-le (l .inv .3) r low, l .inv .0, l .inv .2))
 
 add-s : tie.Need-add-s Inv-loop μ-loop
-add-s c = omega arith
+add-s c = omega (arith, c .before .before .before .before .loop .inv .0)
 
 loop-less : tie.Need-loop-less Inv-loop μ-loop
 loop-less c = omega arith
 
 loop-again : tie.Need-loop-again Inv-loop μ-loop
 loop-again c =
-    let l = c .before .before .loop in
-    let a = c .before .before .before .before .before .args in (
-      omega (arith, l .inv .0),
-      omega arith,
-      simp length-set (l .inv .2),
-      with-more (l .with) (l .s) (slotFree (a .table .now) (a .bridges) (a .motors) (a .clock)) (c .usable-in .result) (omega (arith, few c, l .inv .2)) (l .inv .3) (free-is c),
-    )
+    let u = c .before .before in
+    let d = u .before .before in
+    let l = d .loop in
+    let m = d .before .before .before .before in
+    let a = m .before .before .args in
+    let own = u .usable-in .ensures .0 ∙ sym (slot-from (a .table .now) (a .head .bridges) (m .motors .result) (a .clock) (l .s) (omega (arith, l .inv .1, u .before .loop-test .taken))) in
+    (l .inv .0, omega (arith, l .inv .1), omega arith, at-least-on (l .inv .3) own (c .enter-slot .ensures .0) (c .enter-slot .ensures .1))
 
-returns : tie.Need-returns Inv-loop μ-loop
-returns c =
+returns-2 : tie.Need-returns-2 Inv-loop μ-loop
+returns-2 c =
+    λ e.
     let l = c .before .loop in
-    let a = c .before .before .before .before .args in
-    let e : l .s ≡ a .slots = omega (arith, l .inv .1, c .loop-test .left) in
-    let x = slotFree (a .table .now) (a .bridges) (a .motors) (a .clock) in
-    λ f m. l .inv .3 f m ∙ ap (λ (k : ℕ). count k (λ z. eqb f (x z))) e
+    let m = c .before .before .before .before .before in
+    let a = m .before .before .args in
+    let end : l .s ≡ a .head .slots = omega (arith, l .inv .2, c .loop-test .left) in
+    rw (m .motors .ensures) at (rw end at (l .inv .3))
 
 pub count-slots-spec : {M : Type 1} → statement M
 count-slots-spec =
@@ -106,16 +95,15 @@ count-slots-spec =
     (tie.spec
     Inv-loop
     μ-loop
+    motors-requires
+    in-limits-requires
+    returns
     first-slot-requires
-    array-write-with
     loop-holds
     mul-usable-in
     usable-in-requires
-    mul-with
-    array-read-with
-    add-with
-    array-write-with-2
+    enter-slot-requires
     add-s
     loop-less
     loop-again
-    returns)
+    returns-2)

@@ -1,26 +1,27 @@
--- `counts::usable::pass_slots` meets its contract. The loop's invariant: where the capacities were those of the first clock, they are those of the clock at slot s. Assumes nothing.
+-- `counts::usable::pass_slots` meets its contract. The loop's invariant: where the entries were those of the first clock, they are those of the clock at slot s. Assumes nothing.
 use native.Mathlib.Omega.{arith}
-use Prim.Native.Nat.{ℕ, _+_, _-_, _≤_, _<_, min}
-use mathlib.Core.Path.{_≡_, sym, _∙_, ap, subst}
+use Prim.Native.Nat.{ℕ, _+_, _-_, _≤_, _<_}
+use mathlib.Core.Path.{_≡_, sym, _∙_, subst}
 use mathlib.Core.Bool.{true}
-use lib.ListN.{length, getD}
+use lib.ListN.{length}
 use Rattle.laws.proofs.Tests.{clash, false-of-not, true-of-not}
 use Rattle.placing.proofs.WellFormedFrame.{clock-from, clock-to}
 use Rattle.placing.specs.Valid.{clockIn}
 use Rattle.placing.proofs.limits.Within.{limits-of}
-use Rattle.placing.specs.method.Counts.{CapacitiesAt}
+use Rattle.laws.specs.method.Capacities.{AtLeast}
+use Rattle.placing.specs.method.Counts.{slotFree}
 use Rattle.placing.proofs.counts.usable.UsableCells.{eight-le, pass-slot}
 use borrow.Author.Needs.{needs}
 use Rattle.placing.proofs.counts.usable.pass_slots.Statement.{statement}
 use Rattle.placing.proofs.counts.usable.pass_slots.Tie as tie
 
 abbrev Inv-loop : tie.InvT-loop
-Inv-loop table from to capacities₀ slots bridges fed end s₀ capacities s =
+Inv-loop table from to entries₀ slots bridges fed end s₀ entries s =
     (from ≤ to → s ≤ end)
-    × (clockIn slots from ≡ true → clockIn slots to ≡ true → from ≤ to → CapacitiesAt table slots bridges fed from capacities₀ → CapacitiesAt table slots bridges fed (s + 1) capacities)
+    × (clockIn slots from ≡ true → clockIn slots to ≡ true → from ≤ to → AtLeast entries₀ slots (slotFree table bridges fed from) → AtLeast entries slots (slotFree table bridges fed (s + 1)))
 
 abbrev μ-loop : tie.MeasureT-loop
-μ-loop table from to capacities₀ slots bridges fed end s₀ capacities s = end - s
+μ-loop table from to entries₀ slots bridges fed end s₀ entries s = end - s
 
 motors-requires : tie.Need-motors-requires Inv-loop μ-loop
 motors-requires c κs = search needs
@@ -44,7 +45,7 @@ loop-holds c =
       λ h. omega (arith, h, b, c .before .first-slot .ensures),
       λ in-from in-to up right.
           let e : a .from ≡ c .first-slot2 .result + 1 = omega (arith, b, clock-from (a .head .slots) (a .from) in-from, clock-to (a .head .slots) (a .from) in-from) in
-          subst (λ (k : ℕ). CapacitiesAt (a .table .now) (a .head .slots) (a .head .bridges) (c .before .before .before .before .motors .result) k (a .capacities .now)) e right,
+          subst (λ (k : ℕ). AtLeast (a .entries .now) (a .head .slots) (slotFree (a .table .now) (a .head .bridges) (c .before .before .before .before .motors .result) k)) e right,
     )
 
 -- the frame is within the limits, and the slot within the frame
@@ -69,8 +70,8 @@ usable-in-requires c κs =
     let a = c .before .before .before .before .before .before .before .before .args in
     (within c .1, omega (arith, eight-le (c .before .loop .s) (a .head .bridges) (below c) (within c .1), within c .3))
 
-take-slot-requires : tie.Need-take-slot-requires Inv-loop μ-loop
-take-slot-requires c κs = search needs
+leave-slot-requires : tie.Need-leave-slot-requires Inv-loop μ-loop
+leave-slot-requires c κs = search needs
 
 add-s : tie.Need-add-s Inv-loop μ-loop
 add-s c = omega (arith, below (c .before .before .before))
@@ -87,7 +88,7 @@ loop-again c =
       λ in-from in-to up right.
           let r = l .inv .1 in-from in-to up right in
           pass-slot (a .table .now) (a .head .slots) (a .head .bridges) (f .before .before .before .before .before .before .before .motors .result) (l .s) (omega (arith, f .before .loop-test .taken, f .before .before .before .before .first-slot .ensures)) r
-          (c .take-slot .ensures .0) (λ k m. c .take-slot .ensures .1 (r .long) k m ∙ ap (λ (z : ℕ). getD (l .capacities) k 0 - min k z) (f .usable-in .ensures .0)),
+          (f .usable-in .ensures .0) (c .leave-slot .ensures .0) (c .leave-slot .ensures .1 (r .long)),
     )
 
 returns-2 : tie.Need-returns-2 Inv-loop μ-loop
@@ -98,7 +99,7 @@ returns-2 c =
     let a = n .before .before .before .before .before .args in
     let same : l .s + 1 ≡ a .to = omega (arith, l .inv .0 up, c .loop-test .left, n .first-slot .ensures, clock-from (a .head .slots) (a .to) in-to, clock-to (a .head .slots) (a .to) in-to) in
     let fed = n .before .before .before .motors .ensures in
-    rw fed at (subst (λ (k : ℕ). CapacitiesAt (a .table .now) (a .head .slots) (a .head .bridges) (n .before .before .before .motors .result) k (l .capacities)) same (l .inv .1 in-from in-to up (rw fed right)))
+    rw fed at (subst (λ (k : ℕ). AtLeast (l .entries) (a .head .slots) (slotFree (a .table .now) (a .head .bridges) (n .before .before .before .motors .result) k)) same (l .inv .1 in-from in-to up (rw fed right)))
 
 pub pass-slots-spec : {M : Type 1} → statement M
 pass-slots-spec =
@@ -114,7 +115,7 @@ pass-slots-spec =
     loop-holds
     mul-usable-in
     usable-in-requires
-    take-slot-requires
+    leave-slot-requires
     add-s
     loop-less
     loop-again
