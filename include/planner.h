@@ -170,7 +170,7 @@ uint32_t planner_run_text(const uint8_t *text, size_t text_len,
  * 0: the clock in the frame, the order of ties in force, or the table, is the new one, and *number is the clock t (of a clock), PLANNER_TIE_HOLD or PLANNER_TIE_PLACE (of a tie),
  * or how many refinement cells were lost (of a call). A call is placed by the order in force; on this frame it would cost the same under the other. No other place of the call
  * loses fewer, in all or among the presets of any one priority and better. Under a supply a lost cell may end empty while a job takes another bridge of its slot; it is lost and counted all
- * the same. (No frame is known where that happens in a table that this library planned and calls then changed; it is not proved.) A running frame stays one, so that 11 is never met after it.
+ * the same. (No frame is known where that happens in a table that this library planned and calls then changed; that there is none is not proved.) A running frame stays one, so that 11 is never met after it.
  * Else *number is 0, and nothing else changes.
  */
 uint32_t planner_event(uint64_t *frame, size_t frame_len,

@@ -7,7 +7,7 @@
 -- Assumes nothing.
 use Prim.Native.Nat.{ℕ, zero, suc, _-_}
 use native.Mathlib.Omega.{arith}
-use mathlib.Core.Path.{_≡_, refl, sym, _∙_, ap, ap₂, fun-ext}
+use mathlib.Core.Path.{_≡_, refl, sym, _∙_, ap, ap₂, fun-ext, subst}
 use mathlib.Core.Bool.{Bool, true, false, cond, not, _&&_}
 use mathlib.Core.Option.{Option, none, some}
 use mathlib.Core.List.{List, [], _∷_, _++_, map}
@@ -29,18 +29,20 @@ use Rattle.placing.specs.Table.{Cells, cell, numberAt, mandatoryCell, optionalC
 use Rattle.placing.specs.Valid.{jobAt}
 use Rattle.placing.specs.State.{State, withTable}
 use Rattle.placing.specs.Plan.{placing, mandatories, planFree, tieOf}
-use Rattle.placing.specs.Call.{lengths, called}
-use Rattle.placing.specs.Outcomes.{written, Cost, PlanAnswer, PlanOutcome, planOf}
-use Rattle.placing.specs.Uncapped.{Uncapped, freeCount, planCount, planFitsUncapped, needsUncapped, grantsUncapped, plannedUncapped, planUncapped, callFreeUncapped, calledUncapped}
-use Rattle.placing.proofs.Theorems.{no-line-uncapped, plan-uncapped, called-call, cost-call, frame-causes, call-causes}
-use Rattle.frame.specs.Event.{Event, line, Asked, setClock, setTie, placeJobs, fault, askedByForm, asked, taken, refused, Outcome, ownCauses, carriedOut, comesTo, eventOf}
+use Rattle.placing.specs.Call.{lengths}
+use Rattle.placing.specs.Outcomes.{written, PlanAnswer, planOf}
+use Rattle.placing.specs.Uncapped.{Uncapped, freeCount, planCount, planFitsUncapped, needsUncapped, grantsUncapped, plannedUncapped, planUncapped, callFreeUncapped, calledUncapped, costUncapped, frameCausesUncapped}
+use Rattle.placing.proofs.Theorems.{no-line-uncapped, plan-uncapped}
+use Rattle.frame.specs.Event.{Event, line, Asked, setClock, setTie, placeJobs, fault, askedByForm, asked, taken, refused, Outcome, eventOf}
 use Rattle.frame.specs.Event.{more as oneMore, runOf}
-use Rattle.frame.specs.Text.{Whole, notRead, ran, startOf, eventsOf, wholeWithPlan, wholeWithHead, wholeOf}
+use Rattle.frame.specs.Text.{startOf, eventsOf, wholeOf}
 use Rattle.frame.specs.Demands.{EventIs, stopped, clockSet, tieSet, placed}
 use Rattle.frame.specs.Listing.{listingOf}
 use Rattle.frame.specs.Before.{ofFive, formBefore, settle, settled, readBefore, headBefore, askedBefore, chosenBefore, servedBefore, leftBefore, lrtfBefore, plannedBefore, calledBefore, planBefore}
-use Rattle.frame.specs.Before.{ownCausesBefore, carriedBefore, eventBefore, runBefore, withPlanBefore, withHeadBefore, wholeBefore, FiveForms, FiveAsked}
+use Rattle.frame.specs.Before.{carriedBefore, eventBefore, runBefore, wholeBefore, FiveForms, FiveAsked}
+use Rattle.frame.specs.Uncapped.{decided, runBy, ownUncapped, carriedUncapped, eventUncapped}
 use Rattle.frame.proofs.OneEvent.{event-is}
+use Rattle.frame.proofs.AsUncapped.{event-uncapped, whole-by}
 
 -- ---- the rule under place
 
@@ -263,37 +265,27 @@ module _ (h : Head) (all : Uncapped h) (st : State) (place : st .hold ≡ false)
       go _ (tieSet hold q f) = absurd (no-tie e hold (sym same ∙ q))
       go _ (placed jobs q f) = place
 
-  table-before : (jobs : List Job) → called (tieOf (st .hold)) h (st .clock) jobs (cell h (st .table)) ≡ calledBefore h (st .clock) jobs (cell h (st .table))
+  table-before : (jobs : List Job) → calledUncapped (tieOf (st .hold)) h (st .clock) jobs (cell h (st .table)) ≡ calledBefore h (st .clock) jobs (cell h (st .table))
   table-before jobs =
-      ap (λ (b : Bool). called (tieOf b) h (st .clock) jobs (cell h (st .table))) place
-      ∙ called-call h all tiePlace (st .clock) jobs (cell h (st .table))
-      ∙ called-before h (st .clock) jobs (cell h (st .table))
+      ap (λ (b : Bool). calledUncapped (tieOf b) h (st .clock) jobs (cell h (st .table))) place ∙ called-before h (st .clock) jobs (cell h (st .table))
 
-  -- what is asked, where it is no tie: its causes, and what it comes to
-  own-before : (a : Asked) → askedBefore e ≡ a → ownCauses h st a ≡ ownCausesBefore h st a
-  unfolding ownCauses ownCausesBefore
-  own-before (setClock t) q = refl
-  own-before (setTie hold) q = absurd (no-tie e hold q)
-  own-before (placeJobs jobs) q = call-causes h all (st .clock) jobs (cell h (st .table))
-  own-before (fault r) q = refl
-
-  carried-before : (a : Asked) → askedBefore e ≡ a → carriedOut h st a ≡ carriedBefore h st a
-  unfolding carriedOut carriedBefore
+  -- what is asked, where it is no tie, comes to what it came to
+  carried-before : (a : Asked) → askedBefore e ≡ a → carriedUncapped h st a ≡ carriedBefore h st a
+  unfolding carriedUncapped carriedBefore
   carried-before (setClock t) q = refl
   carried-before (setTie hold) q = absurd (no-tie e hold q)
-  carried-before (placeJobs jobs) q =
-      ap₂ (λ (n : Cost) (u : Cells). record { answer = taken n; after = withTable (written h u (st .table)) st }) (cost-call h all jobs st) (table-before jobs)
+  carried-before (placeJobs jobs) q = ap (λ (u : Cells). record { answer = taken (costUncapped h jobs st); after = withTable (written h u (st .table)) st }) (table-before jobs)
   carried-before (fault r) q = refl
 
   event-before : eventOf h st e ≡ eventBefore h st e
-  unfolding comesTo eventBefore
+  unfolding eventUncapped eventBefore
   event-before =
-      ap (comesTo h st) same
-      ∙ ap₂ (λ (cs : List (Option Refusal)) (o : Outcome). elim (firstOf cs) [ none ↦ o | some r ↦ record { answer = refused 0 r; after = st } ])
-      (ap₂ (λ (x y : List (Option Refusal)). x ++ y) (frame-causes h all st) (own-before (askedBefore e) refl)) (carried-before (askedBefore e) refl)
+      event-uncapped h all st e
+      ∙ ap (λ (a : Asked). decided st (frameCausesUncapped h st ++ ownUncapped h st a) (carriedUncapped h st a)) same
+      ∙ ap (decided st (frameCausesUncapped h st ++ ownUncapped h st (askedBefore e))) (carried-before (askedBefore e) refl)
 
 run-before : (h : Head) → Uncapped h → (st : State) (es : List Event) → FiveAsked es → st .hold ≡ false → runOf h st es ≡ runBefore h st es
-unfolding runOf runBefore
+unfolding runOf runBy
 run-before h all st [] p place = refl
 run-before h all st (e ∷ es) p place =
     ap (oneMore (eventOf h st e .answer)) (run-before h all (eventOf h st e .after) es (λ j. p (suc j)) (event-place h all st place e (p 0)))
@@ -316,25 +308,15 @@ plan-before h all t place =
       | some r ↦ record { answer = PlanAnswer.refused 0 r; table = t }
     ]) (ap (λ (b : Bool). plannedUncapped (tieOf b) h) place ∙ planned-before h)
 
-module _ (text t : List ℕ) (p : FiveForms (lines text)) where
-  after-plan : (h : Head) (n : ℕ) (a : PlanAnswer) (u : List ℕ) → Plain h → wholeWithPlan text h n a u ≡ withPlanBefore text h n a u
-  unfolding wholeWithPlan withPlanBefore
-  after-plan h n (PlanAnswer.granted g) u plain =
-      ap (ran h n g) (run-before h (no-line-uncapped h (plain .1)) (startOf h u) (eventsOf text n) (five-asked (drop n (lines text)) (five-after n (lines text) p)) (plain .0))
-  after-plan h n (PlanAnswer.refused _ r) u plain = refl
-
-  after-head : (x : Reading) → Plain (headRead x) → wholeWithHead text x t ≡ withHeadBefore text x t
-  unfolding wholeWithHead withHeadBefore
-  after-head (Reading.accepted h n) plain =
-      ap (λ (o : PlanOutcome). wholeWithPlan text h n (o .answer) (o .table)) (plan-before h (no-line-uncapped h (plain .1)) t (plain .0))
-      ∙ after-plan h n (planBefore h t .answer) (planBefore h t .table) plain
-  after-head (Reading.refused n r) plain = refl
-
-  whole-before : wholeOf text t ≡ wholeBefore text t
-  unfolding wholeOf wholeBefore
-  whole-before =
-      ap (λ (w : Whole). elim (firstOf (try textTooLong (ltb mostBytes (length text)) ∷ try tooShort (ltb (length t) leastCells) ∷ [])) [ none ↦ w | some r ↦ notRead 0 r ])
-      (after-head (headOf text) (head-plain text p) ∙ ap (λ (x : Reading). withHeadBefore text x t) (head-before text p))
+whole-before : (text t : List ℕ) → FiveForms (lines text) → wholeOf text t ≡ wholeBefore text t
+whole-before text t p =
+    whole-by text t planBefore eventBefore headBefore (head-before text p)
+    (λ h n e.
+    let plain : Plain h = subst (λ (x : Reading). Plain (headRead x)) e (head-plain text p) in
+    let all = no-line-uncapped h (plain .1) in (
+      plan-before h all t (plain .0),
+      λ u. run-before h all (startOf h u) (eventsOf text n) (five-asked (drop n (lines text)) (five-after n (lines text) p)) (plain .0),
+    ))
 
 -- ---- "`(tie place)` brings back the old order"; "without it there is no cap"
 

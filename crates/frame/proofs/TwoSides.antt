@@ -34,7 +34,8 @@ use Rattle.frame.specs.TextEntry.{wholeOnSlice}
 use Rattle.frame.specs.EventsDone.{EventsOutcome, eventsMeant}
 use Rattle.frame.specs.Listing.{listingOf}
 use Rattle.placing.specs.Uncapped.{Uncapped, needsUncapped, grantsUncapped, evictedUncapped, fitsUncapped}
-use Rattle.frame.specs.Before.{readBefore, headBefore, servedBefore, leftBefore, planBefore, ownCausesBefore, carriedBefore, eventBefore, runBefore, withPlanBefore, withHeadBefore, wholeBefore, FiveForms, FiveAsked}
+use Rattle.frame.specs.Before.{readBefore, headBefore, servedBefore, leftBefore, planBefore, carriedBefore, eventBefore, wholeBefore, FiveForms, FiveAsked}
+use Rattle.frame.specs.Uncapped.{runBy, withPlanBy, withHeadBy, wholeBy, ownUncapped}
 use Rattle.frame.specs.declared.types.Answer.the-variants as reply
 use Rattle.frame.specs.WriteListing.{listingCause, listingMeant}
 use Rattle.frame.specs.WroteLine.{lineWritten, answerWritten, grantWritten, slotWritten}
@@ -222,8 +223,8 @@ pub before-listed : (listingOf (wholeBefore (bytes "(frame 1 1)\n(tie hold)\n") 
     × (listingOf (wholeBefore (bytes "(frame 6 1)\n(preset 1 0 1 0)\n(preset 2 0 2 0)\n(call (5 1) (6 2))\n") blank)
     ≡ bytes "(granted 1 0)\n(granted 2 0)\n(taken 0)\n(slot 1 m2)\n(slot 2 m1)\n(slot 3 m2)\n(slot 4 c6)\n(slot 5 c5)\n(slot 6 c6)\n")
 unfolding
-    lists readBefore headBefore servedBefore leftBefore needsUncapped grantsUncapped evictedUncapped fitsUncapped planBefore ownCausesBefore carriedBefore eventBefore runBefore withPlanBefore
-    withHeadBefore wholeBefore
+    lists readBefore headBefore servedBefore leftBefore needsUncapped grantsUncapped evictedUncapped fitsUncapped planBefore ownUncapped carriedBefore eventBefore runBy withPlanBy
+    withHeadBy wholeBy
 before-listed = (refl, refl, refl, refl, refl, refl)
 
 -- What `place-as-before` asks of a text can be met, and a text with a tie line or a supply line does not meet it.

@@ -19,20 +19,21 @@ use Rattle.laws.specs.Lists.{at, tabulate}
 use Rattle.laws.specs.Placement.{before}
 use Rattle.station.specs.Limits.{mostBytes, leastCells}
 use Rattle.station.specs.Head.{Head, Job, presetAt, valid}
-use Rattle.station.specs.Refusal.{Refusal, noForm, outOfLimits, outOfPlace, mandatoryNotFeasible, clockBack, tooShort, textTooLong, try, firstOf}
+use Rattle.station.specs.Refusal.{noForm, outOfLimits, outOfPlace, mandatoryNotFeasible, tooShort, textTooLong, try, firstOf}
 use Rattle.station.specs.Text.{lines}
 use Rattle.station.specs.Form.{Form, frameLine, busyLine, presetLine, clockLine, callLine, tieLine, supplyLine, isEvent, form}
 use Rattle.station.specs.Reading.{Stage, atFrame, atSupply, atTie, atBusy, atPresets, begun, SoFar, begin, causes, more, unless, Reading}
 use Rattle.placing.specs.Table.{Cells, cell, numberAt, mandatoryCell, optionalCell, busyCell, callCell}
-use Rattle.placing.specs.Valid.{clockIn, jobAt}
+use Rattle.placing.specs.Valid.{jobAt}
 use Rattle.placing.specs.State.{State, withTable, withClock}
 use Rattle.placing.specs.Plan.{placing, mandatories, planFree}
 use Rattle.placing.specs.Call.{lengths}
 use Rattle.placing.specs.Outcomes.{written, PlanAnswer, PlanOutcome}
-use Rattle.placing.specs.Uncapped.{freeCount, planCount, planFitsUncapped, needsUncapped, grantsUncapped, callFreeUncapped, costUncapped, frameCausesUncapped, callCausesUncapped}
+use Rattle.placing.specs.Uncapped.{freeCount, planCount, planFitsUncapped, needsUncapped, grantsUncapped, callFreeUncapped, costUncapped, frameCausesUncapped}
 use Rattle.frame.specs.Event.{Event, Asked, setClock, setTie, placeJobs, fault, askedByForm, asked, clockNow, taken, refused, Outcome}
-use Rattle.frame.specs.Event.{Run, more as oneMore}
-use Rattle.frame.specs.Text.{Whole, notRead, notPlanned, ran, startOf, eventsOf}
+use Rattle.frame.specs.Event.{Run}
+use Rattle.frame.specs.Text.{Whole}
+use Rattle.frame.specs.Uncapped.{decided, runBy, wholeBy, ownUncapped}
 use Rattle.frame.specs.Demands.{eventAt}
 
 -- the form of a line: "one of the five forms", of which a tie line and a supply line were none
@@ -117,13 +118,6 @@ planBefore h t =
       | some r ↦ record { answer = PlanAnswer.refused 0 r; table = t }
     ]
 
--- what an event was tried for
-unfoldable pub ownCausesBefore : Head → State → Asked → List (Option Refusal)
-ownCausesBefore h st (setClock t) = try outOfLimits (not (clockIn (h .slots) t)) ∷ try clockBack (ltb t (st .clock)) ∷ []
-ownCausesBefore h st (setTie hold) = some noForm ∷ []
-ownCausesBefore h st (placeJobs jobs) = callCausesUncapped h (st .clock) jobs (cell h (st .table))
-ownCausesBefore h st (fault r) = some r ∷ []
-
 -- "(here clocks and calls)": a tie line was none of the five forms
 unfoldable pub carriedBefore : Head → State → Asked → Outcome
 carriedBefore h st (setClock t) = record { answer = clockNow t; after = withClock t st }
@@ -132,26 +126,15 @@ carriedBefore h st (placeJobs jobs) =
     record { answer = taken (costUncapped h jobs st); after = withTable (written h (calledBefore h (st .clock) jobs (cell h (st .table))) (st .table)) st }
 carriedBefore h st (fault r) = record { answer = refused 0 r; after = st }
 
+-- what it is tried for is `ownUncapped`: no tie line comes so far
 unfoldable pub eventBefore : Head → State → Event → Outcome
-eventBefore h st e =
-    elim (firstOf (frameCausesUncapped h st ++ ownCausesBefore h st (askedBefore e))) [ none ↦ carriedBefore h st (askedBefore e) | some r ↦ record { answer = refused 0 r; after = st } ]
+eventBefore h st e = decided st (frameCausesUncapped h st ++ ownUncapped h st (askedBefore e)) (carriedBefore h st (askedBefore e))
 
-unfoldable pub runBefore : Head → State → List Event → Run
-runBefore h st [] = record { answers = []; after = st }
-runBefore h st (e ∷ es) = oneMore (eventBefore h st e .answer) (runBefore h (eventBefore h st e .after) es)
+abbrev pub runBefore : Head → State → List Event → Run
+runBefore h = runBy (eventBefore h)
 
-unfoldable pub withPlanBefore : List ℕ → Head → ℕ → PlanAnswer → List ℕ → Whole
-withPlanBefore text h n (PlanAnswer.granted g) t = ran h n g (runBefore h (startOf h t) (eventsOf text n))
-withPlanBefore text h n (PlanAnswer.refused _ r) t = notPlanned h n r
-
-unfoldable pub withHeadBefore : List ℕ → Reading → List ℕ → Whole
-withHeadBefore text (Reading.accepted h n) t = withPlanBefore text h n (planBefore h t .answer) (planBefore h t .table)
-withHeadBefore text (Reading.refused n r) t = notRead n r
-
-unfoldable pub wholeBefore : List ℕ → List ℕ → Whole
-wholeBefore text t =
-    elim (firstOf (try textTooLong (ltb mostBytes (length text)) ∷ try tooShort (ltb (length t) leastCells) ∷ []))
-    [ none ↦ withHeadBefore text (headBefore text) t | some r ↦ notRead 0 r ]
+abbrev pub wholeBefore : List ℕ → List ℕ → Whole
+wholeBefore = wholeBy headBefore planBefore eventBefore
 
 -- ---- without the later forms
 

@@ -10,7 +10,7 @@ use Prim.Native.Nat.{ℕ, zero, suc, _+_, _-_, _*_, _≤_, _<_, min, max}
 use native.Mathlib.Nat.{le-refl, suc-mul}
 use native.Mathlib.Omega.{arith}
 use mathlib.Core.Path.{_≡_, refl, sym, ap}
-use mathlib.Core.Bool.{Bool, true, false, not, _&&_, _||_}
+use mathlib.Core.Bool.{Bool, true, false, not, _&&_, _||_, and-true, and-false, or-true, or-false}
 use lib.Dec.{ltb, eqb}
 use Rattle.laws.specs.Sums.{bit, only, sum, count, position}
 use Rattle.laws.specs.Placement.{Criterion, capacity, before, largest}
@@ -138,14 +138,6 @@ module _ (k : ℕ) (c d : ℕ → ℕ) (i : ℕ) (h : i < k) (own : d i ≡ 0) (
       let b = beside p q has (λ j ne. sym (rw (eqb-no j i ne) (and-true (p j)))) in
       let gone : q i ≡ false = rw (eqb-self i) (and-false (p i)) in
       (q, omega (arith, b .0, ap bit gone), b .1)
-    where
-      and-true : (b : Bool) → (b && true) ≡ b
-      and-true true = refl
-      and-true false = refl
-
-      and-false : (b : Bool) → (b && false) ≡ false
-      and-false true = refl
-      and-false false = refl
 
   pub taken-in : (q : ℕ → Bool)
       → (p : ℕ → Bool) × (count k p ≤ suc (count k q)) × (sum k (λ j. only (p j) (c j)) ≡ c i + sum k (λ j. only (q j) (d j)))
@@ -154,14 +146,6 @@ module _ (k : ℕ) (c d : ℕ → ℕ) (i : ℕ) (h : i < k) (own : d i ≡ 0) (
       let has : p i ≡ true = rw (eqb-self i) (or-true (q i)) in
       let b = beside p q has (λ j ne. rw (eqb-no j i ne) (or-false (q j))) in
       (p, omega (arith, b .0), b .1)
-    where
-      or-true : (b : Bool) → (b || true) ≡ true
-      or-true true = refl
-      or-true false = refl
-
-      or-false : (b : Bool) → (b || false) ≡ b
-      or-false true = refl
-      or-false false = refl
 
   -- a selection that lacks job i needs the same of both
   pub left-out : (p : ℕ → Bool) → p i ≡ false → sum k (λ j. only (p j) (c j)) ≡ sum k (λ j. only (p j) (d j))

@@ -1,7 +1,7 @@
 -- Where the supply feeds every bridge, a plan and a call are what they were without it.
 --
--- In order: no supply line and `(supply 8)` are no cap (`no-line-uncapped`, `eight-uncapped`); each number of free cells is what it was (`free-uncapped`, `plan-count`, `empty-count`,
--- `call-count`), and no table is above the cap (`supplied-uncapped`); the parts of a plan and of a call; then `plan-uncapped`, `call-uncapped`; `(supply 8)` and no supply line give the same (`plan-eight`,
+-- In order: no supply line is no cap (`no-line-uncapped`); each number of free cells is what it was (`free-uncapped`, `plan-count`, `empty-count`,
+-- `call-count`), and no table is above the cap (`supplied-uncapped`); the parts of a plan and of a call; then `plan-uncapped`, `call-uncapped`; `(supply 8)` is none (`fed-uncapped`) and gives the same (`plan-eight`,
 -- `frame-eight`, `causes-eight`, `cost-eight`, `state-eight`).
 -- Assumes nothing.
 use Prim.Native.Nat.{ℕ, _+_, _-_, _≤_}
@@ -21,9 +21,8 @@ use Rattle.laws.proofs.Tests.{Is, is-true, is-false, is, clash, not-true, left-
 use Rattle.laws.proofs.Comparisons.{leb-yes}
 use Rattle.laws.proofs.Every.{all-every}
 use Rattle.laws.proofs.Counts.{count-le, count-ext, count-none, count-or}
-use Rattle.station.specs.Limits.{leastCells}
-use Rattle.station.specs.Head.{Head, Job, Valid, withSupply, presetAt, valid}
-use Rattle.station.proofs.Theorems.{of-valid}
+use Rattle.station.specs.Limits.{mostBridges, leastCells}
+use Rattle.station.specs.Head.{Head, Job, withSupply, presetAt, valid}
 use Rattle.station.specs.Refusal.{Refusal, outOfLimits, mandatoryNotFeasible, callNotFeasible, tooShort, notWellFormed, try, firstOf}
 use Rattle.placing.specs.Table.{Cells, cell, presetCount, numberAt, mandatoryCell, optionalCell, busyCell, callCell, isEmpty, isHeld, heldCells, emptyCells, motors, freeNumber, cleared, laidOut, wellFormed}
 use Rattle.placing.specs.Valid.{usable, clockIn, jobAt}
@@ -40,9 +39,6 @@ use Rattle.placing.proofs.EvictionOrder.{in-set-evictable}
 
 pub no-line-uncapped : (h : Head) → h .supply ≡ 0 → Uncapped h
 no-line-uncapped h e = omega (arith, ap (λ (k : ℕ). cond (eqb k 0) (h .bridges) k) e)
-
-pub eight-uncapped : (h : Head) → Valid h → h .supply ≡ 8 → Uncapped h
-eight-uncapped h v e = omega (arith, ap (λ (k : ℕ). cond (eqb k 0) (h .bridges) k) e, v .bridges-high)
 
 -- ---- the numbers
 
@@ -191,31 +187,18 @@ module _ (h : Head) (all : Uncapped h) where
 
 -- ---- `(supply 8)` and no supply line
 
-module _ (h : Head) (v : Valid h) (none-there : h .supply ≡ 0) where
+-- of every head of up to eight bridges
+module _ (h : Head) (few : h .bridges ≤ mostBridges) (none-there : h .supply ≡ 0) where
   -- the head with the line
   abbrev fed : Head
   fed = withSupply h 8
 
-  fed-valid : Valid fed
-  fed-valid = record {
-    slots-low = v .slots-low;
-    slots-high = v .slots-high;
-    bridges-low = v .bridges-low;
-    bridges-high = v .bridges-high;
-    supply = omega arith;
-    masks = v .masks;
-    in-frame = v .in-frame;
-    no-bridge = v .no-bridge;
-    number-of-presets = v .number-of-presets;
-    limits = v .limits;
-    distinct = v .distinct;
-  }
-
   pub fed-uncapped : Uncapped (withSupply h 8)
-  fed-uncapped = eight-uncapped fed fed-valid refl
+  fed-uncapped = few
 
   both-valid : valid (withSupply h 8) ≡ valid h
-  both-valid = of-valid fed fed-valid ∙ sym (of-valid h v)
+  unfolding valid
+  both-valid = sym (ap (λ (k : ℕ). valid (withSupply h k)) none-there)
 
   plan-both : (t : List ℕ) → planUncapped (withSupply h 8) t ≡ planUncapped h t
   unfolding planUncapped planFitsUncapped needsUncapped grantsUncapped plannedUncapped placing written

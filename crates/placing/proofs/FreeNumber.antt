@@ -8,7 +8,7 @@ use Prim.Native.Nat.{ℕ, _+_, _-_, _≤_, _<_, min}
 use native.Mathlib.Omega.{arith}
 use mathlib.Core.Path.{_≡_, refl, sym, _∙_, ap, ap₂}
 use mathlib.Core.Logic.{inl, inr, _⊎_}
-use mathlib.Core.Bool.{Bool, true, false, not, _&&_, _||_, cond}
+use mathlib.Core.Bool.{Bool, true, false, not, _&&_, _||_, cond, and-true, and-false, or-true, or-false}
 use mathlib.Core.List.{List}
 use lib.Dec.{ltb}
 use Rattle.laws.specs.Sums.{count, only}
@@ -71,27 +71,15 @@ module _ (h : Head) (f : ℕ → ℕ → Bool) (t : Cells) (s : ℕ) where
   cleared-empty b = go (f s b)
     where
       go : (c : Bool) → isEmpty (cond c 0 (t s b)) ≡ (isEmpty (t s b) || c)
-      go true = sym (or-right (isEmpty (t s b)) true refl)
-      go false = or-no (isEmpty (t s b))
-        where
-          or-no : (x : Bool) → x ≡ (x || false)
-          or-no true = refl
-          or-no false = refl
+      go true = sym (or-true (isEmpty (t s b)))
+      go false = sym (or-false (isEmpty (t s b)))
 
   pub cleared-held : (b : ℕ) → isHeld (cleared f t s b) ≡ (isHeld (t s b) && not (f s b))
-  cleared-held b = go (isHeld (t s b)) (f s b)
+  cleared-held b = go (f s b)
     where
-      no : (x : Bool) → false ≡ (x && false)
-      no true = refl
-      no false = refl
-
-      yes : (x : Bool) → x ≡ (x && true)
-      yes true = refl
-      yes false = refl
-
-      go : (x c : Bool) → isHeld (cond c 0 (t s b)) ≡ (isHeld (t s b) && not c)
-      go x true = no (isHeld (t s b))
-      go x false = yes (isHeld (t s b))
+      go : (c : Bool) → isHeld (cond c 0 (t s b)) ≡ (isHeld (t s b) && not c)
+      go true = sym (and-false (isHeld (t s b)))
+      go false = sym (and-true (isHeld (t s b)))
 
   -- fewer cells are held
   pub cleared-held-le : heldCells h (cleared f t) s ≤ heldCells h t s

@@ -62,8 +62,9 @@ twoHeld k = fed 2 2 k (preset 1 0 0 1 ∷ [])
 pub sound-supplied : (map (λ k. callOf (twoHeld k) (job 9 1 ∷ []) (stateOf (lent (1031 ∷ 769 ∷ [])) 2 false) .answer) (0 ∷ 1 ∷ 2 ∷ 8 ∷ [])
     ≡ CallAnswer.taken (cost 0) ∷ CallAnswer.refused 0 notWellFormed ∷ CallAnswer.taken (cost 0) ∷ CallAnswer.taken (cost 0) ∷ [])
     × (map (λ k. callOf (twoHeld k) (job 9 1 ∷ []) (stateOf (lent (1031 ∷ 769 ∷ [])) 1 false) .answer) (1 ∷ 2 ∷ []) ≡ CallAnswer.refused 0 notWellFormed ∷ CallAnswer.taken (cost 0) ∷ [])
+    × (map (λ k. callOf (twoHeld k) (job 9 1 ∷ []) (stateOf (lent (0 ∷ 0 ∷ 1031 ∷ 769 ∷ [])) 1 false) .answer) (1 ∷ 2 ∷ []) ≡ CallAnswer.refused 0 notWellFormed ∷ CallAnswer.taken (cost 0) ∷ [])
 unfolding calls
-sound-supplied = (refl, refl)
+sound-supplied = (refl, refl, refl)
 
 -- ---- plans
 

@@ -5,7 +5,7 @@
 use Prim.Native.Nat.{ℕ, zero, suc, _+_, _≤_, _<_}
 use native.Mathlib.Omega.{arith}
 use mathlib.Core.Path.{_≡_, refl, sym, _∙_, ap}
-use mathlib.Core.Bool.{Bool, true, false, _||_}
+use mathlib.Core.Bool.{Bool, true, false, _||_, or-false, or-assoc}
 use mathlib.Core.List.{List}
 use lib.ListN.{length}
 use lib.Dec.{ltb, eqb}
@@ -76,17 +76,9 @@ module _ (h : Head) (clock : ℕ) (jobs : List Job) (t u : Cells) (good : Good h
       go (is-false e) =
           ap (λ (k : ℕ). ltb 0 k) (changed-other-calls h clock jobs t u (good .high) (valid .changes) n (none e))
           ∙ sym (ap (λ (b : Bool). hasJob h t n || b) e ∙ or-false (hasJob h t n))
-        where
-          or-false : (a : Bool) → (a || false) ≡ a
-          or-false true = refl
-          or-false false = refl
 
   pub left-isUsed : (n : ℕ) → isUsed h u n ≡ (isUsed h t n || isOneOf (length jobs) (numberOf jobs) n)
-  left-isUsed n = ap (λ (b : Bool). hasPreset h n || b) (left-hasJob n) ∙ assoc (hasPreset h n) (hasJob h t n) (isOneOf (length jobs) (numberOf jobs) n)
-    where
-      assoc : (a b c : Bool) → (a || (b || c)) ≡ ((a || b) || c)
-      assoc true b c = refl
-      assoc false b c = refl
+  left-isUsed n = ap (λ (b : Bool). hasPreset h n || b) (left-hasJob n) ∙ sym (or-assoc (hasPreset h n) (hasJob h t n) (isOneOf (length jobs) (numberOf jobs) n))
 
   pub left-jobCount : jobCount h u ≡ jobCount h t + length jobs
   left-jobCount =

@@ -5,7 +5,7 @@
 use Prim.Native.Nat.{ℕ, _+_, _%_, _≤_}
 use native.Mathlib.Omega.{arith}
 use mathlib.Core.Path.{_≡_, sym, _∙_, ap, ap₂}
-use mathlib.Core.Bool.{Bool, false, _||_}
+use mathlib.Core.Bool.{Bool, false, _||_, or-comm}
 use mathlib.Core.List.{List}
 use lib.ListN.{length}
 use lib.Dec.{ltb, eqb}
@@ -22,7 +22,6 @@ use Rattle.placing.proofs.UsedNumbers.{numberOf, isOneOf, left-isUsed, 
 use Rattle.placing.proofs.ClaimsHold.{call-accepted, call-claim}
 use Rattle.placing.specs.method.Jobs.{jobNumber}
 use Rattle.placing.specs.method.Counts.{CountsOf, slotFree, MarkedBeside}
-use Rattle.placing.proofs.counts.MarkedNumbers.{or-comm}
 use Rattle.placing.proofs.counts.usable.UsableCells.{entries-are, entries-of}
 use Rattle.placing.proofs.counts.causes.CallCauses.{jobs-length, number-of, inside-number}
 

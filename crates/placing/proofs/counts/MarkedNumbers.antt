@@ -6,7 +6,7 @@
 use Prim.Native.Nat.{ℕ, _+_, _*_, _≤_, _<_}
 use native.Mathlib.Omega.{arith}
 use mathlib.Core.Path.{_≡_, refl, sym, _∙_, ap, ap₂}
-use mathlib.Core.Bool.{Bool, true, false, _||_}
+use mathlib.Core.Bool.{Bool, true, false, _||_, or-false, or-comm}
 use mathlib.Core.List.{List}
 use lib.ListN.{length, getD, set, replicate, length-set}
 use lib.Seq.{getD-set-same, getD-set-other}
@@ -27,16 +27,6 @@ use Rattle.placing.specs.method.Counts.{CountsOf, Marked, Marks, slotFre
 use Rattle.placing.proofs.counts.usable.UsableCells.{entries-are}
 
 -- ---- numbers that are marked
-
-or-false : (a : Bool) → (a || false) ≡ a
-or-false true = refl
-or-false false = refl
-
-pub or-comm : (a b : Bool) → (a || b) ≡ (b || a)
-or-comm true true = refl
-or-comm true false = refl
-or-comm false true = refl
-or-comm false false = refl
 
 -- one number more
 marked-set : (u : List ℕ) (m : ℕ) → m < length u → (n : ℕ) → marked (set u m 1) n ≡ (marked u n || eqb m n)
