@@ -80,6 +80,7 @@ askedBefore (Event.call jobs) = placeJobs jobs
 abbrev pub chosenBefore : ℕ → (ℕ → ℕ) → ℕ → ℕ → Bool
 chosenBefore k c d i = ltb 0 (c i) && ltb (position k (before c) i) d
 
+-- the slots still to get after a slot with d free bridges, before slot s, and who has a cell in it
 unfoldable pub servedBefore : List ℕ → ℕ → List ℕ
 servedBefore l d = tabulate (length l) (λ i. at l i - bit (chosenBefore (length l) (at l) d i))
 
@@ -106,6 +107,7 @@ calledBefore h clock jobs t =
     placing (length (lengths jobs)) (callFreeUncapped h clock jobs t) (λ i s. lrtfBefore (lengths jobs) (freeCount (h .bridges) (callFreeUncapped h clock jobs t)) i s)
     (λ i s. callCell (jobAt jobs i .number)) t
 
+-- a plan: 8, 2 and 5, else the grants and the table
 unfoldable pub planBefore : Head → List ℕ → PlanOutcome
 planBefore h t =
     elim (firstOf (
@@ -130,6 +132,7 @@ carriedBefore h st (fault r) = record { answer = refused 0 r; after = st }
 unfoldable pub eventBefore : Head → State → Event → Outcome
 eventBefore h st e = decided st (frameCausesUncapped h st ++ ownUncapped h st (askedBefore e)) (carriedBefore h st (askedBefore e))
 
+-- a list of events, and a whole text
 abbrev pub runBefore : Head → State → List Event → Run
 runBefore h = runBy (eventBefore h)
 

@@ -1,9 +1,9 @@
 -- Events, a list of them and a whole text where the supply feeds every bridge, under whatever order of ties: what they were before there was a supply line. Document 02, 2026-03: "without it
 -- there is no cap". proofs/AsUncapped.antt shows that without the line, and with one that feeds as many motors as there are bridges, the definitions of the other files come to this.
 --
--- In order: what an event is tried for (`ownUncapped`), what it comes to (`eventUncapped`), a list of events (`runUncapped`), and a whole text (`wholeUncapped`); the last two from any reading of a head,
--- any plan and any event (`runBy`, `wholeBy`), since specs/Before has them too. The plan and the call are those of placing's specs/Uncapped; what an event asks for, how a head is read and the
--- listing are those of the other files.
+-- In order: an event by its causes (`decided`), a list of events and a whole text, from any reading of a head, any plan and any event (`runBy`, `wholeBy`), which specs/Before has too; then what an event is
+-- tried for (`ownUncapped`) and carried out to, what it comes to (`eventUncapped`), a list of events (`runUncapped`) and a whole text (`wholeUncapped`). The plan and the call are those of placing's
+-- specs/Uncapped; what an event asks for, how a head is read and the listing are those of the other files.
 -- Assumes nothing.
 use Prim.Native.Nat.{ℕ}
 use mathlib.Core.Bool.{not}
@@ -62,9 +62,11 @@ carriedUncapped h st (setTie hold) = record { answer = tieNow hold; after = tieS
 carriedUncapped h st (placeJobs jobs) = record { answer = taken (costUncapped h jobs st); after = stateUncapped h jobs st }
 carriedUncapped h st (fault r) = record { answer = refused 0 r; after = st }
 
+-- an event: 8, 2 and 11 of the frame, then its own causes
 unfoldable pub eventUncapped : Head → State → Event → Outcome
 eventUncapped h st e = decided st (frameCausesUncapped h st ++ ownUncapped h st (asked e)) (carriedUncapped h st (asked e))
 
+-- a list of events, and a whole text
 abbrev pub runUncapped : Head → State → List Event → Run
 runUncapped h = runBy (eventUncapped h)
 

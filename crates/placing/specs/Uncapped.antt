@@ -35,12 +35,15 @@ freeCount bridges f s = count bridges (λ b. f s b)
 
 -- ---- a plan
 
+-- how many bridges of a slot are not busy: what a plan could fill
 abbrev pub planCount : Head → ℕ → ℕ
 planCount h = freeCount (h .bridges) (planFree h)
 
+-- whether needs fit into them
 abbrev pub planFitsUncapped : Head → List ℕ → Bool
 planFitsUncapped h c = eqb (excess (length c) (at c) (h .slots) (planCount h)) 0
 
+-- what each preset got in all, and what it was granted beyond its required slots
 unfoldable pub needsUncapped : Head → List ℕ
 needsUncapped h = granted (planFitsUncapped h) (rank h) (optionals h) (mandatories h) (presetCount h)
 
@@ -59,6 +62,7 @@ unfoldable pub plannedUncapped : Ties → Head → Cells
 plannedUncapped ties h =
     placing (length (needsUncapped h)) (planFree h) (λ i s. lrtf ties nobody (needsUncapped h) (planCount h) i s) (cellUncapped ties h) (λ s b. busyCell)
 
+-- the plan: 8, 2 and 5, else the grants and the table
 unfoldable pub planUncapped : Head → List ℕ → PlanOutcome
 planUncapped h t =
     elim (firstOf (
@@ -73,9 +77,11 @@ planUncapped h t =
 
 -- ---- a call
 
+-- how many empty cells of a slot from the clock on there are: what a call could fill without loss
 abbrev pub emptyCount : Head → ℕ → Cells → ℕ → ℕ
 emptyCount h clock t = freeCount (h .bridges) (emptyFree clock t)
 
+-- the refinement cells that were lost, and whether the call fitted then
 unfoldable pub evictedUncapped : Head → ℕ → List Job → Cells → List Bool
 evictedUncapped h clock jobs t = searched (callShort h jobs) (emptyCount h clock t) (slotsOf (evictionOrder h clock t))
 
@@ -83,6 +89,7 @@ unfoldable pub fitsUncapped : Head → ℕ → List Job → Cells → Bool
 fitsUncapped h clock jobs t =
     eqb (callShort h jobs (added (emptyCount h clock t) (slotsOf (evictionOrder h clock t)) (evictedUncapped h clock jobs t))) 0
 
+-- the cells that the jobs could take: the empty and the lost ones
 abbrev pub callFreeUncapped : Head → ℕ → List Job → Cells → ℕ → ℕ → Bool
 callFreeUncapped h clock jobs t s b = emptyFree clock t s b || inSet (evictionOrder h clock t) (evictedUncapped h clock jobs t) s b
 
@@ -92,6 +99,7 @@ calledUncapped ties h clock jobs t =
     placing (length (lengths jobs)) (callFreeUncapped h clock jobs t)
     (λ i s. lrtf ties nobody (lengths jobs) (freeCount (h .bridges) (callFreeUncapped h clock jobs t)) i s) (λ i s. callCell (jobAt jobs i .number)) t
 
+-- what a call cost, and what it left
 abbrev pub costUncapped : Head → List Job → State → Cost
 costUncapped h jobs st = cost (ones (evictedUncapped h (st .clock) jobs (cell h (st .table))))
 
@@ -106,9 +114,11 @@ frameCausesUncapped h st =
     ∷ try notWellFormed (not (laidOut h (cell h (st .table)) && clockIn (h .slots) (st .clock)))
     ∷ []
 
+-- the causes of the call itself: 2, 4 and 9 of its jobs, then 7
 abbrev pub callCausesUncapped : Head → ℕ → List Job → Cells → List (Option Refusal)
 callCausesUncapped h clock jobs t = jobCauses h jobs t ++ (try callNotFeasible (not (fitsUncapped h clock jobs t)) ∷ [])
 
+-- the call
 unfoldable pub callUncapped : Head → List Job → State → CallOutcome
 callUncapped h jobs st =
     elim (firstOf (frameCausesUncapped h st ++ callCausesUncapped h (st .clock) jobs (cell h (st .table)))) [

@@ -105,8 +105,8 @@ fn fits_by_counts(
     !lacks(&all, together, entries, 1)
 }
 
-// Whether the first n jobs fit into slots of which it is given how many have at least one, two, up to eight free bridges. Nothing is unfinished beside them, so that one job alone fits if it
-// is no longer than the slots with at least one are many.
+// Whether the first n jobs fit into slots of which it is given how many have at least one, two, up to eight free bridges. Nothing is unfinished beside them, so that one job alone fits
+// where as many slots as it is long have a free bridge: the first entry.
 fn jobs_fit(entries: &[u8; MOST_BRIDGES], jobs: [Job; MOST_JOBS], n: usize) -> bool
     requires { ⌜ (n ≤ mostJobs) × (jobsOutside (jobsIn n jobs) ≡ false) ⌝ }
     ensures { λ r. ⌜ CountedFit (now (entries .entry)) (jobsIn n jobs) r ⌝ }

@@ -31,8 +31,8 @@ pub(crate) struct Tally {
     pub evicted: usize,
 }
 
-// Tries a cell: one more free bridge in its slot, which then has at least one more than it had. The cell is evicted if that lowers the shortage, else the slot is entered as before. (A slot whose
-// bridges are all free has no cell to try.)
+// Tries a cell: with one more free bridge its slot counts in the next entry too. Where the call then lacks as much as before, the entry is taken back; else the cell is evicted, and the shortage is one
+// less. (A slot whose bridges are all free has no next entry and no cell to try.)
 fn try_cell(
     demand: Demand,
     free: &mut [u8; MOST_SLOTS],
