@@ -22,13 +22,18 @@
 #include <stdint.h>
 
 /*
- * The version of the layout below and of what the numbers mean. Whoever stores a frame stores this beside it, and restores a frame of another version only as is said here. Version 3 had no
- * supply, and did not look at the number at PLANNER_FRAME_SUPPLY. A frame that it stored has 0 there, as its header asked, which now says that there is no supply line: such a frame is one of
- * this version as it stands. Version 2 had no orders of ties either: with PLANNER_TIE_PLACE at PLANNER_FRAME_TIE and at PLANNER_FRAME_TIE_NOW, and 0 at PLANNER_FRAME_SUPPLY, its frame is one of this
- * version. Version 1 had 12 numbers in a frame; its frames are not restored. No older version may go on with a frame of this one that has a supply, since it would plan past it. Later versions have
- * wider cells (with the place of each cell in its preset or job), another range of the clock (from 0) and something to say in the reserved number of a frame.
+ * The version of the layout below and of what the numbers mean. Whoever stores a frame stores this beside it, and restores a frame of another version only as is said here.
+ *
+ * Version 4 had clocks from 1, and a call could use the clock's own slot. A frame that it stored is one of this version as it stands: its clock still says which slot is about to begin, but its
+ * calls now use the slots above it alone. Where it is at clock 1 because it has not come to its first slot yet, it may be given clock 0, so that slot 1 can still be used. Version 3 had no supply
+ * either, and did not look at the number at PLANNER_FRAME_SUPPLY. A frame that it stored has 0 there, as its header asked, which says that there is no supply line: what holds of a frame of version 4
+ * holds of it. Version 2 had no orders of ties either: with PLANNER_TIE_PLACE at PLANNER_FRAME_TIE and at PLANNER_FRAME_TIE_NOW, and 0 at PLANNER_FRAME_SUPPLY, its frame is as one of version 4.
+ * Version 1 had 12 numbers in a frame; its frames are not restored.
+ *
+ * A library of an older version must not be handed a frame of this one: at clock 0 it would answer 11, at another clock it would let a call use the slot that is about to begin, and up to version 3
+ * it would plan past a supply. Later versions have wider cells (with the place of each cell in its preset or job) and something to say in the reserved number of a frame.
  */
-#define PLANNER_VERSION 4
+#define PLANNER_VERSION 5
 
 /* How many there are at most. */
 #define PLANNER_MAX_SLOTS 64
@@ -61,7 +66,7 @@ enum planner_cause {
     PLANNER_ACCEPTED = 0,
     PLANNER_NO_FORM = 1,              /* a line that is not one of the seven forms, or lacks its end */
     PLANNER_OUT_OF_LIMITS = 2,        /* a value or busy stretch outside its limits, in a row outside the frame; a supply line, in its place, whose number is not 1 to 8; a
-                                       * ninth job in a call; a clock below 1 or above S + 1; a head that no text yields, as one with a supply above 8 */
+                                       * ninth job in a call; a clock outside 0 to S + 1; a head that no text yields, as one with a supply above 8 */
     PLANNER_OUT_OF_PLACE = 3,         /* a form out of its place, among them a supply line anywhere but directly after the frame line, whatever its number, and (tie place)
                                        * directly after the frame line or its supply line; no frame on line 1 */
     PLANNER_NUMBER_USED = 4,          /* a number already used, or twice in a call */
@@ -72,7 +77,7 @@ enum planner_cause {
     PLANNER_TOO_MANY = 9,             /* 33rd preset or 65th job */
     PLANNER_TEXT_TOO_LONG = 10,       /* text above 32,768 bytes */
     PLANNER_NOT_SOUND = 11,           /* a table that is not sound, as one is not that holds more cells of a slot for presets and calls than the supply feeds; or a clock in
-                                       * the frame outside 1 to S + 1 */
+                                       * the frame outside 0 to S + 1 */
     PLANNER_NO_ROW = 12               /* a row that is not three decimal fields with CR LF */
 };
 
@@ -81,7 +86,7 @@ enum planner_frame_place {
     PLANNER_FRAME_SLOTS = 0,   /* S, how many slots */
     PLANNER_FRAME_BRIDGES = 1, /* B, how many bridges */
     PLANNER_FRAME_PRESETS = 2, /* how many presets */
-    PLANNER_FRAME_CLOCK = 3,   /* the slot that is about to begin; S + 1 after the last one */
+    PLANNER_FRAME_CLOCK = 3,   /* the slot that is about to begin: 0 at the start, before the first one, S + 1 after the last one; calls use the slots above it */
     PLANNER_FRAME_BUSY = 4,    /* the busy slots of bridge 1 as a mask, slot 1 being the lowest bit; those of bridges 2 to 8 follow */
 
     /*
@@ -168,7 +173,8 @@ uint32_t planner_run_text(const uint8_t *text, size_t text_len,
  * holds and the call has no place at all.
  *
  * 0: the clock in the frame, the order of ties in force, or the table, is the new one, and *number is the clock t (of a clock), PLANNER_TIE_HOLD or PLANNER_TIE_PLACE (of a tie),
- * or how many refinement cells were lost (of a call). A call is placed by the order in force; on this frame it would cost the same under the other. No other place of the call
+ * or how many refinement cells were lost (of a call). A call is placed in the slots above the clock, and every cell of the slots up to it stays: the relays are thrown a slot ahead, so the slot
+ * that is about to begin is already lost to a call. It is placed by the order in force; on this frame it would cost the same under the other. No other place of the call
  * loses fewer, in all or among the presets of any one priority and better. Under a supply a lost cell may end empty while a job takes another bridge of its slot; it is lost and counted all
  * the same. (No frame is known where that happens in a table that this library planned and calls then changed; that there is none is not proved.) A running frame stays one, so that 11 is never met after it.
  * Else *number is 0, and nothing else changes.
@@ -180,7 +186,7 @@ uint32_t planner_event(uint64_t *frame, size_t frame_len,
                        uint64_t *number);
 
 /*
- * Plans a fresh frame, within the head's supply and by its order of ties. The clock and the order in force are not looked at. With frame[PLANNER_FRAME_CLOCK] = 1 and
+ * Plans a fresh frame, within the head's supply and by its order of ties. The clock and the order in force are not looked at. With frame[PLANNER_FRAME_CLOCK] = 0 and
  * frame[PLANNER_FRAME_TIE_NOW] = frame[PLANNER_FRAME_TIE], frame, presets and the table that is left are a running frame for planner_event, as planner_run_text would start it.
  *
  * Causes: 8 of the frame, the presets, the grants and the table; 2 of the head; 5. It is 5 exactly when no valid plan exists.
@@ -216,7 +222,7 @@ uint32_t planner_listing(const uint8_t *text, size_t text_len,
  *
  * 0: the masks at PLANNER_FRAME_BUSY are those of the rows, every other number of the frame is as it was, and *row is how many rows there are. No table is touched: one that was made
  * for the old busy times does not suit the new ones, and planner_event may meet 11 with it. Plan the frame again with planner_plan, which may meet 5,
- * and set the clock to 1 and the order of ties in force to the head's.
+ * and set the clock to 0 and the order of ties in force to the head's.
  * Else *row is the row at fault, counted from 1, 0 for 10, 8 and the head's 2, and nothing else changes.
  */
 uint32_t planner_read_rows(const uint8_t *text, size_t text_len,

@@ -103,7 +103,7 @@ static void measure(size_t i)
     }
 }
 
-/* Every function on one text; the last lines of it as single events too, on the frame that the whole text left, and at last its rows, written and read. */
+/* Every function on one text; its first events one by one too, on a fresh plan of its head, and at last its rows, written and read. */
 static void measure_text(void)
 {
     measure(3);
@@ -112,14 +112,15 @@ static void measure_text(void)
         return;
     }
     measure(2);
-    frame[PLANNER_FRAME_CLOCK] = 1;
+    frame[PLANNER_FRAME_CLOCK] = 0;
     size_t tried = 0;
     for (size_t at = 0; at < length && tried < 40; at += line_length) {
         const uint8_t *end = memchr(text + at, '\n', length - at);
         line = text + at;
         line_length = end == NULL ? length - at : (size_t)(end - line) + 1;
-        tried++;
         measure(1);
+        /* The head's own lines do not count: they are out of their place here, and nothing is placed for them. */
+        tried += answer != PLANNER_OUT_OF_PLACE;
     }
     measure(5);
     line = out;

@@ -40,6 +40,7 @@ pub struct Frame {
     bridges: usize,
     presets: Vec<Preset>,
     ranking: Vec<usize>,
+    /// From 0 to one past the last slot: it counts slots from 1.
     clock: usize,
     /// Whether the order of ties in force is hold.
     hold: bool,
@@ -60,7 +61,7 @@ pub struct Frame {
 }
 
 impl Frame {
-    /// Plans a head; yields the frame at clock 1, the head's order of ties in force, and the grants in file order.
+    /// Plans a head; yields the frame at clock 0, the head's order of ties in force, and the grants in file order.
     /// Refused: the mandatory slots are not feasible.
     pub fn plan(head: &Head) -> Result<(Self, [u8; PRESETS]), Refusal> {
         let mut frame = Frame::unplanned(head);
@@ -82,7 +83,7 @@ impl Frame {
         &self.table
     }
 
-    /// The slot that is about to begin.
+    /// The slot that is about to begin, which is too late for a call; 0 while a call can still use the first one.
     pub fn now(&self) -> usize {
         self.clock
     }
@@ -105,7 +106,7 @@ impl Frame {
     }
 
     pub fn clock(&mut self, clock: usize) -> Result<usize, Refusal> {
-        if !(1..=self.slots + 1).contains(&clock) {
+        if clock > self.slots + 1 {
             return Err(Refusal::OutOfLimits);
         }
         if clock < self.clock {
@@ -115,7 +116,7 @@ impl Frame {
         Ok(clock)
     }
 
-    /// Places a call from the clock on; yields how many optional cells it evicts.
+    /// Places a call above the clock; yields how many optional cells it evicts.
     pub fn call(&mut self, call: &Call) -> Result<u32, Refusal> {
         let jobs = call.jobs();
         let mut used = self.used;
@@ -146,7 +147,7 @@ impl Frame {
             bridges: head.bridges,
             presets: head.presets.clone(),
             ranking: head.ranking(),
-            clock: 1,
+            clock: 0,
             hold: head.hold,
             table: [EMPTY; CELLS],
             motors: head.motors() as u32,
@@ -206,10 +207,10 @@ impl Frame {
         evict(lengths, self.offers.only_in(ahead), &optional, &self.ranking)
     }
 
-    /// The slots from the clock on.
+    /// The slots above the clock. As bits count from 0, it is itself the position of the first of them.
     fn ahead(&self) -> u64 {
         let to_end = u64::MAX >> (SLOTS - self.slots);
-        to_end & u64::MAX.checked_shl(self.clock as u32 - 1).unwrap_or(0)
+        to_end & u64::MAX.checked_shl(self.clock as u32).unwrap_or(0)
     }
 
     /// Makes the evicted cells empty and counts them.

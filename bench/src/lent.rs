@@ -32,7 +32,8 @@ pub struct Lent {
 impl Lent {
     pub fn new(head: &Head) -> Self {
         let mut frame = vec![0; FRAME];
-        frame[..BUSY].copy_from_slice(&[head.slots as u64, head.bridges as u64, head.presets.len() as u64, 1]);
+        // The last of these is the clock, which starts at 0.
+        frame[..BUSY].copy_from_slice(&[head.slots as u64, head.bridges as u64, head.presets.len() as u64, 0]);
         frame[BUSY..][..BRIDGES].copy_from_slice(&head.busy);
         frame[SUPPLY] = u64::from(head.supply.unwrap_or(0));
         (frame[TIE], frame[TIE_NOW]) = (u64::from(head.hold), u64::from(head.hold));

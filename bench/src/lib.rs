@@ -13,9 +13,9 @@
 //! - [`planner`]: all of it, from a text to its listing;
 //! - [`rows`]: a head's busy stretches as rows of a spreadsheet, and [`lent`], the same over lent records.
 //!
-//! Beside them: [`texts`] makes station texts, rows and tables by seed, [`cap`] tells what a text's supply changes,
-//! [`proved`] calls the proved planner, [`loads`] holds the benchmark's inputs and [`sides`] gives both planners one shape
-//! for it.
+//! Beside them: [`texts`] makes station texts, rows and tables by seed, [`cap`] tells what a text's supply changes and
+//! [`own_slot`] what the clock's own slot would, [`proved`] calls the proved planner, [`loads`] holds the benchmark's inputs
+//! and [`sides`] gives both planners one shape for it.
 
 pub mod bits;
 pub mod cap;
@@ -24,6 +24,7 @@ pub mod head;
 pub mod lent;
 pub mod listing;
 pub mod loads;
+pub mod own_slot;
 pub mod placing;
 pub mod planner;
 pub mod proved;

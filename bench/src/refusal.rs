@@ -22,7 +22,7 @@ pub enum Refusal {
     TooMany = 9,
     /// A text above 32,768 bytes.
     TextTooLong = 10,
-    /// A table handed over that is not well-formed, or a clock outside the frame.
+    /// A table handed over that is not well-formed, or a clock outside its range.
     TableNotWellFormed = 11,
     /// A row that is not three decimal fields with CR LF.
     NoRow = 12,

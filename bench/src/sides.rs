@@ -184,7 +184,7 @@ fn running_call(frame: &mut Frame, jobs: &[Job]) -> u64 {
 }
 
 fn checked_call(head: &Head, table: &mut Table, jobs: &[Job]) -> u64 {
-    let mut frame = Frame::resume(head, table, 1, head.hold).expect("the loads are well-formed");
+    let mut frame = Frame::resume(head, table, 0, head.hold).expect("the loads are well-formed");
     let result = running_call(&mut frame, jobs);
     table.copy_from_slice(frame.table());
     result

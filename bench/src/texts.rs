@@ -3,6 +3,7 @@
 //!
 //! Each text has a kind, so that it can be told what a comparison has tried.
 
+mod clocks;
 mod damage;
 mod limits;
 mod numbers;
@@ -51,6 +52,8 @@ const KINDS: &[Kind] = &[
     Kind { name: "supply in place", weight: 6, make: supply::in_its_place },
     Kind { name: "supply anywhere", weight: 5, make: supply::anywhere },
     Kind { name: "supply damaged", weight: 4, make: supply::damaged },
+    Kind { name: "clock before call", weight: 12, make: clocks::before_calls },
+    Kind { name: "clock at its ends", weight: 6, make: clocks::at_their_ends },
     Kind { name: "huge number", weight: 5, make: numbers::huge_number },
     Kind { name: "bad number", weight: 4, make: numbers::bad_number },
     Kind { name: "length limit", weight: 1, make: limits::length_limit },
@@ -115,7 +118,8 @@ pub fn holds_in_head(text: &[u8]) -> bool {
 }
 
 /// The text with the order of ties by place throughout: a head's `(tie hold)` is gone, and in place of an event's stands one
-/// that changes nothing. So the two texts have different tables only by the order of ties; one without hold stays as it is.
+/// that changes nothing, `(clock 0)`: it is accepted where the clock is 0 already, and refused where it is not. So the two
+/// texts have different tables only by the order of ties; one without hold stays as it is.
 pub fn by_place(text: &[u8]) -> Vec<u8> {
     let (tied, tie) = (holds_in_head(text), tie_place(text));
     let lines = text.split_inclusive(|&byte| byte == b'\n').enumerate();

@@ -74,13 +74,19 @@ fn grants(head: &Head) -> Option<Vec<usize>> {
     Some(grants)
 }
 
-/// Slot and content of the optional cells from the clock on, in eviction order.
+/// Whether a slot, which counts from 0 in these tests, is above the clock, which counts slots from 1: a call uses no other.
+fn above(clock: usize, slot: usize) -> bool {
+    let number = slot + 1;
+    number > clock
+}
+
+/// Slot and content of the optional cells above the clock, in eviction order.
 fn candidates(head: &Head, frame: &Frame, clock: usize) -> Vec<(usize, u16)> {
     let mut cells = Vec::new();
     for &place in head.ranking().iter().rev() {
         let content = 3 * 256 + u16::from(head.presets[place].number);
-        let slots = (clock - 1..head.slots).rev().filter(|&slot| frame.row(slot).contains(&content));
-        cells.extend(slots.map(|slot| (slot, content)));
+        let has = |slot: &usize| above(clock, *slot) && frame.row(*slot).contains(&content);
+        cells.extend((0..head.slots).rev().filter(has).map(|slot| (slot, content)));
     }
     cells
 }
@@ -94,7 +100,7 @@ fn evicted(head: &Head, frame: &Frame, clock: usize, lengths: &[usize]) -> Optio
     let enough = |set: &Vec<usize>| {
         let set: Vec<(usize, u16)> = set.iter().map(|&cell| cells[cell]).collect();
         let rows = without(rows(frame), &set);
-        let free = |slot: usize| if slot + 1 < clock { 0 } else { free(&rows[slot], motors(head)) };
+        let free = |slot: usize| if above(clock, slot) { free(&rows[slot], motors(head)) } else { 0 };
         feasible(lengths, &(0..head.slots).map(free).collect::<Vec<_>>())
     };
     sets.into_iter().find(enough).map(|set| set.iter().map(|&cell| cells[cell]).collect())
@@ -115,13 +121,18 @@ struct Rule {
     hold: bool,
 }
 
-/// The rule by its definition: slot by slot from `from` on, the largest remaining times, as many as the free number says, take
-/// the lowest empty cells in ascending order; of equal ones, under hold, those with a cell in the slot just before come first,
-/// then the earlier. `content` says what the next cell of a task holds.
-fn fill(rows: &mut [Vec<u16>], from: usize, needs: &[usize], rule: Rule, mut content: impl FnMut(usize, usize) -> u16) {
+/// The rule by its definition: slot by slot, the largest remaining times, as many as the free number says, take the lowest empty
+/// cells in ascending order; of equal ones, under hold, those with a cell in the slot just before come first, then the earlier.
+/// `rows` are the slots that may be used, in sequence; `content` says what the next cell of a task holds.
+fn fill<'a>(
+    rows: impl Iterator<Item = &'a mut Vec<u16>>,
+    needs: &[usize],
+    rule: Rule,
+    mut content: impl FnMut(usize, usize) -> u16,
+) {
     let mut left = needs.to_vec();
     let mut before: Vec<usize> = Vec::new();
-    for row in &mut rows[from..] {
+    for row in rows {
         let mut order: Vec<usize> = (0..left.len()).filter(|&task| left[task] > 0).collect();
         order.sort_by_key(|&task| (usize::MAX - left[task], rule.hold && !before.contains(&task), task));
         order.truncate(free(row, rule.motors));
@@ -139,12 +150,16 @@ fn rows(frame: &Frame) -> Vec<Vec<u16>> {
     (0..frame.slots()).map(|slot| frame.row(slot).to_vec()).collect()
 }
 
+fn lengths(call: &Call) -> Vec<usize> {
+    call.jobs().iter().map(|job| usize::from(job.length)).collect()
+}
+
 /// The plan's table by the rule, the head's order of ties in force.
 fn plan_by_rule(head: &Head, grants: &[usize]) -> Vec<Vec<u16>> {
     let mut rows = unplanned(head);
     let mandatory = |task: usize| usize::from(head.presets[task].mandatory);
     let needs: Vec<usize> = grants.iter().enumerate().map(|(task, grant)| mandatory(task) + grant).collect();
-    fill(&mut rows, 0, &needs, Rule { motors: motors(head), hold: head.hold }, |task, cell| {
+    fill(rows.iter_mut(), &needs, Rule { motors: motors(head), hold: head.hold }, |task, cell| {
         let kind = if cell < mandatory(task) { 2 } else { 3 };
         kind * 256 + u16::from(head.presets[task].number)
     });
@@ -154,20 +169,20 @@ fn plan_by_rule(head: &Head, grants: &[usize]) -> Vec<Vec<u16>> {
 /// The call's table by the rule, after the evicted cells are gone.
 fn call_by_rule(before: &Frame, clock: usize, rule: Rule, evicted: &[(usize, u16)], call: &Call) -> Vec<Vec<u16>> {
     let mut rows = without(rows(before), evicted);
-    let lengths: Vec<usize> = call.jobs().iter().map(|job| usize::from(job.length)).collect();
-    fill(&mut rows, clock - 1, &lengths, rule, |job, _| 4 * 256 + u16::from(call.jobs()[job].number));
+    let usable = rows.iter_mut().enumerate().filter(|(slot, _)| above(clock, *slot)).map(|(_, row)| row);
+    fill(usable, &lengths(call), rule, |job, _| 4 * 256 + u16::from(call.jobs()[job].number));
     rows
 }
 
-/// Whether the table after the call is the one before without these cells, and with the jobs in empty ones. An evicted cell
-/// may be empty then.
-fn placed(before: &Frame, after: &Frame, evicted: &[(usize, u16)], call: &Call) -> bool {
+/// Whether the table after the call is the one before without these cells, and with the jobs in empty ones above the clock. An
+/// evicted cell may be empty then.
+fn placed(clock: usize, before: &Frame, after: &Frame, evicted: &[(usize, u16)], call: &Call) -> bool {
     let mut count = [0; 256];
     for slot in 0..before.slots() {
         for (&old, &new) in before.row(slot).iter().zip(after.row(slot)) {
             let gone = evicted.contains(&(slot, old));
             if new >> 8 == 4 && old != new {
-                assert!(old == 0 || gone);
+                assert!(above(clock, slot) && (old == 0 || gone));
                 count[usize::from(new & 255)] += 1;
             } else if new != old && !(gone && new == 0) {
                 return false;
@@ -190,25 +205,40 @@ struct Seen {
     held: usize,
     /// Plans and calls whose table would be another if there were a motor for each bridge.
     capped: usize,
+    /// Calls that would be answered or placed otherwise if they could use the clock's own slot.
+    too_late: usize,
     /// Evicted cells that end empty.
     left_empty: usize,
 }
 
 /// The clock and the order of ties in force, kept from the lines themselves and not taken from the planner under test.
 struct Kept {
+    slots: usize,
     clock: usize,
     hold: bool,
 }
 
 impl Kept {
     fn start(head: &Head) -> Self {
-        Kept { clock: 1, hold: head.hold }
+        Kept { slots: head.slots, clock: 0, hold: head.hold }
+    }
+
+    /// What a clock line is answered: outside 0 to S + 1 it meets 2, and after that, below the present clock, 6.
+    fn clock_answer(&self, t: usize) -> Result<Answer, Refusal> {
+        match t {
+            _ if t > self.slots + 1 => Err(Refusal::OutOfLimits),
+            _ if t < self.clock => Err(Refusal::ClockBack),
+            _ => Ok(Answer::Now(t)),
+        }
     }
 
     /// A clock that is not refused, and every tie.
     fn keep(&mut self, form: Option<Form>, answer: Result<Answer, Refusal>) {
         match form {
-            Some(Form::Clock(t)) if answer.is_ok() => self.clock = usize::from(t),
+            Some(Form::Clock(t)) => {
+                assert_eq!(answer, self.clock_answer(usize::from(t)));
+                self.clock = answer.map_or(self.clock, |_| usize::from(t));
+            }
             Some(Form::Tie { hold }) => {
                 assert_eq!(answer, Ok(Answer::Tie { hold }));
                 self.hold = hold;
@@ -262,21 +292,31 @@ fn follow_call(head: &Head, kept: &Kept, call: &Call, step: Step, seen: &mut See
     if !tried || candidates(head, before, kept.clock).len() > MOST_CELLS {
         return;
     }
-    let lengths: Vec<usize> = call.jobs().iter().map(|job| usize::from(job.length)).collect();
-    let cells = evicted(head, before, kept.clock, &lengths);
+    let cells = evicted(head, before, kept.clock, &lengths(call));
     assert_eq!(answer.ok(), cells.as_ref().map(|cells| Answer::Taken(cells.len() as u32)));
+    seen.too_late += usize::from(too_late(head, kept, call, before, after));
     let Some(cells) = cells else {
         seen.refused += 1;
         return;
     };
     seen.accepted[cells.len()] += 1;
-    assert!(placed(before, after, &cells, call));
+    assert!(placed(kept.clock, before, after, &cells, call));
     let by_rule = |motors, hold| call_by_rule(before, kept.clock, Rule { motors, hold }, &cells, call);
     let motors = motors(head);
     assert_eq!(rows(after), by_rule(motors, kept.hold));
     seen.held += usize::from(rows(after) != by_rule(motors, false));
     seen.capped += usize::from(rows(after) != by_rule(8, kept.hold));
     seen.left_empty += left_empty(before, after);
+}
+
+/// Whether the call would leave another table if the clock's own slot were above the clock. A refused one leaves the table.
+fn too_late(head: &Head, kept: &Kept, call: &Call, before: &Frame, after: &Frame) -> bool {
+    let Some(clock) = kept.clock.checked_sub(1) else {
+        return false;
+    };
+    let rule = Rule { motors: motors(head), hold: kept.hold };
+    let cells = evicted(head, before, clock, &lengths(call));
+    cells.is_some_and(|cells| call_by_rule(before, clock, rule, &cells, call) != rows(after))
 }
 
 /// The optional cells that are empty now.
@@ -292,10 +332,12 @@ fn small_frames_follow_the_definitions() {
     for seed in 0..10_000 {
         follow(&Station::new(&mut Rng::new(seed), size).bytes(), &mut seen);
     }
-    let Seen { refused, accepted, held, capped, left_empty } = seen;
+    let Seen { refused, accepted, held, capped, too_late, left_empty } = seen;
     println!("refused {refused}, accepted by evicted cells {accepted:?}, {held} otherwise by the order of ties");
-    println!("{capped} otherwise by the supply, {left_empty} evicted cells end empty");
+    println!("{capped} otherwise by the supply, {too_late} otherwise with the clock's own slot");
+    println!("{left_empty} evicted cells end empty");
     assert!(refused > 1_000 && accepted[..5].iter().all(|&calls| calls > 100) && held > 300 && capped > 500);
+    assert!(too_late > 1_000);
     // A plan takes the lowest bridges of a slot, so that jobs, which do so too, fill the evicted ones first.
     assert_eq!(left_empty, 0);
 }
@@ -306,8 +348,8 @@ fn follow_lent(rng: &mut Rng, station: &Station, seen: &mut Seen) {
     let Some(table) = table(rng, &head) else {
         return;
     };
-    let clock = if rng.chance(70) { 1 } else { rng.within(1..=head.slots) };
-    let kept = Kept { clock, hold: rng.chance(50) };
+    let clock = if rng.chance(70) { 0 } else { rng.within(1..=head.slots + 1) };
+    let kept = Kept { clock, hold: rng.chance(50), ..Kept::start(&head) };
     let mut frame = resumed(&head, &table, &kept);
     for event in station.events.iter().filter(|event| event.starts_with("(call")) {
         let line = lines(format!("{event}\n").as_bytes()).next().expect("a line");
@@ -337,10 +379,12 @@ fn lent_tables_follow_the_definitions() {
         }
         follow_lent(&mut rng, &station, &mut seen);
     }
-    let Seen { refused, accepted, held, capped, left_empty } = seen;
+    let Seen { refused, accepted, held, capped, too_late, left_empty } = seen;
     println!("refused {refused}, accepted by evicted cells {accepted:?}, {held} otherwise by the order of ties");
-    println!("{capped} otherwise by the supply, {left_empty} evicted cells end empty");
+    println!("{capped} otherwise by the supply, {too_late} otherwise with the clock's own slot");
+    println!("{left_empty} evicted cells end empty");
     assert!(refused > 1_000 && accepted[..4].iter().all(|&calls| calls > 100) && capped > 500 && left_empty > 500);
+    assert!(too_late > 1_000);
 }
 
 /// The optional cells that are gone: of every one its slot and content.
@@ -393,8 +437,8 @@ fn a_table_at_fault_is_not_resumed() {
     let (mut frame, _) = Frame::plan(&head).expect("a feasible head");
     lines.for_each(|line| assert!(frame.event(line.form).is_ok()));
     let table = *frame.table();
+    assert!(Frame::resume(&head, &table, 0, false).is_ok());
     assert!(Frame::resume(&head, &table, 4, true).is_ok());
-    assert!(Frame::resume(&head, &table, 0, false).is_err());
     assert!(Frame::resume(&head, &table, 5, false).is_err());
     // Cells: m7 c9 / o7 - / o7 0.
     for (cell, content) in [
@@ -418,6 +462,6 @@ fn a_table_at_fault_is_not_resumed() {
     ] {
         let mut changed = table;
         changed[cell] = content;
-        assert!(Frame::resume(&head, &changed, 1, false).is_err(), "{cell} {content}");
+        assert!(Frame::resume(&head, &changed, 0, false).is_err(), "{cell} {content}");
     }
 }

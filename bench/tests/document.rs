@@ -111,7 +111,8 @@ fn heads_at_fault() {
 #[test]
 fn events_at_fault() {
     for (event, cause) in [
-        ("(clock 0)", 2),
+        ("(clock 0)", 6),
+        ("(clock 6)", 2),
         ("(call (1 1) (2 1) (3 1) (4 1) (5 1) (6 1) (7 1) (8 1) (9 1))", 2),
         ("(call)", 1),
         ("(call ())", 1),

@@ -140,7 +140,7 @@ fn follow(rng: &mut Rng, text: &[u8], seen: &mut Seen) {
         return;
     };
     // The order in force need not be the head's.
-    let frame = Frame::resume(&head, planned.table(), 1, rng.chance(50)).expect("a plan is well-formed");
+    let frame = Frame::resume(&head, planned.table(), 0, rng.chance(50)).expect("a plan is well-formed");
     follow_events(rng, text, &head, frame, seen);
 }
 
@@ -189,7 +189,7 @@ fn events_on_tables_that_no_text_leaves() {
         let text = station.bytes();
         let head = read_head(&text).expect("the station's head is good");
         if let Some(table) = table(&mut rng, &head) {
-            let clock = if rng.chance(60) { 1 } else { rng.within(1..=head.slots + 1) };
+            let clock = if rng.chance(60) { 0 } else { rng.within(1..=head.slots + 1) };
             let frame = Frame::resume(&head, &table, clock, rng.chance(50)).expect("the table is well-formed");
             follow_events(&mut rng, &text, &head, frame, &mut seen);
         }
@@ -197,6 +197,15 @@ fn events_on_tables_that_no_text_leaves() {
     let Seen { events, evicting, left_empty, .. } = seen;
     println!("{events} events, {evicting} of them evicting; {left_empty} evicted cells end empty");
     assert!(events > 10_000 && evicting > 1_000 && left_empty > 300);
+}
+
+/// The records of a head with these cells, its order of ties in force.
+fn lent(head: &str, clock: u64, cells: &str) -> Running {
+    let Lent { frame, presets } = Lent::new(&read_head(head.as_bytes()).expect("a good head"));
+    let (frame, presets) = (frame.try_into().expect("16 numbers"), presets.try_into().expect("32 records"));
+    let mut running = Running { frame, presets, table: shown(cells) };
+    running.frame[CLOCK] = clock;
+    running
 }
 
 /// The frames that request 2026-03 lends: line by line the answer and the cells that are left.
@@ -210,11 +219,51 @@ fn an_evicted_cell_may_end_empty() {
         (wide, "c9 0 o1 | c7 c8 0", "(call (10 1))\n", Ok(1), "c9 c10 0 | c7 c8 0"),
         (wide, "c9 c10 0 | c7 c8 0", "(call (11 1))\n", Err(7), "c9 c10 0 | c7 c8 0"),
     ] {
-        let Lent { frame, presets } = Lent::new(&read_head(head.as_bytes()).expect("a good head"));
-        let (frame, presets) = (frame.try_into().expect("16 numbers"), presets.try_into().expect("32 records"));
-        let mut running = Running { frame, presets, table: shown(cells) };
+        let mut running = lent(head, 0, cells);
         assert_eq!(proved::event(&mut running, line.as_bytes()), answer, "{cells} {line}");
         assert_eq!(running.table, shown(left), "{cells} {line}");
+    }
+}
+
+/// The frames of request 2026-05: at which clock which line is answered what, and leaves which cells. A job in the clock's own
+/// slot or below is no fault.
+#[test]
+fn a_call_uses_slots_above_the_clock() {
+    let (one, two) = ("(frame 2 1)\n", "(frame 2 2)\n(busy 2 (2 2))\n(preset 1 0 0 2)\n");
+    for (head, clock, cells, line, answer, left) in [
+        (one, 0, "0 | 0", "(call (9 2))\n", Ok(0), "c9 | c9"),
+        (one, 1, "0 | 0", "(call (9 2))\n", Err(7), "0 | 0"),
+        (one, 1, "0 | 0", "(call (9 1))\n", Ok(0), "0 | c9"),
+        (one, 1, "c7 | 0", "(call (9 1))\n", Ok(0), "c7 | c9"),
+        (one, 2, "c7 | 0", "(call (9 1))\n", Err(7), "c7 | 0"),
+        (one, 3, "c7 | 0", "(call (9 1))\n", Err(7), "c7 | 0"),
+        (one, 1, "c7 | 0", "(call (7 1))\n", Err(4), "c7 | 0"),
+        (two, 0, "o1 0 | o1 -", "(call (9 1))\n", Ok(0), "o1 c9 | o1 -"),
+        (two, 1, "o1 0 | o1 -", "(call (9 1))\n", Ok(1), "o1 0 | c9 -"),
+        (two, 2, "o1 0 | o1 -", "(call (9 1))\n", Err(7), "o1 0 | o1 -"),
+    ] {
+        let mut running = lent(head, clock, cells);
+        assert_eq!(proved::event(&mut running, line.as_bytes()), answer, "{clock} {cells} {line}");
+        assert_eq!(running, lent(head, clock, left), "{clock} {cells} {line}");
+    }
+}
+
+#[test]
+fn a_clock_has_its_range() {
+    for (clock, line, answer) in [
+        (0, "(clock 0)\n", Ok(0)),
+        (0, "(clock 3)\n", Ok(3)),
+        (0, "(clock 4)\n", Err(2)),
+        (0, "(clock 4294967296)\n", Err(2)),
+        (1, "(clock 0)\n", Err(6)),
+        (1, "(clock 1)\n", Ok(1)),
+        (3, "(clock 2)\n", Err(6)),
+        (3, "(clock 3)\n", Ok(3)),
+        (3, "(clock 4)\n", Err(2)),
+    ] {
+        let mut running = lent("(frame 2 1)\n", clock, "c7 | 0");
+        assert_eq!(proved::event(&mut running, line.as_bytes()), answer, "{clock} {line}");
+        assert_eq!(running, lent("(frame 2 1)\n", answer.unwrap_or(clock), "c7 | 0"), "{clock} {line}");
     }
 }
 
@@ -232,7 +281,7 @@ const WHOLE: [usize; 3] = [16, PRESET_BYTES, CELLS];
 /// A frame of two slots and one bridge without presets, and tie lines that would change its order.
 fn small_frames() -> [(Running, &'static [u8]); 2] {
     let mut running = Running { frame: [0; 16], presets: [0; PRESET_BYTES], table: [0; CELLS] };
-    running.frame[..=CLOCK].copy_from_slice(&[2, 1, 0, 1]);
+    running.frame[..=CLOCK].copy_from_slice(&[2, 1, 0, 0]);
     let mut holding = running.clone();
     holding.frame[TIE_NOW] = 1;
     [(running, b"(tie hold)\n"), (holding, b"(tie place)\n")]
@@ -241,11 +290,15 @@ fn small_frames() -> [(Running, &'static [u8]); 2] {
 /// No text yields a head with such a supply, not even one whose lower half or lowest byte would do.
 const NO_SUPPLY: [u64; 6] = [9, 64, 256 + 2, (1 << 32) + 1, 1 << 63, u64::MAX];
 
+/// Of a frame of two slots; the lower half or the lowest byte of some would do.
+const NO_CLOCK: [u64; 6] = [4, 64, 256, 1 << 32, (1 << 32) + 1, u64::MAX];
+
 /// A tie has no cause of its own, yet it meets 2 and 11 of what is lent.
 #[test]
 fn a_tie_on_a_frame_at_fault_is_refused() {
-    let faults = [(0, 0, 2), (0, 65, 2), (1, 9, 2), (2, 33, 2), (BUSY, 4, 2), (CLOCK, 0, 11), (CLOCK, 4, 11)];
-    for (place, number, cause) in faults.into_iter().chain(NO_SUPPLY.map(|motors| (SUPPLY, motors, 2))) {
+    let faults = [(0, 0, 2), (0, 65, 2), (1, 9, 2), (2, 33, 2), (BUSY, 4, 2)];
+    let (supplies, clocks) = (NO_SUPPLY.map(|motors| (SUPPLY, motors, 2)), NO_CLOCK.map(|clock| (CLOCK, clock, 11)));
+    for (place, number, cause) in faults.into_iter().chain(supplies).chain(clocks) {
         let answers = small_frames().map(|(mut running, line)| {
             running.frame[place] = number;
             refused(&running, WHOLE, line)
@@ -263,7 +316,7 @@ fn a_tie_on_a_frame_at_fault_is_refused() {
 #[test]
 fn a_table_beyond_the_supply_is_refused() {
     let (jobs, line) = ([4 * 256 + 7, 4 * 256 + 8], b"(clock 3)\n");
-    for (slot, clock) in [(0, 1), (1, 1), (0, 2), (0, 3), (1, 3)] {
+    for (slot, clock) in [(0, 0), (1, 0), (0, 1), (1, 1), (0, 2), (0, 3), (1, 3)] {
         let mut running = Running { frame: [0; 16], presets: [0; PRESET_BYTES], table: [0; CELLS] };
         running.frame[..=CLOCK].copy_from_slice(&[2, 2, 0, clock]);
         running.table[2 * slot..][..2].copy_from_slice(&jobs);
@@ -280,7 +333,7 @@ fn a_table_beyond_the_supply_is_refused() {
 fn a_plan_for_no_supply_is_refused() {
     for motors in NO_SUPPLY {
         let mut running = noise(&mut Rng::new(motors));
-        running.frame[..=CLOCK].copy_from_slice(&[2, 1, 0, 1]);
+        running.frame[..CLOCK].copy_from_slice(&[2, 1, 0]);
         running.frame[BUSY..SUPPLY].fill(0);
         running.frame[SUPPLY] = motors;
         let (expected, mut grants) = (running.clone(), [7; proved::GRANTS]);
@@ -295,7 +348,7 @@ fn a_tie_on_records_too_short_is_refused() {
     for lengths in [[15, PRESET_BYTES, CELLS], [16, PRESET_BYTES - 1, CELLS], [16, PRESET_BYTES, CELLS - 1], [0; 3]] {
         let answers = small_frames().map(|(mut running, line)| {
             let short = refused(&running, lengths, line);
-            running.frame[CLOCK] = 0;
+            running.frame[CLOCK] = u64::MAX;
             running.frame[0] = 65;
             [short, refused(&running, lengths, line), refused(&running, WHOLE, line)]
         });

@@ -1,6 +1,6 @@
 //! Tiny frames under a supply held against every placement there is: what is refused has none, what is accepted is one, and
-//! none of them grants more or loses less. Every table is tried by the words of the scope document and request 2026-03, not by
-//! the planner's own check.
+//! none of them grants more or loses less. Every table is tried by the words of the scope document and of requests 2026-03 and
+//! 2026-05, not by the planner's own check.
 
 use bench::frame::{Answer, Frame, Table};
 use bench::head::{self, Head};
@@ -120,17 +120,23 @@ fn lost(before: &Rows, after: &Rows, head: &Head) -> [usize; 10] {
     })
 }
 
-/// One call against every table valid for it; yields how it ends.
-fn try_call(head: &Head, frame: &mut Frame, call: &Call) -> Result<Answer, Refusal> {
+/// Whether a slot, which counts from 0 in these tests, is above the clock, which counts slots from 1.
+fn above(clock: usize, slot: usize) -> bool {
+    let number = slot + 1;
+    number > clock
+}
+
+/// One call at this clock against every table valid for it; yields how it ends.
+fn try_call(head: &Head, clock: usize, frame: &mut Frame, call: &Call) -> Result<Answer, Refusal> {
     let before = rows(frame);
-    let clock = frame.now();
     let answer = frame.event(Some(Form::Call(Some(*call))));
     if !matches!(answer, Ok(_) | Err(Refusal::CallInfeasible)) {
         return answer;
     }
     let jobs: Vec<u16> = call.jobs().iter().map(|job| cell(CALL, job.number)).collect();
+    // Up to the clock, its own slot included, every cell stays.
     let choices = |slot: usize, old: u16| match kind(old) {
-        _ if slot + 1 < clock => vec![old],
+        _ if !above(clock, slot) => vec![old],
         0 => [&[0], &jobs[..]].concat(),
         OPTIONAL => [&[old, 0], &jobs[..]].concat(),
         _ => vec![old],
@@ -184,8 +190,7 @@ fn plans_against_every_placement() {
 }
 
 /// The frames that a station's calls are tried on: its plan, and a table that no text need have left.
-fn frames(rng: &mut Rng, head: &Head) -> Vec<Frame> {
-    let clock = if rng.chance(70) { 1 } else { rng.within(1..=head.slots + 1) };
+fn frames(rng: &mut Rng, head: &Head, clock: usize) -> Vec<Frame> {
     let resumed = |table: &Table| Frame::resume(head, table, clock, head.hold).expect("a well-formed table");
     let planned = Frame::plan(head).ok().map(|(frame, _)| resumed(frame.table()));
     planned.into_iter().chain(table(rng, head).as_ref().map(resumed)).collect()
@@ -197,14 +202,15 @@ fn calls_against_every_placement() {
     for seed in 0..6_000 {
         let station = tiny(seed);
         let head = head_of(&station);
-        for mut frame in frames(&mut rng, &head) {
+        let clock = if rng.chance(70) { 0 } else { rng.within(1..=head.slots + 1) };
+        for mut frame in frames(&mut rng, &head, clock) {
             for line in lines(&station.bytes()).skip(head.lines as usize) {
                 // Three jobs at most: more would take too long.
                 let Some(Form::Call(Some(call))) = line.form else {
                     continue;
                 };
                 if call.jobs().len() <= 3 {
-                    let answer = try_call(&head, &mut frame, &call);
+                    let answer = try_call(&head, clock, &mut frame, &call);
                     calls += 1;
                     refused += usize::from(answer == Err(Refusal::CallInfeasible));
                     evicting += usize::from(matches!(answer, Ok(Answer::Taken(1..))));

@@ -79,7 +79,7 @@ fn head(text: &str) -> Head {
 }
 
 fn resumed(text: &str, cells: &str) -> Result<Frame, Refusal> {
-    Frame::resume(&head(text), &shown(cells), 1, false)
+    Frame::resume(&head(text), &shown(cells), 0, false)
 }
 
 fn call(frame: &mut Frame, number: u8, length: u8) -> Result<u32, Refusal> {

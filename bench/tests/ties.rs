@@ -31,7 +31,7 @@ fn the_slot_just_before_and_no_other() {
     let text = "(frame 4 1)\n(tie hold)\n(preset 1 0 2 0)\n(preset 2 0 2 0)\n";
     assert_eq!(cells(text), ["m1", "m2", "m2", "m1"]);
     // Jobs of an earlier call, and presets, hold nothing for the jobs of a call.
-    let text = "(frame 4 2)\n(tie hold)\n(busy 2 (1 2))\n(preset 7 0 1 0)\n(clock 2)\n(call (1 1) (2 1))\n";
+    let text = "(frame 4 2)\n(tie hold)\n(busy 2 (1 2))\n(preset 7 0 1 0)\n(clock 1)\n(call (1 1) (2 1))\n";
     assert_eq!(cells(text), ["m7 -", "c1 -", "c2 0", "0 0"]);
 }
 
@@ -72,8 +72,8 @@ fn an_event_holds_for_later_calls() {
 /// An order holds until the next tie line: neither a call nor a clock ends it, taken or refused.
 #[test]
 fn an_event_holds_for_all_later_calls() {
-    let events = "(call (1 1) (2 2))\n(clock 4)\n(clock 9)\n(call (3 1) (4 2))\n";
-    let rest = ["(taken 0)", "(now 4)", "(refused 6 2)", "(taken 0)"];
+    let events = "(call (1 1) (2 2))\n(clock 3)\n(clock 9)\n(call (3 1) (4 2))\n";
+    let rest = ["(taken 0)", "(now 3)", "(refused 6 2)", "(taken 0)"];
     for (second, tie, slots) in [
         // Line 2 is of the head. Against the head's order, either way.
         ("(preset 9 0 0 0)", "(tie hold)", ["c2", "c2", "c1", "c4", "c4", "c3"]),
@@ -94,7 +94,7 @@ fn a_refused_line_leaves_the_order() {
         ("(tie Hold)", 1),
         ("(tie place )", 1),
         ("", 1),
-        ("(clock 0)", 2),
+        ("(clock 5)", 2),
         ("(call (9 65))", 2),
         ("(frame 1 1)", 3),
         ("(busy 1 (1 1))", 3),

@@ -25,7 +25,7 @@ static size_t line_length(const uint8_t *line, size_t left)
     return end == NULL ? left : (size_t)(end - line) + 1;
 }
 
-/* Whether a line has an event's form, whatever its values: a frame of one slot and one bridge is asked. */
+/* Whether a line has an event's form, whatever its values: a frame of one slot and one bridge is asked, at clock 0, the first. */
 static int is_event(const uint8_t *line, size_t length)
 {
     uint64_t small[PLANNER_FRAME_NUMBERS] = {0};
@@ -33,7 +33,6 @@ static int is_event(const uint8_t *line, size_t length)
     uint64_t number = 0;
     small[PLANNER_FRAME_SLOTS] = 1;
     small[PLANNER_FRAME_BRIDGES] = 1;
-    small[PLANNER_FRAME_CLOCK] = 1;
     uint32_t cause = planner_event(small, PLANNER_FRAME_NUMBERS, presets, sizeof presets, empty, PLANNER_TABLE_CELLS, line, length, &number);
     empty[0] = 0;
     return cause != PLANNER_NO_FORM && cause != PLANNER_OUT_OF_PLACE;

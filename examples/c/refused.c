@@ -8,7 +8,7 @@
 
 static const char call[] = "(call (5 1))\n";
 
-/* A running frame of two slots and one bridge, without presets. */
+/* A running frame of two slots and one bridge, without presets, at clock 0, the first. */
 static uint64_t frame[PLANNER_FRAME_NUMBERS];
 static uint8_t presets[PLANNER_PRESETS_BYTES];
 static planner_cell table[PLANNER_TABLE_CELLS];
@@ -19,7 +19,6 @@ static void begin(void)
     memset(table, 0, sizeof table);
     frame[PLANNER_FRAME_SLOTS] = 2;
     frame[PLANNER_FRAME_BRIDGES] = 1;
-    frame[PLANNER_FRAME_CLOCK] = 1;
 }
 
 /* The answer to the call, with a frame and a table of so many numbers and cells. */
@@ -43,8 +42,8 @@ int main(void)
     frame[PLANNER_FRAME_SUPPLY] = PLANNER_MAX_MOTORS + 1;
     answer("a supply of 9 motors", PLANNER_FRAME_NUMBERS, PLANNER_TABLE_CELLS);
     begin();
-    frame[PLANNER_FRAME_CLOCK] = 0;
-    answer("the clock at 0", PLANNER_FRAME_NUMBERS, PLANNER_TABLE_CELLS);
+    frame[PLANNER_FRAME_CLOCK] = 4;
+    answer("the clock at 4 in a frame of two slots", PLANNER_FRAME_NUMBERS, PLANNER_TABLE_CELLS);
     begin();
     table[0] = PLANNER_CELL_REQUIRED * 256 + 1;
     answer("a required cell of a preset that is not there", PLANNER_FRAME_NUMBERS, PLANNER_TABLE_CELLS);

@@ -51,7 +51,7 @@ static void print_rows(void)
 /* An event shows that the frame runs; the first clock changes nothing in it. */
 static void print_start(void)
 {
-    static const char line[] = "(clock 1)\n";
+    static const char line[] = "(clock 0)\n";
     uint64_t now = 0;
     uint32_t cause = planner_event(frame, PLANNER_FRAME_NUMBERS, presets, sizeof presets, table, PLANNER_TABLE_CELLS, (const uint8_t *)line, strlen(line), &now);
     if (cause != PLANNER_ACCEPTED) {
@@ -72,7 +72,7 @@ static void plan_anew(size_t length)
     }
     /* The table was made for the old busy times: a new plan, at the first clock and with the head's order of ties in force, makes a running frame of it again. */
     uint8_t grants[PLANNER_GRANTS_BYTES] = {0};
-    frame[PLANNER_FRAME_CLOCK] = 1;
+    frame[PLANNER_FRAME_CLOCK] = 0;
     frame[PLANNER_FRAME_TIE_NOW] = frame[PLANNER_FRAME_TIE];
     cause = planner_plan(frame, PLANNER_FRAME_NUMBERS, presets, sizeof presets, table, PLANNER_TABLE_CELLS, grants, sizeof grants);
     if (cause != PLANNER_ACCEPTED) {

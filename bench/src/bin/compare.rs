@@ -1,5 +1,5 @@
 //! Compares the two planners on texts made by seed, every byte of what they print. Says too how much the texts ask for:
-//! the causes that they meet, and how often the order of ties and the supply make a difference.
+//! the causes that they meet, and how often the order of ties, the supply and the clock's own slot make a difference.
 //!
 //! `compare [texts] [first seed]`: 100,000 texts from seed 0 unless told otherwise. Exit status 1 on any difference.
 
@@ -9,6 +9,7 @@ use std::process::ExitCode;
 use bench::cap::{felt, Felt};
 use bench::frame::CELLS;
 use bench::head::Head;
+use bench::own_slot::{missed, Missed};
 use bench::rows::read_head;
 use bench::texts::{by_place, holds_in_head, kinds, text, Text};
 use bench::{planner, proved};
@@ -36,6 +37,9 @@ struct Tally {
     held: u64,
     held_otherwise: u64,
     supply: Supply,
+    /// Of the texts whose head is accepted: those with calls that miss the clock's own slot, and these calls.
+    missing: u64,
+    missed: Missed,
 }
 
 /// The texts whose head has a supply and no line at fault: what it is, and where it makes the difference.
@@ -146,6 +150,7 @@ impl Tally {
         self.lines -= 1;
         if !refused_head {
             self.add_ties(&text.bytes, listing);
+            self.add_own_slot(&text.bytes);
         }
         self.add_supply(&text.bytes);
     }
@@ -157,6 +162,12 @@ impl Tally {
         if let (Some(motors), Some(felt)) = (head.supply, felt(text)) {
             self.supply.add(&head, motors, felt);
         }
+    }
+
+    fn add_own_slot(&mut self, text: &[u8]) {
+        let missed = missed(text).expect("the head is accepted");
+        self.missing += u64::from(missed != Missed::default());
+        self.missed.add(missed);
     }
 
     fn add_ties(&mut self, text: &[u8], listing: &[u8]) {
@@ -196,6 +207,14 @@ fn report_supply(tallies: &[(&str, Tally)]) {
     println!("by it {evicting} calls evict more cells of the table that they find and {without} meet 7");
 }
 
+fn report_own_slot(tallies: &[(&str, Tally)]) {
+    let total = |field: fn(&Tally) -> u64| tallies.iter().map(|(_, tally)| field(tally)).sum::<u64>();
+    let (texts, without) = (total(|t| t.missing), total(|t| t.missed.without_place));
+    let (otherwise, evicting) = (total(|t| t.missed.placed_otherwise), total(|t| t.missed.evicting_more));
+    println!("in {texts} texts there are calls that would end otherwise if they could use the clock's own slot:");
+    println!("without it {without} meet 7, {otherwise} leave another table and {evicting} of these evict more cells");
+}
+
 fn report(tallies: &[(&str, Tally)]) -> ExitCode {
     let total = |field: fn(&Tally) -> u64| tallies.iter().map(|(_, tally)| field(tally)).sum::<u64>();
     println!("{:<18}{:>9}{:>14}{:>12}{:>10}", "kind of text", "texts", "heads taken", "lines out", "differ");
@@ -217,6 +236,7 @@ fn report(tallies: &[(&str, Tally)]) -> ExitCode {
     println!("of {heads} texts whose head is accepted {tied_heads} have (tie hold) in it, {held} have it anywhere;");
     println!("{otherwise} of these have another table under place");
     report_supply(tallies);
+    report_own_slot(tallies);
     let (texts, bytes, lines) = (total(|t| t.texts), total(|t| t.bytes), total(|t| t.lines));
     let different = total(|t| t.different);
     println!("{texts} texts of {bytes} bytes, {lines} lines of output: {different} differ");

@@ -1,5 +1,6 @@
 //! A frame from a table, a clock and an order of ties handed over by somebody else. Nothing is taken on trust: the table
-//! must be well-formed for the head, in no slot beyond its supply, else `TableNotWellFormed`; any order of ties will do.
+//! must be well-formed for the head, in no slot beyond its supply, and the clock from 0 to one past the last slot, else
+//! `TableNotWellFormed`; any order of ties will do, and calls may have cells in any slot, those up to the clock too.
 
 use super::{Frame, Table, BUSY, CALL, EMPTY, JOBS, MANDATORY, OPTIONAL};
 use crate::head::{Head, PRESETS};
@@ -8,9 +9,9 @@ use crate::refusal::Refusal;
 impl Frame {
     pub fn resume(head: &Head, table: &Table, clock: usize, hold: bool) -> Result<Self, Refusal> {
         let mut frame = Frame::unplanned(head);
-        let in_frame = (1..=head.slots + 1).contains(&clock);
+        let in_range = clock <= head.slots + 1;
         let mut check = Check::new(&frame);
-        if !in_frame || !(0..head.slots).all(|slot| check.row(&mut frame, table, slot)) || !check.complete(&frame) {
+        if !in_range || !(0..head.slots).all(|slot| check.row(&mut frame, table, slot)) || !check.complete(&frame) {
             return Err(Refusal::TableNotWellFormed);
         }
         frame.clock = clock;

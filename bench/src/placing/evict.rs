@@ -8,7 +8,7 @@ pub type Evicted = [u64; PRESETS];
 
 /// The cells that a call evicts, or None if it is not feasible even with all of them gone.
 ///
-/// `offers` and `optional` (the slots of each preset's optional cells) hold only slots from the clock on.
+/// `offers` and `optional` (the slots of each preset's optional cells) hold only slots above the clock.
 ///
 /// What a call lacks is the largest excess, over r, of its r largest jobs over the capacity for r. One more bridge in
 /// a slot that offers k raises the capacity for every r above k, so it lessens the lack exactly if k is below the

@@ -114,7 +114,8 @@ fn many_jobs_call(rng: &mut Rng, station: &mut Station, count: usize) -> String 
     format!("(call {})", jobs.join(" "))
 }
 
-/// One-slot jobs on a wide frame until the 65th is refused; the clock moves on, since jobs in past slots count.
+/// One-slot jobs on a wide frame until the 65th is refused; the clock moves on, since jobs in past slots count, but leaves the
+/// last slot to the calls.
 pub fn many_jobs(rng: &mut Rng) -> Vec<u8> {
     let mut station = Station::head_only(rng, LARGE);
     if rng.chance(70) {
@@ -125,7 +126,7 @@ pub fn many_jobs(rng: &mut Rng) -> Vec<u8> {
         let line = many_jobs_call(rng, &mut station, count);
         station.events.push(line);
         if rng.chance(20) {
-            station.clock = (station.clock + 1).min(station.slots);
+            station.clock = (station.clock + 1).min(station.slots - 1);
             station.events.push(format!("(clock {})", station.clock));
         }
     }

@@ -72,7 +72,7 @@ impl Station {
         rng.shuffle(&mut unused);
         let head = vec![format!("(frame {slots} {bridges})")];
         let (events, taken) = (Vec::new(), vec![0; slots]);
-        let (motors, tie, busy, presets, clock, ties) = (bridges, 1, 1, 1, 1, 0);
+        let (motors, tie, busy, presets, clock, ties) = (bridges, 1, 1, 1, 0, 0);
         let mut station =
             Station { slots, bridges, motors, tie, busy, presets, head, events, unused, taken, clock, ties };
         let mut aside = rng.aside();

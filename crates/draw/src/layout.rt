@@ -39,6 +39,13 @@ pub fn column(slot: usize) -> usize
     76 + 44 * least(slot, 64)
 }
 
+// The right edge of the slot that is about to begin: what is right of it a call may use. Before the first slot it is the frame's left edge, after the last one its right edge.
+pub fn clock_edge(clock: usize, slots: usize) -> usize
+    ensures { λ r. ⌜ r ≡ 76 + 44 * min (min clock slots) 64 ⌝ }
+{
+    column(least(clock, slots))
+}
+
 // The upper edge of a bridge's cells; of the bridge after the last one, the frame's lower edge.
 pub fn row(bridge: usize) -> usize
     ensures { λ r. ⌜ r ≡ 70 + 32 * min bridge 8 ⌝ }

@@ -1,5 +1,6 @@
 // The parts of a frame's picture: its cells, slots and bridges, the clock and the legend.
 use crate::cells::cell_at_origin;
+use crate::layout::clock_edge;
 use crate::layout::column;
 use crate::layout::drawn_bridges;
 use crate::layout::drawn_slots;
@@ -87,10 +88,9 @@ pub fn bridge_labels(bridges: usize) {
     first_bridges(drawn_bridges(bridges));
 }
 
-// Writes the mark of the clock at the left edge of the slot that is about to begin, counted from 1; after the last slot it is at the frame's right edge.
-pub fn clock_mark(clock: usize, bridges: usize) {
-    let slot = if clock > 0 { clock - 1 } else { 0 };
-    moved(column(slot), 0);
+// Writes the mark of the clock at the right edge of the slot that is about to begin: that slot is lost to a call, as those before it are.
+pub fn clock_mark(clock: usize, slots: usize, bridges: usize) {
+    moved(clock_edge(clock, slots), 0);
     around(
         b"<path d=\"M-6 34h12l-6 10z\"/><path d=\"M0 40V",
         row(bridges) + 5,

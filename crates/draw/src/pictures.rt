@@ -76,7 +76,7 @@ fn frame(slots: usize, bridges: usize, was: &[Cell], is: &[Cell], clock: usize, 
     put(b"</g>\n<g text-anchor=\"middle\">\n");
     slots_and_cells(was, is, slots, bridges);
     put(b"</g>\n");
-    clock_mark(clock, bridges);
+    clock_mark(clock, slots, bridges);
     legend(bridges, with_lost);
     put(b"</svg>\n");
 }

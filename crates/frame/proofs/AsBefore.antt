@@ -1,7 +1,7 @@
 -- Under `(tie place)`, where the supply feeds every bridge, everything is what it was before there were ties and a supply.
 --
 -- In order: the rule under `tiePlace` is document 01's (`left-before`, `lrtf-before`), and so are its tables (`planned-before`, `called-before`); a text of the five forms has a head under place and
--- without a supply (`head-plain`), which is read as it was (`read-before`, `forms-before`, `head-before`); an event that asks for what it asked for keeps place (`event-place`) and comes to what it came
+-- without a supply (`head-plain`, `plain-head`), which is read as it was (`read-before`, `forms-before`, `head-before`); an event that asks for what it asked for keeps place (`event-place`) and comes to what it came
 -- to (`event-before`), and so does a list of them (`run-before`); a plan, and a whole text (`plan-before`, `whole-before`). Then what is cited: `plan-as-before`, `run-as-before`,
 -- `text-as-before`, `place-as-before`.
 -- Assumes nothing.
@@ -35,7 +35,7 @@ use Rattle.placing.specs.Uncapped.{Uncapped, freeCount, planCount, planFitsUnca
 use Rattle.placing.proofs.Theorems.{no-line-uncapped, plan-uncapped}
 use Rattle.frame.specs.Event.{Event, line, Asked, setClock, setTie, placeJobs, fault, askedByForm, asked, taken, refused, Outcome, eventOf}
 use Rattle.frame.specs.Event.{more as oneMore, runOf}
-use Rattle.frame.specs.Text.{startOf, eventsOf, wholeOf}
+use Rattle.frame.specs.Text.{ran, startOf, eventsOf, wholeOf}
 use Rattle.frame.specs.Demands.{EventIs, stopped, clockSet, tieSet, placed}
 use Rattle.frame.specs.Listing.{listingOf}
 use Rattle.frame.specs.Before.{ofFive, formBefore, settle, settled, readBefore, headBefore, askedBefore, chosenBefore, servedBefore, leftBefore, lrtfBefore, plannedBefore, calledBefore, planBefore}
@@ -214,7 +214,7 @@ forms-before : (ls : List (List ℕ)) → FiveForms ls → map form ls ≡ map f
 forms-before [] p = refl
 forms-before (l ∷ ls) p = ap₂ (λ (o : Option Form) (os : List (Option Form)). o ∷ os) (p 0) (forms-before ls (λ j. p (suc j)))
 
-head-before : (text : List ℕ) → FiveForms (lines text) → headOf text ≡ headBefore text
+pub head-before : (text : List ℕ) → FiveForms (lines text) → headOf text ≡ headBefore text
 unfolding headOf headBefore
 head-before text p =
     ap (cond (ltb mostBytes (length text)) (Reading.refused 0 textTooLong))
@@ -227,6 +227,11 @@ head-plain text p = go (ltb mostBytes (length text))
     go : (b : Bool) → Plain (headRead (cond b (Reading.refused 0 textTooLong) (readFrom 0 begin (map form (lines text)))))
     go true = (refl, refl)
     go false = read-plain 0 begin (lines text) p (refl, refl)
+
+pub plain-head : (text : List ℕ) → FiveForms (lines text) → (h : Head) (n : ℕ) → headOf text ≡ Reading.accepted h n → Uncapped h × (h .hold ≡ false)
+plain-head text p h n e =
+    let plain : Plain h = subst (λ (x : Reading). Plain (headRead x)) e (head-plain text p) in
+    (no-line-uncapped h (plain .1), plain .0)
 
 -- ---- an event that asks for what it asked for
 
@@ -252,7 +257,7 @@ sets-none (Event.line l) = by (form l)
 sets-none (Event.clock t) = refl
 sets-none (Event.call jobs) = refl
 
-no-tie : (e : Event) (hold : Bool) → askedBefore e ≡ setTie hold → ⊥
+pub no-tie : (e : Event) (hold : Bool) → askedBefore e ≡ setTie hold → ⊥
 no-tie e hold q = clash (sym (ap setsTie q) ∙ sets-none e)
 
 module _ (h : Head) (all : Uncapped h) (st : State) (place : st .hold ≡ false) (e : Event) (same : asked e ≡ askedBefore e) where
@@ -265,7 +270,7 @@ module _ (h : Head) (all : Uncapped h) (st : State) (place : st .hold ≡ false)
       go _ (tieSet hold q f) = absurd (no-tie e hold (sym same ∙ q))
       go _ (placed jobs q f) = place
 
-  table-before : (jobs : List Job) → calledUncapped (tieOf (st .hold)) h (st .clock) jobs (cell h (st .table)) ≡ calledBefore h (st .clock) jobs (cell h (st .table))
+  pub table-before : (jobs : List Job) → calledUncapped (tieOf (st .hold)) h (st .clock) jobs (cell h (st .table)) ≡ calledBefore h (st .clock) jobs (cell h (st .table))
   table-before jobs =
       ap (λ (b : Bool). calledUncapped (tieOf b) h (st .clock) jobs (cell h (st .table))) place ∙ called-before h (st .clock) jobs (cell h (st .table))
 
@@ -297,6 +302,9 @@ five-asked [] p j = ap askedByForm (p j)
 five-asked (l ∷ ls) p zero = ap askedByForm (p 0)
 five-asked (l ∷ ls) p (suc j) = five-asked ls (λ i. p (suc i)) j
 
+pub events-five : (text : List ℕ) (n : ℕ) → FiveForms (lines text) → FiveAsked (eventsOf text n)
+events-five text n p = five-asked (drop n (lines text)) (five-after n (lines text) p)
+
 -- ---- the whole text
 
 plan-before : (h : Head) → Uncapped h → (t : List ℕ) → h .hold ≡ false → planOf h t ≡ planBefore h t
@@ -310,12 +318,11 @@ plan-before h all t place =
 
 whole-before : (text t : List ℕ) → FiveForms (lines text) → wholeOf text t ≡ wholeBefore text t
 whole-before text t p =
-    whole-by text t planBefore eventBefore headBefore (head-before text p)
+    whole-by (λ w. w) text t planBefore startOf eventBefore headBefore (head-before text p)
     (λ h n e.
-    let plain : Plain h = subst (λ (x : Reading). Plain (headRead x)) e (head-plain text p) in
-    let all = no-line-uncapped h (plain .1) in (
-      plan-before h all t (plain .0),
-      λ u. run-before h all (startOf h u) (eventsOf text n) (five-asked (drop n (lines text)) (five-after n (lines text) p)) (plain .0),
+    let plain = plain-head text p h n e in (
+      plan-before h (plain .0) t (plain .1),
+      λ g u. ap (ran h n g) (run-before h (plain .0) (startOf h u) (eventsOf text n) (events-five text n p) (plain .1)),
     ))
 
 -- ---- "`(tie place)` brings back the old order"; "without it there is no cap"

@@ -48,33 +48,39 @@ module _ (h : Head) (all : Uncapped h) where
   run-uncapped st (e ∷ es) =
       ap (more (eventOf h st e .answer)) (run-uncapped (eventOf h st e .after) es) ∙ ap (λ (o : Outcome). more (o .answer) (runUncapped h (o .after) es)) (event-uncapped st e)
 
--- What a whole text comes to where another reading, plan and event come to the same: of each head that is read the plan, and from each table that it starts with the events.
-module _ (text t : List ℕ) (plan : Head → List ℕ → PlanOutcome) (one : Head → State → Event → Outcome) where
+-- What is seen of a whole text where another reading, plan, start and event come to the same: of each head that is read the plan, and from each table that it starts with what is seen of the events.
+module _ {A : Type 0} (seen : Whole → A) (text t : List ℕ) (plan : Head → List ℕ → PlanOutcome) (start : Head → List ℕ → State) (one : Head → State → Event → Outcome) where
   abbrev Same : Head → ℕ → Type 0
-  Same h n = (planOf h t ≡ plan h t) × ((u : List ℕ) → runOf h (startOf h u) (eventsOf text n) ≡ runBy (one h) (startOf h u) (eventsOf text n))
+  Same h n =
+      (planOf h t ≡ plan h t)
+      × ((g u : List ℕ) → seen (ran h n g (runOf h (startOf h u) (eventsOf text n))) ≡ seen (ran h n g (runBy (one h) (start h u) (eventsOf text n))))
 
-  after-plan : (h : Head) (n : ℕ) → Same h n → (a : PlanAnswer) (u : List ℕ) → wholeWithPlan text h n a u ≡ withPlanBy one text h n a u
+  after-plan : (h : Head) (n : ℕ) → Same h n → (a : PlanAnswer) (u : List ℕ) → seen (wholeWithPlan text h n a u) ≡ seen (withPlanBy start one text h n a u)
   unfolding wholeWithPlan withPlanBy
-  after-plan h n s (PlanAnswer.granted g) u = ap (ran h n g) (s .1 u)
+  after-plan h n s (PlanAnswer.granted g) u = s .1 g u
   after-plan h n s (PlanAnswer.refused _ r) u = refl
 
-  after-head : (x : Reading) → ((h : Head) (n : ℕ) → x ≡ Reading.accepted h n → Same h n) → wholeWithHead text x t ≡ withHeadBy plan one text x t
+  after-head : (x : Reading) → ((h : Head) (n : ℕ) → x ≡ Reading.accepted h n → Same h n) → seen (wholeWithHead text x t) ≡ seen (withHeadBy plan start one text x t)
   unfolding wholeWithHead withHeadBy
   after-head (Reading.accepted h n) s =
-      ap (λ (o : PlanOutcome). wholeWithPlan text h n (o .answer) (o .table)) (s h n refl .0) ∙ after-plan h n (s h n refl) (plan h t .answer) (plan h t .table)
+      ap (λ (o : PlanOutcome). seen (wholeWithPlan text h n (o .answer) (o .table))) (s h n refl .0) ∙ after-plan h n (s h n refl) (plan h t .answer) (plan h t .table)
   after-head (Reading.refused n r) s = refl
 
-  pub whole-by : (read : List ℕ → Reading) → headOf text ≡ read text → ((h : Head) (n : ℕ) → headOf text ≡ Reading.accepted h n → Same h n) → wholeOf text t ≡ wholeBy read plan one text t
+  pub whole-by : (read : List ℕ → Reading) → headOf text ≡ read text → ((h : Head) (n : ℕ) → headOf text ≡ Reading.accepted h n → Same h n)
+      → seen (wholeOf text t) ≡ seen (wholeBy read plan start one text t)
   unfolding wholeOf wholeBy
-  whole-by read e s =
-      ap (λ (w : Whole). elim (firstOf (try textTooLong (ltb mostBytes (length text)) ∷ try tooShort (ltb (length t) leastCells) ∷ [])) [ none ↦ w | some r ↦ notRead 0 r ])
-      (after-head (headOf text) s ∙ ap (λ (x : Reading). withHeadBy plan one text x t) e)
+  whole-by read e s = go (firstOf (try textTooLong (ltb mostBytes (length text)) ∷ try tooShort (ltb (length t) leastCells) ∷ []))
+    where
+      go : (o : Option Refusal) → seen (elim o [ none ↦ wholeWithHead text (headOf text) t | some r ↦ notRead 0 r ])
+          ≡ seen (elim o [ none ↦ withHeadBy plan start one text (read text) t | some r ↦ notRead 0 r ])
+      go none = after-head (headOf text) s ∙ ap (λ (x : Reading). seen (withHeadBy plan start one text x t)) e
+      go (some r) = refl
 
 -- a whole text whose head has no supply line, or one that feeds every bridge
 pub text-uncapped : (text t : List ℕ) → ((h : Head) (n : ℕ) → headOf text ≡ Reading.accepted h n → Uncapped h) → wholeOf text t ≡ wholeUncapped text t
 text-uncapped text t p =
-    whole-by text t planUncapped eventUncapped headOf refl
-    (λ h n e. (plan-uncapped h (p h n e) t, λ u. run-uncapped h (p h n e) (startOf h u) (eventsOf text n)))
+    whole-by (λ w. w) text t planUncapped startOf eventUncapped headOf refl
+    (λ h n e. (plan-uncapped h (p h n e) t, λ g u. ap (ran h n g) (run-uncapped h (p h n e) (startOf h u) (eventsOf text n))))
 
 -- ---- `(supply 8)` and no supply line
 

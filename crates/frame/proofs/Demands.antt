@@ -191,7 +191,7 @@ planned-running h t g q =
     record {
       long = omega (arith, p .3, plan-claim h t .past .long);
       valid = p .2;
-      wellFormed = record { cells = plan-claim h t .valid g q .wellFormed; clock = clock-is (h .slots) firstClock (lit≤ tt) (omega arith) };
+      wellFormed = record { cells = plan-claim h t .valid g q .wellFormed; clock = clock-is (h .slots) firstClock (omega arith) };
     }
 
 pub demand-3-planned : (h : Head) (t g : List ℕ) → planOf h t .answer ≡ PlanAnswer.granted g → (es : List Event)

@@ -2,7 +2,7 @@
 -- (Call cells: CallCells.antt.)
 --
 -- In order: what is kept (`Kept`), of nothing done (`kept-same`), of two steps in turn (`kept-twice`), of one event (`event-kept`), of a list
--- (`run-kept`); the same of the cells in slots gone by (`run-still`); the optional cells counted (`run-counted`); a part of the state by the
+-- (`run-kept`); the same of the cells in slots up to the clock (`run-still`); the optional cells counted (`run-counted`); a part of the state by the
 -- answers alone (`run-through`), so the clock (`run-clock`) and the order of ties (`run-tie`).
 -- Assumes nothing.
 use Prim.Native.Nat.{ℕ, _+_, _≤_}
@@ -10,15 +10,14 @@ use native.Mathlib.Omega.{arith}
 use mathlib.Core.Path.{_≡_, refl, sym, _∙_, ap, subst}
 use mathlib.Core.Bool.{true, false, _||_}
 use mathlib.Core.List.{List, [], _∷_}
-use Rattle.laws.proofs.Comparisons.{gt-of, leb-no}
 use Rattle.station.specs.Head.{Head, Job}
 use Rattle.placing.specs.Table.{cell, Each, isBusy, isMandatory, isOptional}
 use Rattle.placing.specs.State.{State}
-use Rattle.placing.specs.Valid.{Change, usable, firstSlot, optionalCount}
+use Rattle.placing.specs.Valid.{Change, usable, optionalCount}
 use Rattle.placing.specs.Outcomes.{Cost, costOf, CallAnswer, callOf}
 use Rattle.placing.specs.Claims.{Running, SamePast}
 use Rattle.placing.proofs.Theorems.{Good}
-use Rattle.placing.proofs.Theorems.{change-gone, changed-keeps-fixed, changed-kept-fixed, changed-optional, changed-optional-count}
+use Rattle.placing.proofs.Theorems.{usable-later, change-gone, changed-keeps-fixed, changed-kept-fixed, changed-optional, changed-optional-count}
 use Rattle.placing.proofs.Theorems.{call-accepted, call-claim}
 use Rattle.frame.specs.Event.{Event, Answer, clockNow, tieNow, taken, refused, Outcome, eventOf, runOf}
 use Rattle.frame.specs.Demands.{EventIs, stopped, clockSet, tieSet, placed, SameFixed, through, clockBy, lastClock, tieBy, lastTie, totalTaken}
@@ -97,9 +96,9 @@ run-kept h st es run =
     kept-over h (Running h) (λ x y. Kept h (x .table) (y .table)) (λ x p. kept-same h (x .table))
     (λ x y z p q. kept-twice h (x .table) (y .table) (z .table)) (event-running h) (λ x e p. event-kept h x e) st es run
 
--- ---- slots gone by
+-- ---- slots up to the clock
 
--- from one state to a later one the clock does not fall, and every cell of a slot gone by stays
+-- from one state to a later one the clock does not fall, and every cell of a slot up to it stays
 pub record Still (h : Head) (x y : State) : Type 0 where
   pub later : x .clock ≤ y .clock
   pub cells : Each h (λ s b. usable (x .clock) s ≡ false → cell h (y .table) s b ≡ cell h (x .table) s b)
@@ -111,7 +110,7 @@ still-twice : (h : Head) (x y z : State) → Still h x y → Still h y z → Sti
 still-twice h x y z a b = record {
   later = omega (arith, a .later, b .later);
   cells = λ s c l m e.
-      b .cells s c l m (leb-no (firstSlot (y .clock)) s (omega (arith, gt-of (firstSlot (x .clock)) s e, a .later))) ∙ a .cells s c l m e;
+      b .cells s c l m (usable-later (x .clock) (y .clock) s (a .later) e) ∙ a .cells s c l m e;
 }
 
 event-still : (h : Head) (st : State) (e : Event) → Still h st (eventOf h st e .after)

@@ -1,8 +1,8 @@
 -- The starred frames of document 01, "Frames to try": one list of cases, each a station text, its whole listing and, where the case is about fitting, what
 -- that says of every placement; and one fact, that all hold. Beside them the other frames to try of that list that a text can state, and all frames of
--- docs/CALLS.md: against versions 1 to 3 of the manual's page, and against readings that mislead; and frames with ties and with a supply, of document 02, 2026-02 and 2026-03.
+-- docs/CALLS.md: against versions 1 to 3 of the manual's page, and against readings that mislead; and frames with ties, with a supply and with the clock, of document 02, 2026-02, 2026-03 and 2026-05.
 --
--- In order: cases and when one holds (`Case`, `Meaning`, `Holds`); `starred`, `others`, `refuting`, `misleading`, `tied`, `supplied`; from an answer to its meaning; `frames-hold`.
+-- In order: cases and when one holds (`Case`, `Meaning`, `Holds`); `starred`, `others`, `refuting`, `misleading`, `tied`, `supplied`, `clocked`; from an answer to its meaning; `frames-hold`.
 -- Assumes nothing.
 use Prim.Native.Nat.{ℕ, _≤_}
 use Prim.Native.String.{String}
@@ -19,7 +19,7 @@ use Rattle.station.specs.Form.{jobsOf, print}
 use Rattle.station.specs.Reading.{Reading, headOf}
 use Rattle.station.proofs.Examples.{reads}
 use Rattle.placing.specs.Table.{cell, cells}
-use Rattle.placing.specs.Valid.{ValidPlan, ValidCall, lost}
+use Rattle.placing.specs.Valid.{ValidPlan, firstClock, ValidCall, lost}
 use Rattle.placing.specs.State.{stateOf}
 use Rattle.placing.specs.Outcomes.{cost, PlanAnswer, planOf, CallAnswer, callOf}
 use Rattle.placing.proofs.Theorems.{plan-claim, call-claim}
@@ -126,7 +126,7 @@ starred =
     ∷ means a-plan "(frame 4 3)\n(busy 2 (2 2) (4 4))\n(busy 3 (2 4))\n(preset 1 0 3 0)\n(preset 2 0 3 0)\n"
     "(granted 1 0)\n(granted 2 0)\n(slot 1 m1 m2 0)\n(slot 2 m1 - -)\n(slot 3 m1 m2 -)\n(slot 4 m2 - -)\n"
     -- "Empty 3, 1, 1, 1 and one refinement cell in slot 2; a call of 3 and 3 takes 1."
-    ∷ means (loses 1 (job 5 3 ∷ job 6 3 ∷ []) 1)
+    ∷ means (loses firstClock (job 5 3 ∷ job 6 3 ∷ []) 1)
     "(frame 4 4)\n(busy 2 (3 4))\n(busy 3 (2 4))\n(busy 4 (2 4))\n(preset 1 0 1 1)\n(call (5 3) (6 3))\n"
     "(granted 1 1)\n(taken 1)\n(slot 1 m1 c5 c6 0)\n(slot 2 c5 c6 - -)\n(slot 3 c5 - - -)\n(slot 4 c6 - - -)\n"
     -- "S 3, B 2, three presets of m 2: slot 1 holds presets 1 2, slot 2 holds 1 3, slot 3 holds 2 3."
@@ -139,16 +139,16 @@ starred =
     -- "A call at clock S + 1: 7."
     ∷ means (no-placement 3 (job 5 1 ∷ [])) "(frame 2 1)\n(clock 3)\n(call (5 1))\n" "(now 3)\n(refused 3 7)\n(slot 1 0)\n(slot 2 0)\n"
     -- "Priorities 0 and 9 hold refinement that fills the last slot, all else being busy; a one-slot call takes the 9's."
-    ∷ means (loses 1 (job 7 1 ∷ []) 1) "(frame 2 2)\n(busy 1 (1 1))\n(busy 2 (1 1))\n(preset 1 0 0 1)\n(preset 2 9 0 1)\n(call (7 1))\n"
+    ∷ means (loses firstClock (job 7 1 ∷ []) 1) "(frame 2 2)\n(busy 1 (1 1))\n(busy 2 (1 1))\n(preset 1 0 0 1)\n(preset 2 9 0 1)\n(call (7 1))\n"
     "(granted 1 1)\n(granted 2 1)\n(taken 1)\n(slot 1 - -)\n(slot 2 o1 c7)\n"
     ∷ []
 
 -- The frames without a star: "Clock 3 after 3 is accepted; 2 after 3 is 6. No text at all: 3 at line 1. No presets: no granted lines.
--- `(call (5 1) (5 1))`: 4." A clock outside its limits is 2 even where it is below the present one.
+-- `(call (5 1) (5 1))`: 4." A clock above S + 1 is 2.
 pub others : List Case
 others =
     shows "(frame 3 1)\n(clock 3)\n(clock 3)\n(clock 2)\n(clock 0)\n(clock 5)\n(call (5 1) (5 1))\n(frame 3 1)\n(clock 4)"
-    "(now 3)\n(now 3)\n(refused 4 6)\n(refused 5 2)\n(refused 6 2)\n(refused 7 4)\n(refused 8 3)\n(refused 9 1)\n(slot 1 0)\n(slot 2 0)\n(slot 3 0)\n"
+    "(now 3)\n(now 3)\n(refused 4 6)\n(refused 5 6)\n(refused 6 2)\n(refused 7 4)\n(refused 8 3)\n(refused 9 1)\n(slot 1 0)\n(slot 2 0)\n(slot 3 0)\n"
     ∷ shows "" "(refused 1 3)\n"
     ∷ []
 
@@ -156,15 +156,15 @@ others =
 pub refuting : List Case
 refuting =
     -- version 1, "a call fits if enough cells are empty": four are empty, the job needs three different slots, and there are two
-    means (no-placement 1 (job 5 3 ∷ [])) "(frame 2 2)\n(call (5 3))\n" "(refused 2 7)\n(slot 1 0 0)\n(slot 2 0 0)\n"
+    means (no-placement firstClock (job 5 3 ∷ [])) "(frame 2 2)\n(call (5 3))\n" "(refused 2 7)\n(slot 1 0 0)\n(slot 2 0 0)\n"
     -- version 2, "and no job may be longer than the time left": empty 3, 1, 1, 1, two jobs of three slots
-    ∷ means (no-placement 1 (job 5 3 ∷ job 6 3 ∷ [])) "(frame 4 3)\n(busy 2 (2 4))\n(busy 3 (2 4))\n(call (5 3) (6 3))\n"
+    ∷ means (no-placement firstClock (job 5 3 ∷ job 6 3 ∷ [])) "(frame 4 3)\n(busy 2 (2 4))\n(busy 3 (2 4))\n(call (5 3) (6 3))\n"
     "(refused 4 7)\n(slot 1 0 0 0)\n(slot 2 0 - -)\n(slot 3 0 - -)\n(slot 4 0 - -)\n"
     -- version 3, "the refinement lost is the call's length less the empty cells": 6 - 6 makes none, and one goes; the frame before the call
     ∷ shows "(frame 4 4)\n(busy 2 (3 4))\n(busy 3 (2 4))\n(busy 4 (2 4))\n(preset 1 0 1 1)\n"
     "(granted 1 1)\n(slot 1 m1 0 0 0)\n(slot 2 o1 0 - -)\n(slot 3 0 - - -)\n(slot 4 0 - - -)\n"
     -- and with it
-    ∷ means (loses 1 (job 5 3 ∷ job 6 3 ∷ []) 1)
+    ∷ means (loses firstClock (job 5 3 ∷ job 6 3 ∷ []) 1)
     "(frame 4 4)\n(busy 2 (3 4))\n(busy 3 (2 4))\n(busy 4 (2 4))\n(preset 1 0 1 1)\n(call (5 3) (6 3))\n"
     "(granted 1 1)\n(taken 1)\n(slot 1 m1 c5 c6 0)\n(slot 2 c5 c6 - -)\n(slot 3 c5 - - -)\n(slot 4 c6 - - -)\n"
     ∷ []
@@ -173,27 +173,27 @@ refuting =
 pub misleading : List Case
 misleading =
     -- as many cells as slots, refinement counted in: seven cells, six slots asked for, and no placement
-    means (no-placement 1 (job 5 3 ∷ job 6 3 ∷ []))
+    means (no-placement firstClock (job 5 3 ∷ job 6 3 ∷ []))
     "(frame 4 4)\n(busy 2 (2 4))\n(busy 3 (2 4))\n(busy 4 (2 4))\n(preset 1 0 0 1)\n(call (5 3) (6 3))\n"
     "(granted 1 1)\n(refused 6 7)\n(slot 1 o1 0 0 0)\n(slot 2 0 - - -)\n(slot 3 0 - - -)\n(slot 4 0 - - -)\n"
     -- refinement for what the empty cells lack in number, the first in time: that cell does not help
-    ∷ means (loses 1 (job 5 3 ∷ job 6 1 ∷ []) 1)
+    ∷ means (loses firstClock (job 5 3 ∷ job 6 1 ∷ []) 1)
     "(frame 3 3)\n(busy 1 (2 3))\n(busy 2 (2 2))\n(preset 1 0 0 2)\n(preset 2 0 1 0)\n(call (5 3) (6 1))\n"
     "(granted 1 2)\n(granted 2 0)\n(taken 1)\n(slot 1 o1 m2 c5)\n(slot 2 - - c5)\n(slot 3 - c5 c6)\n"
     -- refinement first and empty cells later
-    ∷ means (loses 1 (job 5 1 ∷ []) 0) "(frame 2 1)\n(preset 1 0 0 1)\n(call (5 1))\n" "(granted 1 1)\n(taken 0)\n(slot 1 o1)\n(slot 2 c5)\n"
+    ∷ means (loses firstClock (job 5 1 ∷ []) 0) "(frame 2 1)\n(preset 1 0 0 1)\n(call (5 1))\n" "(granted 1 1)\n(taken 0)\n(slot 1 o1)\n(slot 2 c5)\n"
     -- the better preset spared slot by slot: over the whole frame the worse one loses, though its slot comes later
-    ∷ means (loses 1 (job 5 1 ∷ []) 1) "(frame 2 1)\n(preset 1 0 0 1)\n(preset 2 1 0 1)\n(call (5 1))\n"
+    ∷ means (loses firstClock (job 5 1 ∷ []) 1) "(frame 2 1)\n(preset 1 0 0 1)\n(preset 2 1 0 1)\n(call (5 1))\n"
     "(granted 1 1)\n(granted 2 1)\n(taken 1)\n(slot 1 o1)\n(slot 2 c5)\n"
     -- a whole job on one bridge: no bridge is free in both slots
-    ∷ means (loses 1 (job 5 2 ∷ []) 0) "(frame 2 2)\n(busy 1 (2 2))\n(busy 2 (1 1))\n(call (5 2))\n" "(taken 0)\n(slot 1 c5 -)\n(slot 2 - c5)\n"
+    ∷ means (loses firstClock (job 5 2 ∷ []) 0) "(frame 2 2)\n(busy 1 (2 2))\n(busy 2 (1 1))\n(call (5 2))\n" "(taken 0)\n(slot 1 c5 -)\n(slot 2 - c5)\n"
     -- the worse preset always loses before the better one, also a cell that ends up empty: here its cell does not help, and is spared
-    ∷ means (loses 1 (job 5 2 ∷ []) 1) "(frame 2 2)\n(busy 2 (1 1))\n(preset 1 0 0 1)\n(preset 2 9 0 1)\n(call (5 2))\n"
+    ∷ means (loses firstClock (job 5 2 ∷ []) 1) "(frame 2 2)\n(busy 2 (1 1))\n(preset 1 0 0 1)\n(preset 2 9 0 1)\n(call (5 2))\n"
     "(granted 1 1)\n(granted 2 1)\n(taken 1)\n(slot 1 c5 -)\n(slot 2 o2 c5)\n"
     -- two calls cost the least that they can cost together: each is placed for itself, and the second one takes what both in one call would have spared
-    ∷ means (loses 1 (job 5 1 ∷ []) 0) "(frame 3 3)\n(busy 2 (3 3))\n(busy 3 (1 1) (3 3))\n(preset 1 0 2 1)\n(call (5 1))\n(call (6 2))\n"
+    ∷ means (loses firstClock (job 5 1 ∷ []) 0) "(frame 3 3)\n(busy 2 (3 3))\n(busy 3 (1 1) (3 3))\n(preset 1 0 2 1)\n(call (5 1))\n(call (6 2))\n"
     "(granted 1 1)\n(taken 0)\n(taken 1)\n(slot 1 m1 c5 -)\n(slot 2 m1 c6 0)\n(slot 3 c6 - -)\n"
-    ∷ means (loses 1 (job 5 1 ∷ job 6 2 ∷ []) 0) "(frame 3 3)\n(busy 2 (3 3))\n(busy 3 (1 1) (3 3))\n(preset 1 0 2 1)\n(call (5 1) (6 2))\n"
+    ∷ means (loses firstClock (job 5 1 ∷ job 6 2 ∷ []) 0) "(frame 3 3)\n(busy 2 (3 3))\n(busy 3 (1 1) (3 3))\n(preset 1 0 2 1)\n(call (5 1) (6 2))\n"
     "(granted 1 1)\n(taken 0)\n(slot 1 m1 c6 -)\n(slot 2 m1 c5 c6)\n(slot 3 o1 - -)\n"
     ∷ []
 
@@ -236,12 +236,12 @@ tied =
 unfoldable pub supplied : List Case
 supplied =
     -- "k less the cells held by presets and calls": one job finds a motor beside two required cells, two do not
-    means (loses 1 (job 9 1 ∷ []) 0) "(frame 1 4)\n(supply 3)\n(preset 1 0 1 0)\n(preset 2 0 1 0)\n(call (9 1))\n" "(granted 1 0)\n(granted 2 0)\n(taken 0)\n(slot 1 m1 m2 c9 0)\n"
-    ∷ means (no-placement 1 (job 9 1 ∷ job 8 1 ∷ [])) "(frame 1 4)\n(supply 3)\n(preset 1 0 1 0)\n(preset 2 0 1 0)\n(call (9 1) (8 1))\n"
+    means (loses firstClock (job 9 1 ∷ []) 0) "(frame 1 4)\n(supply 3)\n(preset 1 0 1 0)\n(preset 2 0 1 0)\n(call (9 1))\n" "(granted 1 0)\n(granted 2 0)\n(taken 0)\n(slot 1 m1 m2 c9 0)\n"
+    ∷ means (no-placement firstClock (job 9 1 ∷ job 8 1 ∷ [])) "(frame 1 4)\n(supply 3)\n(preset 1 0 1 0)\n(preset 2 0 1 0)\n(call (9 1) (8 1))\n"
     "(granted 1 0)\n(granted 2 0)\n(refused 5 7)\n(slot 1 m1 m2 0 0)\n"
     -- earlier calls hold their motors; a lost cell frees one, though a bridge is empty
     ∷ shows "(frame 1 3)\n(supply 2)\n(call (7 1) (8 1))\n(call (9 1))\n" "(taken 0)\n(refused 4 7)\n(slot 1 c7 c8 0)\n"
-    ∷ means (loses 1 (job 9 1 ∷ []) 1) "(frame 1 3)\n(supply 2)\n(preset 1 0 1 0)\n(preset 2 0 0 1)\n(call (9 1))\n" "(granted 1 0)\n(granted 2 1)\n(taken 1)\n(slot 1 m1 c9 0)\n"
+    ∷ means (loses firstClock (job 9 1 ∷ []) 1) "(frame 1 3)\n(supply 2)\n(preset 1 0 1 0)\n(preset 2 0 0 1)\n(call (9 1))\n" "(granted 1 0)\n(granted 2 1)\n(taken 1)\n(slot 1 m1 c9 0)\n"
     -- a busy cell draws nothing; the chosen take the lowest free bridges, and the others stay empty
     ∷ means a-plan "(frame 1 3)\n(supply 1)\n(busy 1 (1 1))\n(preset 1 0 1 0)\n" "(granted 1 0)\n(slot 1 - m1 0)\n"
     ∷ means a-plan "(frame 2 3)\n(supply 2)\n(preset 1 0 1 0)\n(preset 2 0 1 0)\n(preset 3 0 1 0)\n" "(granted 1 0)\n(granted 2 0)\n(granted 3 0)\n(slot 1 m1 m2 0)\n(slot 2 m3 0 0)\n"
@@ -263,6 +263,27 @@ supplied =
     ∷ shows "(frame 3 2)\n(supply 1)\n(tie hold)\n(call (5 1) (6 2))\n" "(taken 0)\n(slot 1 c6 0)\n(slot 2 c6 0)\n(slot 3 c5 0)\n"
     ∷ shows "(frame 1 1)\n(supply 1)\n(tie place)\n" "(refused 3 3)\n"
     ∷ shows "(frame 1 1)\n(supply 1)\n(tie hold)\n(tie hold)\n" "(tie hold)\n(slot 1 0)\n"
+    ∷ []
+
+-- ---- frames with the clock: document 02, 2026-05
+
+pub clocked : List Case
+clocked =
+    -- "with its clock line at 4, jobs 10 and 11 found a place before and now meet 7": document 01's listing
+    means (no-placement 4 (job 10 1 ∷ [])) "(frame 4 2)\n(busy 2 (2 3))\n(preset 1 0 2 1)\n(preset 2 1 1 2)\n(clock 4)\n(call (9 2))\n(call (10 1))\n(call (11 1))\n"
+    "(granted 1 1)\n(granted 2 2)\n(now 4)\n(refused 6 7)\n(refused 7 7)\n(refused 8 7)\n(slot 1 m1 m2)\n(slot 2 m1 -)\n(slot 3 o2 -)\n(slot 4 o1 o2)\n"
+    -- "A call uses slots above the clock": without a clock line all, at 1 the second alone, at 2 and at 3 none; above S + 1 is 2
+    ∷ means (loses 0 (job 1 2 ∷ []) 0) "(frame 2 1)\n(call (1 2))\n" "(taken 0)\n(slot 1 c1)\n(slot 2 c1)\n"
+    ∷ means (no-placement 1 (job 1 2 ∷ [])) "(frame 2 1)\n(clock 1)\n(call (1 2))\n(call (2 1))\n" "(now 1)\n(refused 3 7)\n(taken 0)\n(slot 1 0)\n(slot 2 c2)\n"
+    ∷ means (no-placement 2 (job 1 1 ∷ [])) "(frame 2 1)\n(clock 2)\n(call (1 1))\n(clock 3)\n(call (1 1))\n(clock 4)\n" "(now 2)\n(refused 3 7)\n(now 3)\n(refused 5 7)\n(refused 6 2)\n(slot 1 0)\n(slot 2 0)\n"
+    -- "`(clock 0)` becomes legal, with 0 the start": accepted as long as the clock is 0, and 6 afterwards
+    ∷ shows "(frame 2 1)\n(clock 0)\n(clock 0)\n(call (1 2))\n(clock 1)\n(clock 0)\n" "(now 0)\n(now 0)\n(taken 0)\n(now 1)\n(refused 6 6)\n(slot 1 c1)\n(slot 2 c1)\n"
+    -- "The least loss is measured over placements in slots above the clock": docs/CALLS.md, the slot about to begin, worked
+    ∷ means (loses 0 (job 9 1 ∷ []) 0) "(frame 2 2)\n(busy 2 (2 2))\n(preset 1 0 0 2)\n(call (9 1))\n" "(granted 1 2)\n(taken 0)\n(slot 1 o1 c9)\n(slot 2 o1 -)\n"
+    ∷ means (loses 1 (job 9 1 ∷ []) 1) "(frame 2 2)\n(busy 2 (2 2))\n(preset 1 0 0 2)\n(clock 1)\n(call (9 1))\n" "(granted 1 2)\n(now 1)\n(taken 1)\n(slot 1 o1 0)\n(slot 2 c9 -)\n"
+    ∷ means (no-placement 2 (job 9 1 ∷ [])) "(frame 2 2)\n(busy 2 (2 2))\n(preset 1 0 0 2)\n(clock 2)\n(call (9 1))\n" "(granted 1 2)\n(now 2)\n(refused 5 7)\n(slot 1 o1 0)\n(slot 2 o1 -)\n"
+    -- 4 asks for cells in slots gone by too
+    ∷ shows "(frame 2 1)\n(call (5 1))\n(clock 1)\n(call (5 1))\n(call (6 1))\n" "(taken 0)\n(now 1)\n(refused 4 4)\n(taken 0)\n(slot 1 c5)\n(slot 2 c6)\n"
     ∷ []
 
 -- ---- from the answers, which compute, to their meaning, by the claims about plan and call
@@ -336,8 +357,12 @@ supplied-compute =
     (refl, refl) and (refl, refl) and (refl, tt) and (refl, refl) and (refl, refl) and (refl, refl) and (refl, refl) and (refl, refl) and (refl, refl) and (refl, refl) and (refl, tt)
     and (refl, refl) and (refl, refl) and (refl, refl) and (refl, refl) and (refl, refl) and (refl, tt) and (refl, tt) and (refl, refl) and (refl, tt) and end
 
--- Every starred frame comes out as document 01 says, and so do the others; every frame of docs/CALLS.md comes out as that page says, and those with ties and with a supply as document 02
--- does.
-pub frames-hold : All Holds starred × All Holds others × All Holds refuting × All Holds misleading × All Holds tied × All Holds supplied
+clocked-compute : All Computes clocked
+unfolding lists clocked
+clocked-compute = (refl, refl) and (refl, refl) and (refl, refl) and (refl, refl) and (refl, tt) and (refl, refl) and (refl, refl) and (refl, refl) and (refl, tt) and end
+
+-- Every starred frame comes out as document 01 says, and so do the others; every frame of docs/CALLS.md comes out as that page says, and those with ties, with a supply and with the clock as
+-- document 02 does.
+pub frames-hold : All Holds starred × All Holds others × All Holds refuting × All Holds misleading × All Holds tied × All Holds supplied × All Holds clocked
 frames-hold =
-    (all-hold starred-compute, all-hold others-compute, all-hold refuting-compute, all-hold misleading-compute, all-hold tied-compute, all-hold supplied-compute)
+    (all-hold starred-compute, all-hold others-compute, all-hold refuting-compute, all-hold misleading-compute, all-hold tied-compute, all-hold supplied-compute, all-hold clocked-compute)

@@ -4,30 +4,31 @@
 -- In order: texts: lines after an event, the limits of a clock and of a call at both edges, the causes of a head and of an event two at a time, the order of
 -- loss (`texts-list`); events on a lent table, by the listed order 8, 2, 11, 1, 3, 2, 4, 9, 6, 7 (`events-answered`), and with preset records
 -- (`records-answered`); the order of ties that is lent, met and left (`orders-met`, `orders-left`); what a list handed over may start from (`starts-pass`); the moments of a list
--- (`between-ends`); the planner before there were ties and a supply (`before-listed`, `five-met`, `asked-met`); a text beside short lent things (`texts-end`), and a text of events (`events-end`); the entries that write lines (`lines-answered`).
+-- (`between-ends`); the planner before there were ties and a supply (`before-listed`, `five-met`, `asked-met`), and when a call could use the clock's own slot (`own-slot-listed`, `no-clock-met`, `higher-met`), and document 01's own (`document-listed`); a text beside short lent things (`texts-end`), and a text of events (`events-end`); the entries that write lines (`lines-answered`).
 -- Assumes nothing.
 use Prim.Native.Nat.{ℕ, zero, suc, _≤_}
 use mathlib.Core.Path.{_≡_, refl, sym, ap}
 use mathlib.Core.Bool.{Bool, true, false}
-use mathlib.Core.Option.{none, some}
+use mathlib.Core.Option.{Option, none, some}
 use mathlib.Core.List.{List, [], _∷_, _++_, map}
 use native.Mathlib.Omega.{arith}
 use lib.ListN.{length, take, replicate}
 use Rattle.laws.proofs.Tests.{none-some}
 use Rattle.station.specs.Head.{Head, Job, withSupply}
 use Rattle.station.specs.Refusal.{numberOf, noForm, outOfLimits, outOfPlace, numberUsed, clockBack, callNotFeasible, tooShort, tooMany, textTooLong, notWellFormed}
+use Rattle.station.specs.Form.{Form, clockLine, form}
 use Rattle.station.specs.Text.{bytes, lines}
 use Rattle.station.specs.Wrote.{moved}
 use Rattle.station.specs.WriteHead as write
 use Rattle.station.specs.declared.types.Head as record-of-head
 use Rattle.placing.specs.Table.{callCell}
 use Rattle.placing.proofs.Examples.{jobCells, recordsTo}
-use Rattle.frame.specs.Event.{Event, line, clock, call, Asked, setClock, setTie, placeJobs, fault, Answer, clockNow, tieNow, taken, refused, eventOf}
+use Rattle.frame.specs.Event.{Event, line, clock, call, Asked, setClock, setTie, placeJobs, fault, askedByForm, asked, Answer, clockNow, tieNow, taken, refused, eventOf}
 use Rattle.placing.specs.State.{State, stateOf}
 use Rattle.frame.specs.EventDone.{eventMeant}
 use Rattle.frame.specs.EventEntry.{eventOnSlice}
 use Rattle.frame.specs.HandedOver.{LetPass}
-use Rattle.frame.specs.Demands.{Between}
+use Rattle.frame.specs.Demands.{eventAt, Between}
 use Rattle.frame.specs.Text.{notRead, wholeOf}
 use Rattle.frame.specs.TextDone.{wholeWithOutput, listed, refusedAt, holdAfter}
 use Rattle.frame.specs.TextEntry.{wholeOnSlice}
@@ -35,6 +36,7 @@ use Rattle.frame.specs.EventsDone.{EventsOutcome, eventsMeant}
 use Rattle.frame.specs.Listing.{listingOf}
 use Rattle.placing.specs.Uncapped.{Uncapped, needsUncapped, grantsUncapped, evictedUncapped, fitsUncapped}
 use Rattle.frame.specs.Before.{readBefore, headBefore, servedBefore, leftBefore, planBefore, carriedBefore, eventBefore, wholeBefore, FiveForms, FiveAsked}
+use Rattle.frame.specs.OwnSlot.{lastGone, today, documentOne, wholeDocumentOne, ownSlotCauses, carriedOwnSlot, eventOwnSlot, wholeOwnSlot, higherAsked, OneHigher, NoClockLine}
 use Rattle.frame.specs.Uncapped.{runBy, withPlanBy, withHeadBy, wholeBy, ownUncapped}
 use Rattle.frame.specs.declared.types.Answer.the-variants as reply
 use Rattle.frame.specs.WriteListing.{listingCause, listingMeant}
@@ -51,9 +53,9 @@ texts =
     "(now 1)\n(refused 3 3)\n(refused 4 3)\n(refused 5 3)\n(refused 6 3)\n(refused 7 3)\n(refused 8 3)\n(slot 1 0)\n(slot 2 0)\n"
     ∷ shows "(frame 2 1)\n(call (5 1))\n(frame 2)\n(busy 1)\n(preset 1 0 0)\n(clock)\n(call)\n(clock 01)\n\n(slot 1)\n(preset 1 0 0 0) \n(clock 2)"
     "(taken 0)\n(refused 3 1)\n(refused 4 1)\n(refused 5 1)\n(refused 6 1)\n(refused 7 1)\n(refused 8 1)\n(refused 9 1)\n(refused 10 1)\n(refused 11 1)\n(refused 12 1)\n(slot 1 c5)\n(slot 2 0)\n"
-    -- t from 1 to S + 1; a clock below the present one; 2 before 6
+    -- t from 0 to S + 1; a clock below the present one
     ∷ shows "(frame 2 1)\n(clock 0)\n(clock 1)\n(clock 4)\n(clock 3)\n(clock 3)\n(clock 2)\n(clock 0)\n"
-    "(refused 2 2)\n(now 1)\n(refused 4 2)\n(now 3)\n(now 3)\n(refused 7 6)\n(refused 8 2)\n(slot 1 0)\n(slot 2 0)\n"
+    "(now 0)\n(now 1)\n(refused 4 2)\n(now 3)\n(now 3)\n(refused 7 6)\n(refused 8 6)\n(slot 1 0)\n(slot 2 0)\n"
     -- jobs in a call: eight, and a ninth
     ∷ shows "(frame 1 8)\n(call (1 1) (2 1) (3 1) (4 1) (5 1) (6 1) (7 1) (8 1) (9 1))\n(call (1 1) (2 1) (3 1) (4 1) (5 1) (6 1) (7 1) (8 1))\n"
     "(refused 2 2)\n(taken 0)\n(slot 1 c1 c2 c3 c4 c5 c6 c7 c8)\n"
@@ -101,29 +103,31 @@ job n c = record { number = n; slots = c }
 abbrev events : List EventCase
 events =
     -- 8: "lent table below 512 cells", before the head record's 2, before 11, before the line's 1 and 3
-    answers (clockNow 1) (bare 1 1) (lent []) 1 (line (bytes "(clock 1)\n"))
+    answers (clockNow 1) (bare 1 1) (lent []) 0 (line (bytes "(clock 1)\n"))
     ∷ answers (refused 0 tooShort) (bare 1 1) (replicate 511 0) 1 (line (bytes "(clock 1)\n"))
     ∷ answers (refused 0 tooShort) (bare 0 1) (replicate 511 0) 1 (line (bytes "(clock 1)\n"))
     ∷ answers (refused 0 tooShort) (bare 1 1) (replicate 511 7) 1 (line (bytes "(clock 1)\n"))
     ∷ answers (refused 0 tooShort) (bare 1 1) (replicate 511 0) 1 (line [])
     -- the head record's 2, before 11, before the line's 1 and 3
-    ∷ answers (refused 0 outOfLimits) (bare 1 9) (lent (7 ∷ [])) 0 (line (bytes "(clock 1)\n"))
+    ∷ answers (refused 0 outOfLimits) (bare 1 9) (lent (7 ∷ [])) 3 (line (bytes "(clock 1)\n"))
     ∷ answers (refused 0 outOfLimits) (bare 65 1) (lent []) 1 (line [])
     ∷ answers (refused 0 outOfLimits) (bare 1 0) (lent []) 1 (line (bytes "(frame 1 1)\n"))
-    -- 11: "a table that is not sound, or a clock outside 1 to S + 1", before 1, 3, 2, 4, 6 and 7
+    -- 11: "a table that is not sound, or a clock outside" 0 to S + 1, before 1, 3, 2, 4, 6 and 7
     ∷ answers (refused 0 notWellFormed) (bare 1 1) (lent (7 ∷ [])) 1 (line [])
-    ∷ answers (refused 0 notWellFormed) (bare 1 1) (lent []) 0 (line (bytes "(frame 1 1)\n"))
-    ∷ answers (refused 0 notWellFormed) (bare 1 1) (lent []) 3 (clock 0)
+    ∷ answers (refused 0 notWellFormed) (bare 1 1) (lent []) 3 (line (bytes "(frame 1 1)\n"))
+    ∷ answers (refused 0 notWellFormed) (bare 1 1) (lent []) 3 (clock 3)
     ∷ answers (refused 0 notWellFormed) (bare 1 1) (lent []) 3 (clock 1)
     ∷ answers (refused 0 notWellFormed) (bare 1 1) (lent (7 ∷ [])) 1 (call [])
     ∷ answers (refused 0 notWellFormed) (bare 1 1) (lent (7 ∷ [])) 1 (call (job 5 1 ∷ job 5 1 ∷ []))
     ∷ answers (refused 0 notWellFormed) (bare 1 1) (lent []) 3 (call (job 5 1 ∷ []))
     ∷ answers (refused 0 notWellFormed) (bare 13 5) (lent (jobCells 65 0)) 1 (clock 1)
-    -- the clock's limits, and those of the lent one; 2 before 6
+    -- the clock's limits, and those of the lent one; 0 is below 1 (6), and no longer outside
+    ∷ answers (clockNow 0) (bare 1 1) (lent []) 0 (clock 0)
     ∷ answers (clockNow 2) (bare 1 1) (lent []) 2 (clock 2)
     ∷ answers (refused 0 outOfLimits) (bare 1 1) (lent []) 2 (clock 3)
+    ∷ answers (refused 0 outOfLimits) (bare 1 1) (lent []) 0 (clock 3)
     ∷ answers (refused 0 clockBack) (bare 1 1) (lent []) 2 (clock 1)
-    ∷ answers (refused 0 outOfLimits) (bare 1 1) (lent []) 2 (clock 0)
+    ∷ answers (refused 0 clockBack) (bare 1 1) (lent []) 1 (clock 0)
     -- a tie meets no cause of its own, at any clock; 8, 2 and 11 come before it
     ∷ answers (tieNow true) (bare 1 1) (lent []) 1 (line (bytes "(tie hold)\n"))
     ∷ answers (tieNow false) (bare 1 1) (lent []) 2 (line (bytes "(tie place)\n"))
@@ -144,6 +148,9 @@ events =
     ∷ answers (refused 0 numberUsed) (bare 8 8) (lent (jobCells 64 0)) 1 (call (job 64 1 ∷ []))
     ∷ answers (refused 0 tooMany) (bare 8 8) (lent (jobCells 64 0)) 1 (line (bytes "(call (65 1))\n"))
     ∷ answers (taken (cost 0)) (bare 8 8) (lent (jobCells 63 0)) 1 (line (bytes "(call (64 1))\n"))
+    -- a slot above the clock, or none
+    ∷ answers (taken (cost 0)) (bare 1 1) (lent []) 0 (call (job 5 1 ∷ []))
+    ∷ answers (refused 0 callNotFeasible) (bare 1 1) (lent []) 1 (call (job 5 1 ∷ []))
     ∷ answers (refused 0 callNotFeasible) (bare 1 1) (lent []) 2 (call (job 5 1 ∷ []))
     ∷ []
 
@@ -161,11 +168,11 @@ abbrev clockOne : Event
 clockOne = line (bytes "(clock 1)\n")
 
 pub records-answered : (eventMeant (counting 32) (recordsTo 32) (stateOf (lent []) 1 false) clockOne .answer ≡ clockNow 1)
-    × (eventMeant (counting 33) (recordsTo 33) (stateOf (lent (7 ∷ [])) 0 false) (line []) .answer ≡ refused 0 outOfLimits)
+    × (eventMeant (counting 33) (recordsTo 33) (stateOf (lent (7 ∷ [])) 3 false) (line []) .answer ≡ refused 0 outOfLimits)
     × (eventMeant (counting 33) (recordsTo 33) (stateOf (replicate 511 0) 1 false) clockOne .answer ≡ refused 0 tooShort)
     × (eventOnSlice 32 (counting 0) [] (stateOf (lent []) 1 false) clockOne .answer ≡ clockNow 1)
     × (eventOnSlice 31 (counting 0) [] (stateOf (lent []) 1 false) clockOne .answer ≡ refused 0 tooShort)
-    × (eventOnSlice 31 (counting 33) [] (stateOf (lent (7 ∷ [])) 0 false) (line []) .answer ≡ refused 0 tooShort)
+    × (eventOnSlice 31 (counting 33) [] (stateOf (lent (7 ∷ [])) 3 false) (line []) .answer ≡ refused 0 tooShort)
 unfolding lists eventMeant eventOnSlice recordsTo
 records-answered = (refl, refl, refl, refl, refl, refl)
 
@@ -176,10 +183,10 @@ abbrev twoJobs : Event
 twoJobs = call (job 1 1 ∷ job 2 2 ∷ [])
 
 abbrev leftBy : Bool → List ℕ → EventsOutcome
-leftBy hold text = eventsMeant 32 (counting 0) [] (stateOf (lent []) 1 hold) text (replicate 8192 0)
+leftBy hold text = eventsMeant 32 (counting 0) [] (stateOf (lent []) 0 hold) text (replicate 8192 0)
 
-pub orders-met : (take 3 (eventOf (bare 3 1) (stateOf (lent []) 1 true) twoJobs .after .table) ≡ callCell 2 ∷ callCell 2 ∷ callCell 1 ∷ [])
-    × (take 3 (eventOf (bare 3 1) (stateOf (lent []) 1 false) twoJobs .after .table) ≡ callCell 2 ∷ callCell 1 ∷ callCell 2 ∷ [])
+pub orders-met : (take 3 (eventOf (bare 3 1) (stateOf (lent []) 0 true) twoJobs .after .table) ≡ callCell 2 ∷ callCell 2 ∷ callCell 1 ∷ [])
+    × (take 3 (eventOf (bare 3 1) (stateOf (lent []) 0 false) twoJobs .after .table) ≡ callCell 2 ∷ callCell 1 ∷ callCell 2 ∷ [])
     × (leftBy true (bytes "(clock 1)\n(tie Place)\n") .after .hold ≡ true)
     × (leftBy true (bytes "(tie place)\n(clock 1)\n") .after .hold ≡ false)
     × (leftBy false (bytes "(tie hold)\n(clock 9)\n") .after .hold ≡ true)
@@ -198,8 +205,8 @@ orders-left = (refl, refl, refl, refl, refl, refl)
 
 -- ---- a list handed over
 
--- It may start from 32 records, and from the last clock; not from 31, nor past that clock.
-pub starts-pass : LetPass (counting 0) (recordsTo 32) (stateOf (lent []) 1 false)
+-- It may start from 32 records, and from the first clock, 0, to the last; not from 31, nor past that clock.
+pub starts-pass : LetPass (counting 0) (recordsTo 32) (stateOf (lent []) 0 false)
     × LetPass (counting 32) (recordsTo 32) (stateOf (lent []) 2 false)
     × (LetPass (counting 0) (recordsTo 31) (stateOf (lent []) 1 false) → some tooShort ≡ none)
     × (LetPass (counting 0) (recordsTo 32) (stateOf (lent []) 3 false) → some notWellFormed ≡ none)
@@ -259,6 +266,72 @@ asked-met = (met, λ p. let e : _≡_ {A = ℕ} 0 1 = ap cause (p 0) in omega ar
     met (suc zero) = refl
     met (suc (suc j)) = refl
 
+-- ---- the planner when a call could use the clock's own slot
+
+-- Document 01's listing with its clock line at 4: "jobs 10 and 11 found a place before". The clock started at 1 and ended at S + 1, 0 was 2 (before 6), and a call at clock 1 had all slots.
+pub own-slot-listed : (listingOf (wholeOwnSlot (bytes "(frame 4 2)\n(busy 2 (2 3))\n(preset 1 0 2 1)\n(preset 2 1 1 2)\n(clock 4)\n(call (9 2))\n(call (10 1))\n(call (11 1))\n") blank)
+    ≡ bytes "(granted 1 1)\n(granted 2 2)\n(now 4)\n(refused 6 7)\n(taken 1)\n(taken 1)\n(slot 1 m1 m2)\n(slot 2 m1 -)\n(slot 3 o2 -)\n(slot 4 c11 c10)\n")
+    × (listingOf (wholeOwnSlot (bytes "(frame 2 1)\n(clock 0)\n(clock 1)\n(call (1 2))\n(clock 3)\n(clock 4)\n(clock 2)\n(clock 0)\n") blank)
+    ≡ bytes "(refused 2 2)\n(now 1)\n(taken 0)\n(now 3)\n(refused 6 2)\n(refused 7 6)\n(refused 8 2)\n(slot 1 c1)\n(slot 2 c1)\n")
+    × (listingOf (wholeOwnSlot (bytes "(frame 2 2)\n(busy 2 (2 2))\n(preset 1 0 0 2)\n(clock 1)\n(call (9 1))\n") blank) ≡ bytes "(granted 1 2)\n(now 1)\n(taken 0)\n(slot 1 o1 c9)\n(slot 2 o1 -)\n")
+    × (eventOwnSlot today (bare 1 1) (stateOf (lent []) 0 false) (clock 1) .answer ≡ refused 0 notWellFormed)
+    × (eventOwnSlot today (bare 1 1) (stateOf (lent []) 3 false) (clock 1) .answer ≡ refused 0 notWellFormed)
+unfolding lists lastGone ownSlotCauses carriedOwnSlot eventOwnSlot runBy withPlanBy withHeadBy wholeBy
+own-slot-listed = (refl, refl, refl, refl, refl)
+
+-- Document 01, "One listing, whole": its planner, without ties, a supply and the clock of 2026-05, lists just that; a tie line and a supply line were 1, two cells of a slot no fault of soundness whatever the supply.
+pub document-listed : (listingOf (wholeDocumentOne (bytes "(frame 4 2)\n(busy 2 (2 3))\n(preset 1 0 2 1)\n(preset 2 1 1 2)\n(clock 2)\n(call (9 2))\n(call (10 1))\n(call (11 1))\n") blank)
+    ≡ bytes "(granted 1 1)\n(granted 2 2)\n(now 2)\n(taken 2)\n(taken 1)\n(refused 8 7)\n(slot 1 m1 m2)\n(slot 2 m1 -)\n(slot 3 c9 -)\n(slot 4 c10 c9)\n")
+    × (listingOf (wholeDocumentOne (bytes "(frame 2 1)\n(clock 0)\n(call (5 1) (6 1))\n(clock 2)\n(tie hold)\n(supply 1)\n(call (7 1))\n(clock 3)\n(clock 4)\n(clock 1)\n") blank)
+    ≡ bytes "(refused 2 2)\n(taken 0)\n(now 2)\n(refused 5 1)\n(refused 6 1)\n(refused 7 7)\n(now 3)\n(refused 9 2)\n(refused 10 6)\n(slot 1 c5)\n(slot 2 c6)\n")
+    × (eventOwnSlot documentOne (withSupply (bare 1 2) 1) (stateOf (lent (callCell 7 ∷ callCell 8 ∷ [])) 1 false) (clock 2) .answer ≡ clockNow 2)
+    × (eventOwnSlot documentOne (bare 1 1) (stateOf (lent []) 1 false) (call (job 5 1 ∷ [])) .answer ≡ taken (cost 0))
+unfolding
+    lists lastGone readBefore headBefore servedBefore leftBefore needsUncapped grantsUncapped evictedUncapped fitsUncapped planBefore ownSlotCauses carriedOwnSlot eventOwnSlot runBy withPlanBy
+    withHeadBy wholeBy
+document-listed = (refl, refl, refl, refl)
+
+-- the clock that is asked for, one higher; 0 where none is
+abbrev clockAsked : Asked → ℕ
+clockAsked (setClock t) = suc t
+clockAsked (setTie hold) = 0
+clockAsked (placeJobs jobs) = 0
+clockAsked (fault r) = 0
+
+no-clock : (o : Option Form) (t : ℕ) → clockAsked (askedByForm o) ≡ 0 → o ≡ some (clockLine t) → ⊥
+no-clock o t z e = let q : clockAsked (askedByForm o) ≡ suc t = ap (λ (f : Option Form). clockAsked (askedByForm f)) e in omega (arith, z, q)
+
+-- What `text-without-clock` asks of a text can be met, with an event too, and a text with a clock line does not meet it.
+pub no-clock-met : NoClockLine (lines (bytes "(frame 1 1)\n(tie hold)\n(call (5 1))\n")) × (NoClockLine (lines (bytes "(frame 1 1)\n(clock 0)\n")) → ⊥)
+unfolding lists
+no-clock-met = (met, λ p. p 1 0 refl)
+  where
+    met : NoClockLine (lines (bytes "(frame 1 1)\n(tie hold)\n(call (5 1))\n"))
+    met zero t e = no-clock (form (bytes "(frame 1 1)\n")) t refl e
+    met (suc zero) t e = no-clock (form (bytes "(tie hold)\n")) t refl e
+    met (suc (suc zero)) t e = no-clock (form (bytes "(call (5 1))\n")) t refl e
+    met (suc (suc (suc j))) t e = no-clock (form []) t refl e
+
+-- So it is with what `run-one-higher` asks of two lists: the clocks 0 and S were 1 and S + 1; the last clock is left out, and the same clock is not one higher.
+pub higher-met : OneHigher 2 (clock 0 ∷ call [] ∷ clock 2 ∷ []) (clock 1 ∷ call [] ∷ clock 3 ∷ [])
+    × (OneHigher 2 (clock 3 ∷ []) (clock 4 ∷ []) → ⊥)
+    × (OneHigher 2 (clock 0 ∷ []) (clock 0 ∷ []) → ⊥)
+unfolding lists
+higher-met =
+    (record { long = refl; asks = asks; not-last = not-last }, λ p. p .not-last 0 refl, λ p. let q : _≡_ {A = ℕ} 1 2 = ap clockAsked (p .asks 0) in omega (arith, q))
+  where
+    asks : (j : ℕ) → asked (eventAt (clock 1 ∷ call [] ∷ clock 3 ∷ []) j) ≡ higherAsked (asked (eventAt (clock 0 ∷ call [] ∷ clock 2 ∷ []) j))
+    asks zero = refl
+    asks (suc zero) = refl
+    asks (suc (suc zero)) = refl
+    asks (suc (suc (suc j))) = refl
+
+    not-last : (j : ℕ) → asked (eventAt (clock 0 ∷ call [] ∷ clock 2 ∷ []) j) ≡ setClock 3 → ⊥
+    not-last zero e = let q : _≡_ {A = ℕ} 1 4 = ap clockAsked e in omega (arith, q)
+    not-last (suc zero) e = let q : _≡_ {A = ℕ} 0 4 = ap clockAsked e in omega (arith, q)
+    not-last (suc (suc zero)) e = let q : _≡_ {A = ℕ} 3 4 = ap clockAsked e in omega (arith, q)
+    not-last (suc (suc (suc j))) e = let q : _≡_ {A = ℕ} 0 4 = ap clockAsked e in omega (arith, q)
+
 -- ---- a text beside lent things that are too short: 10, then 8, then the head's
 
 pub texts-end : (wholeOf (replicate 32769 10) (replicate 511 0) ≡ notRead 0 textTooLong)
@@ -277,15 +350,15 @@ texts-end = (refl, refl, refl, refl, refl, refl, refl, refl, refl, refl, refl)
 
 -- ---- a text of events on a lent frame: 10, 8, the head record's 2, 11, then its lines, numbered from 1
 
-pub events-end : (eventsMeant 31 (counting 33) [] (stateOf [] 0 false) (replicate 32769 10) [] .ended ≡ refusedAt 0 textTooLong)
-    × (eventsMeant 31 (counting 33) [] (stateOf (lent (7 ∷ [])) 0 false) [] (replicate 8192 0) .ended ≡ refusedAt 0 tooShort)
-    × (eventsMeant 32 (counting 33) [] (stateOf (lent (7 ∷ [])) 0 false) [] (replicate 8191 0) .ended ≡ refusedAt 0 tooShort)
-    × (eventsMeant 32 (counting 33) [] (stateOf (replicate 511 0) 0 false) [] (replicate 8192 0) .ended ≡ refusedAt 0 tooShort)
-    × (eventsMeant 32 (counting 33) [] (stateOf (lent (7 ∷ [])) 0 false) [] (replicate 8192 0) .ended ≡ refusedAt 0 outOfLimits)
+pub events-end : (eventsMeant 31 (counting 33) [] (stateOf [] 3 false) (replicate 32769 10) [] .ended ≡ refusedAt 0 textTooLong)
+    × (eventsMeant 31 (counting 33) [] (stateOf (lent (7 ∷ [])) 3 false) [] (replicate 8192 0) .ended ≡ refusedAt 0 tooShort)
+    × (eventsMeant 32 (counting 33) [] (stateOf (lent (7 ∷ [])) 3 false) [] (replicate 8191 0) .ended ≡ refusedAt 0 tooShort)
+    × (eventsMeant 32 (counting 33) [] (stateOf (replicate 511 0) 3 false) [] (replicate 8192 0) .ended ≡ refusedAt 0 tooShort)
+    × (eventsMeant 32 (counting 33) [] (stateOf (lent (7 ∷ [])) 3 false) [] (replicate 8192 0) .ended ≡ refusedAt 0 outOfLimits)
     × (eventsMeant 32 (counting 0) [] (stateOf (lent (7 ∷ [])) 1 false) (bytes "x") (replicate 8192 0) .ended ≡ refusedAt 0 notWellFormed)
     × (eventsMeant 32 (counting 0) [] (stateOf (lent []) 3 false) (bytes "x") (replicate 8192 0) .ended ≡ refusedAt 0 notWellFormed)
     × (eventsMeant 32 (counting 0) [] (stateOf (lent []) 2 false) [] (replicate 8192 0) .ended ≡ listed 0)
-    × (take 45 (eventsMeant 32 (counting 0) [] (stateOf (lent []) 1 false) (bytes "(frame 1 1)\n(call (5 1))\n(clock 2)\n(clock 1)") (replicate 8192 0) .output)
+    × (take 45 (eventsMeant 32 (counting 0) [] (stateOf (lent []) 0 false) (bytes "(frame 1 1)\n(call (5 1))\n(clock 2)\n(clock 1)") (replicate 8192 0) .output)
     ≡ bytes "(refused 1 3)\n(taken 0)\n(now 2)\n(refused 4 1)")
 unfolding lists eventsMeant moved
 events-end = (refl, refl, refl, refl, refl, refl, refl, refl, refl)

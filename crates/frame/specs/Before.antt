@@ -1,11 +1,11 @@
--- The planner as document 01 had it, before there were ties and a supply: how a head was read, the rule, a plan, an event, a list of events and a whole text. proofs/AsBefore.antt shows that
--- without lines of the forms that came later, and from `(tie place)` on where the supply feeds every bridge, this is what the definitions come to. Document 02, 2026-02: "`(tie place)` brings
--- back the old order"; 2026-03: "without it there is no cap".
+-- The planner as document 01 had it, before there were ties and a supply, but for the clock, which is that of 2026-05: how a head was read, the rule, a plan, an event, a list of events and a whole
+-- text. proofs/AsBefore.antt shows that without lines of the forms that came later, and from `(tie place)` on where the supply feeds every bridge, this is what the definitions come to. Document 02,
+-- 2026-02: "`(tie place)` brings back the old order"; 2026-03: "without it there is no cap". (The clock before 2026-05 is in specs/OwnSlot.)
 --
 -- In order: the five forms (`formBefore`), how a head was read (`headBefore`), and what an event asked for (`askedBefore`); document 01's rule (`leftBefore`, `lrtfBefore`), and the tables that it makes
 -- (`plannedBefore`, `calledBefore`); a plan, an event, a list of events and a whole text with them (`planBefore`, `eventBefore`, `runBefore`, `wholeBefore`); a text and a list of events without
 -- the later forms (`FiveForms`, `FiveAsked`). The numbers of free cells, and what follows from them, are those of placing's specs/Uncapped; what neither a tie nor a supply enters (the causes
--- of lines of the five forms, `valid` of a head without a supply, the order of loss, the listing) is that of the other files.
+-- of lines of the five forms, `valid` of a head without a supply, the clock and the slots above it, the order of loss, the listing) is that of the other files.
 -- Assumes nothing.
 use Prim.Native.Nat.{ℕ, zero, suc, _-_}
 use mathlib.Core.Path.{_≡_}
@@ -32,7 +32,7 @@ use Rattle.placing.specs.Outcomes.{written, PlanAnswer, PlanOutcome}
 use Rattle.placing.specs.Uncapped.{freeCount, planCount, planFitsUncapped, needsUncapped, grantsUncapped, callFreeUncapped, costUncapped, frameCausesUncapped}
 use Rattle.frame.specs.Event.{Event, Asked, setClock, setTie, placeJobs, fault, askedByForm, asked, clockNow, taken, refused, Outcome}
 use Rattle.frame.specs.Event.{Run}
-use Rattle.frame.specs.Text.{Whole}
+use Rattle.frame.specs.Text.{Whole, startOf}
 use Rattle.frame.specs.Uncapped.{decided, runBy, wholeBy, ownUncapped}
 use Rattle.frame.specs.Demands.{eventAt}
 
@@ -137,7 +137,7 @@ abbrev pub runBefore : Head → State → List Event → Run
 runBefore h = runBy (eventBefore h)
 
 abbrev pub wholeBefore : List ℕ → List ℕ → Whole
-wholeBefore = wholeBy headBefore planBefore eventBefore
+wholeBefore = wholeBy headBefore planBefore startOf eventBefore
 
 -- ---- without the later forms
 

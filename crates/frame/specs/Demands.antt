@@ -1,5 +1,5 @@
 -- The three demands as statements about `wholeOf`, `headOf`, `textOf`, `planOf`, `eventOf` and `runOf`, each a record whose fields are document 01's
--- sentences in their order, and those of document 02, 2026-02 on the order of ties and 2026-03 on the supply. That they hold for all texts, tables, starts and lists of events is `demand-1`, `demand-2` and
+-- sentences in their order, and those of document 02: 2026-02 on the order of ties, 2026-03 on the supply, 2026-05 on the clock, above which a call uses slots. That they hold for all texts, tables, starts and lists of events is `demand-1`, `demand-2` and
 -- `demand-3` in proofs/Demands.antt.
 -- Assumes nothing.
 use Prim.Native.Nat.{ℕ, suc, _+_, _≤_, _<_}
@@ -156,7 +156,7 @@ pub record SameFixed (v w : ℕ) : Type 0 where
 
 -- what a list of events leaves of call cells: those of its accepted calls, and those of the start
 pub record CallCells (h : Head) (st : State) (es : List Event) : Type 0 where
-  -- "each job of an accepted call has exactly c call cells, none in a slot below that call's clock"
+  -- "each job of an accepted call has exactly c call cells, none in a slot" up to that call's clock (2026-05)
   pub jobs-exact : (j : ℕ) (jobs : List Job) (n : Cost) → CallAt es j jobs → answerAt h st es j ≡ taken n → (i : ℕ) → i < length jobs
       → holding h (cell h (runOf h st es .after .table)) (callCell (jobAt jobs i .number)) ≡ jobAt jobs i .slots
   pub jobs-later : (j : ℕ) (jobs : List Job) (n : Cost) → CallAt es j jobs → answerAt h st es j ≡ taken n → (i : ℕ) → i < length jobs
@@ -206,7 +206,7 @@ pub record Demand3 (h : Head) (st : State) (es : List Event) : Type 0 where
   pub reported : (j : ℕ) (jobs : List Job) (n : Cost) → CallAt es j jobs → answerAt h st es j ≡ taken n
       → n .count ≡ cells h (λ s b. lost (cellsAt h st es j) (cellsAt h st es (suc j)) s b)
   -- "For each priority p, every other valid placement has at least as many lost cells of presets with priority p or better as the table left;
-  -- p = 9 counts all."
+  -- p = 9 counts all." 2026-05: "The least loss is measured over placements in slots above the clock", which is `ValidCall`.
   pub least : (j : ℕ) (jobs : List Job) (n : Cost) → CallAt es j jobs → answerAt h st es j ≡ taken n
       → (u : List ℕ) → ValidCall h (stateAt h st es j .clock) jobs (cellsAt h st es j) (cell h u)
       → (p : ℕ) → lostUpTo h (cellsAt h st es j) (cellsAt h st es (suc j)) p ≤ lostUpTo h (cellsAt h st es j) (cell h u) p
@@ -237,11 +237,11 @@ pub record Demand3 (h : Head) (st : State) (es : List Event) : Type 0 where
   -- "each refinement cell is one of the start's", and of any moment before: "Kept refinement does not move"
   pub optional : Each h (λ s b. isOptional (cell h (runOf h st es .after .table) s b) ≡ true → cell h (runOf h st es .after .table) s b ≡ cell h (st .table) s b)
   pub optional-between : Between es (λ i j. Each h (λ s b. isOptional (cellsAt h st es j s b) ≡ true → cellsAt h st es j s b ≡ cellsAt h st es i s b))
-  -- "slots gone by are not used": every cell of a slot that is gone by stays as it is
+  -- "slots gone by are not used": every cell of a slot up to the clock stays as it is; the slot about to begin "is already lost" (2026-05)
   pub still : Between es (λ i j. Each h (λ s b. usable (stateAt h st es i .clock) s ≡ false → cellsAt h st es j s b ≡ cellsAt h st es i s b))
   -- "refinement cells at the start = refinement cells now + all lost cells reported"
   pub conserved : optionalCount h (cell h (st .table)) ≡ optionalCount h (cell h (runOf h st es .after .table)) + totalTaken (runOf h st es .answers)
-  -- "each job of an accepted call has exactly c call cells, none in a slot below that call's clock"; other call cells stay
+  -- "each job of an accepted call has exactly c call cells, none in a slot" up to that call's clock; other call cells stay
   pub calls : CallCells h st es
   -- nothing else moves: all that stands past the frame stays
   pub past : SamePast h (st .table) (runOf h st es .after .table)

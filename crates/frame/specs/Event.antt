@@ -1,4 +1,4 @@
--- One event on the running frame, and a list of events. Document 01, "The station text", "Causes" and "What demand 3 speaks of"; document 02, 2026-02 and 2026-03.
+-- One event on the running frame, and a list of events. Document 01, "The station text", "Causes" and "What demand 3 speaks of"; document 02, 2026-02, 2026-03 and 2026-05.
 -- Assumes nothing.
 use Prim.Native.Nat.{ℕ}
 use mathlib.Core.Bool.{Bool, not}
@@ -58,7 +58,7 @@ asked (line l) = askedByForm (form l)
 asked (clock t) = setClock t
 asked (call jobs) = placeJobs jobs
 
--- What an event is tried for after 8, a head record's 2, and 11: its line's 1 or 3, "t below 1 or above S + 1" and "a clock below the present one",
+-- What an event is tried for after 8, a head record's 2, and 11: its line's 1 or 3, a t outside 0 to S + 1 (2026-05) and "a clock below the present one",
 -- or the causes of a call; a tie has none of its own.
 unfoldable pub ownCauses : Head → State → Asked → List (Option Refusal)
 ownCauses h st (setClock t) = try outOfLimits (not (clockIn (h .slots) t)) ∷ try clockBack (ltb t (st .clock)) ∷ []

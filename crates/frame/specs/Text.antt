@@ -1,4 +1,4 @@
--- A whole text: head, plan, then every line as an event. Document 01, "The station text" and "Causes"; document 02, 2026-02.
+-- A whole text: head, plan, then every line as an event. Document 01, "The station text" and "Causes"; document 02, 2026-02 and 2026-05.
 -- Assumes nothing.
 use Prim.Native.Nat.{ℕ}
 use mathlib.Core.Option.{none, some}
@@ -22,7 +22,7 @@ pub data Whole : Type 0 where
   notPlanned : Head → ℕ → Refusal → Whole
   ran : Head → ℕ → List ℕ → Run → Whole
 
--- "It starts from an accepted head with its plan and the first clock": the clock "starts at 1". "Directly after the frame line `(tie hold)` holds for the plan and the calls".
+-- "It starts from an accepted head with its plan and the first clock", which is 0 (2026-05: "with 0 the start"). "Directly after the frame line `(tie hold)` holds for the plan and the calls".
 abbrev pub startOf : Head → List ℕ → State
 startOf h t = stateOf t firstClock (h .hold)
 

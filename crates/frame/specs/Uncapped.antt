@@ -1,7 +1,7 @@
 -- Events, a list of them and a whole text where the supply feeds every bridge, under whatever order of ties: what they were before there was a supply line. Document 02, 2026-03: "without it
 -- there is no cap". proofs/AsUncapped.antt shows that without the line, and with one that feeds as many motors as there are bridges, the definitions of the other files come to this.
 --
--- In order: an event by its causes (`decided`), a list of events and a whole text, from any reading of a head, any plan and any event (`runBy`, `wholeBy`), which specs/Before has too; then what an event is
+-- In order: an event by its causes (`decided`), a list of events and a whole text, from any reading of a head, any plan, any start and any event (`runBy`, `wholeBy`), which specs/Before and specs/OwnSlot have too; then what an event is
 -- tried for (`ownUncapped`) and carried out to, what it comes to (`eventUncapped`), a list of events (`runUncapped`) and a whole text (`wholeUncapped`). The plan and the call are those of placing's
 -- specs/Uncapped; what an event asks for, how a head is read and the listing are those of the other files.
 -- Assumes nothing.
@@ -32,21 +32,21 @@ unfoldable pub runBy : (State → Event → Outcome) → State → List Event �
 runBy one st [] = record { answers = []; after = st }
 runBy one st (e ∷ es) = more (one st e .answer) (runBy one (one st e .after) es)
 
--- a whole text, where `read` reads its head, `plan` plans it and `one` is what an event comes to: the lines after a plan
-unfoldable pub withPlanBy : (Head → State → Event → Outcome) → List ℕ → Head → ℕ → PlanAnswer → List ℕ → Whole
-withPlanBy one text h n (PlanAnswer.granted g) t = ran h n g (runBy (one h) (startOf h t) (eventsOf text n))
-withPlanBy one text h n (PlanAnswer.refused _ r) t = notPlanned h n r
+-- a whole text, where `read` reads its head, `plan` plans it, `start` is the state that the events start from and `one` what an event comes to: the lines after a plan
+unfoldable pub withPlanBy : (Head → List ℕ → State) → (Head → State → Event → Outcome) → List ℕ → Head → ℕ → PlanAnswer → List ℕ → Whole
+withPlanBy start one text h n (PlanAnswer.granted g) t = ran h n g (runBy (one h) (start h t) (eventsOf text n))
+withPlanBy start one text h n (PlanAnswer.refused _ r) t = notPlanned h n r
 
 -- the plan of a head that was read
-unfoldable pub withHeadBy : (Head → List ℕ → PlanOutcome) → (Head → State → Event → Outcome) → List ℕ → Reading → List ℕ → Whole
-withHeadBy plan one text (Reading.accepted h n) t = withPlanBy one text h n (plan h t .answer) (plan h t .table)
-withHeadBy plan one text (Reading.refused n r) t = notRead n r
+unfoldable pub withHeadBy : (Head → List ℕ → PlanOutcome) → (Head → List ℕ → State) → (Head → State → Event → Outcome) → List ℕ → Reading → List ℕ → Whole
+withHeadBy plan start one text (Reading.accepted h n) t = withPlanBy start one text h n (plan h t .answer) (plan h t .table)
+withHeadBy plan start one text (Reading.refused n r) t = notRead n r
 
 -- 10 and 8 first
-unfoldable pub wholeBy : (List ℕ → Reading) → (Head → List ℕ → PlanOutcome) → (Head → State → Event → Outcome) → List ℕ → List ℕ → Whole
-wholeBy read plan one text t =
+unfoldable pub wholeBy : (List ℕ → Reading) → (Head → List ℕ → PlanOutcome) → (Head → List ℕ → State) → (Head → State → Event → Outcome) → List ℕ → List ℕ → Whole
+wholeBy read plan start one text t =
     elim (firstOf (try textTooLong (ltb mostBytes (length text)) ∷ try tooShort (ltb (length t) leastCells) ∷ []))
-    [ none ↦ withHeadBy plan one text (read text) t | some r ↦ notRead 0 r ]
+    [ none ↦ withHeadBy plan start one text (read text) t | some r ↦ notRead 0 r ]
 
 -- what an event is tried for
 unfoldable pub ownUncapped : Head → State → Asked → List (Option Refusal)
@@ -71,4 +71,4 @@ abbrev pub runUncapped : Head → State → List Event → Run
 runUncapped h = runBy (eventUncapped h)
 
 abbrev pub wholeUncapped : List ℕ → List ℕ → Whole
-wholeUncapped = wholeBy headOf planUncapped eventUncapped
+wholeUncapped = wholeBy headOf planUncapped startOf eventUncapped

@@ -27,7 +27,7 @@ ghost use Rattle.station.specs.Types.{headIn};
 ghost use Rattle.placing.specs.Claims.{Running};
 ghost use Rattle.frame.specs.Demands.{Demand3};
 
-// Sets the clock: "slot t is about to begin". The causes 8 of the list and of the table, 2 of the head record, 11, then 2 where t is outside 1 to S + 1, and 6 where
+// Sets the clock: "slot t is about to begin". The causes 8 of the list and of the table, 2 of the head record, 11, then 2 where t is outside 0 to S + 1, and 6 where
 // it is below the present clock. The list and the table are only looked at, and the order of ties stays. A frame that 11 lets pass is such a frame afterwards.
 pub fn set_clock(
     head: Head,
@@ -62,7 +62,7 @@ pub fn event(
     event_counted(records, head, copied, table, clock, hold, line)
 }
 
-// Sets the clock: "slot t is about to begin". The causes 8, 2 of the head record, 11, then 2 where t is outside 1 to S + 1, and 6 where it is below the
+// Sets the clock: "slot t is about to begin". The causes 8, 2 of the head record, 11, then 2 where t is outside 0 to S + 1, and 6 where it is below the
 // present clock. The table is only looked at, and the order of ties stays. A frame that 11 lets pass is such a frame afterwards.
 pub fn set_clock_by_value(
     head: Head,

@@ -48,7 +48,7 @@ no-help = (trial-table has-table 0 (omega arith) (omega arith), refl)
 no-five : (x : ℕ → ℕ) (l : List ℕ) → AtLeast (5 ∷ l) 4 x → ⊥
 no-five x l a = absurd (omega (arith, at-least-le a 0 (omega arith)))
 
--- A slot with eight free bridges is in every entry, and one before the clock, with none, in no entry.
+-- A slot with eight free bridges is in every entry, and one that may not be used, with none, in no entry.
 full : AtLeast (1 ∷ 1 ∷ 1 ∷ 1 ∷ 1 ∷ 1 ∷ 1 ∷ 1 ∷ []) 2 (at (0 ∷ 8 ∷ []))
 unfolding sum tabulate
 full = at-least-of 2 (at (0 ∷ 8 ∷ []))

@@ -59,7 +59,7 @@ module _ (h : Head) (all : Uncapped h) where
   pub plan-count : planFreeCount h ≡ planCount h
   plan-count = fun-ext (λ s. omega (arith, all, plan-free-is h s, count-le (h .bridges) (λ b. planFree h s b)))
 
-  -- of the cells that pass a test and are empty then, in slots from the clock on
+  -- of the cells that pass a test and are empty then, in slots above the clock
   from-uncapped : (clock : ℕ) (t : Cells) (f : ℕ → ℕ → Bool) (s : ℕ) → ((b : ℕ) → f s b ≡ (usable clock s && isEmpty (t s b))) → freeNumberFrom h clock t s ≡ freeCount (h .bridges) f s
   from-uncapped clock t f s e = go (is (usable clock s))
     where
@@ -75,7 +75,7 @@ module _ (h : Head) (all : Uncapped h) where
   pub empty-count : (clock : ℕ) (t : Cells) → freeNumberFrom h clock t ≡ emptyCount h clock t
   empty-count clock t = fun-ext (λ s. from-uncapped clock t (emptyFree clock t) s (λ b. refl))
 
-  -- an evicted cell stands in a slot from the clock on
+  -- an evicted cell stands in a slot above the clock
   free-or-evicted : (clock : ℕ) (t : Cells) (d : List Bool) (s b : ℕ)
       → (emptyFree clock t s b || inSet (evictionOrder h clock t) d s b) ≡ (usable clock s && isEmpty (cleared (inSet (evictionOrder h clock t) d) t s b))
   free-or-evicted clock t d s b = go (is (usable clock s))
@@ -155,7 +155,7 @@ module _ (h : Head) (all : Uncapped h) where
   pub state-call : (jobs : List Job) (st : State) → calledState h jobs st ≡ stateUncapped h jobs st
   state-call jobs st = ap (λ (u : Cells). withTable (written h u (st .table)) st) (called-call (tieOf (st .hold)) (st .clock) jobs (cell h (st .table)))
 
-  sound-call : (t : Cells) → wellFormed h t ≡ laidOut h t
+  pub sound-call : (t : Cells) → wellFormed h t ≡ laidOut h t
   unfolding wellFormed
   sound-call t =
       ap (λ (c : Bool). laidOut h t && c) (all-every (h .slots) (λ s. leb (heldCells h t s) (motors h)) (λ s l. leb-yes (heldCells h t s) (motors h) (supplied-uncapped t s)))

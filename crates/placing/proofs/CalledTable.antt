@@ -45,7 +45,7 @@ use Rattle.placing.proofs.EvictionOrder.{in-set-evictable, set-size, se
 
 -- ---- one change
 
--- a job of the call fills what was empty or optional, in a slot from the clock on
+-- a job of the call fills what was empty or optional, in a slot above the clock
 abbrev pub JobFills : ℕ → List Job → ℕ → ℕ → ℕ → Type 0
 JobFills clock jobs s v w =
     (i : ℕ) × (i < length jobs) × (w ≡ callCell (jobAt jobs i .number)) × (usable clock s ≡ true) × ((isEmpty v || isOptional v) ≡ true)
@@ -77,13 +77,13 @@ module _ (clock : ℕ) (jobs : List Job) (s v w : ℕ) where
       absurd (b (ap kindOf e ∙ kindOf-call (jobAt jobs i .number) (omega (arith, high i l))))
   change-kept high (evicted x y e) a b = absurd (a (ap kindOf e))
 
-  -- a call cell was there, or a job of the call fills it in a slot from the clock on
+  -- a call cell was there, or a job of the call fills it in a slot above the clock
   pub change-call : Change clock jobs s v w → (kindOf w ≡ 0 → ⊥) → (w ≡ v) ⊎ JobFills clock jobs s v w
   change-call (same e) a = inl e
   change-call (filled x y i l e) a = inr (i, l, e, x, y)
   change-call (evicted x y e) a = absurd (a (ap kindOf e))
 
-  -- in a slot gone by nothing changes
+  -- in a slot up to the clock nothing changes
   pub change-gone : Change clock jobs s v w → usable clock s ≡ false → w ≡ v
   change-gone (same e) n = e
   change-gone (filled x y i l e) n = absurd (clash (sym x ∙ n))
@@ -159,7 +159,7 @@ module _ (h : Head) (clock : ℕ) (jobs : List Job) (t u : Cells) (high : (i : �
       let k : kindOf (t s b) ≡ 4 = eq-of (kindOf (t s b)) 4 e in
       keeps s b l m (λ q. omega arith) (λ q. omega arith)
 
-  -- a call cell that was not there is a job's, in a slot from the clock on
+  -- a call cell that was not there is a job's, in a slot above the clock
   pub changed-new-call : Each h (λ s b. isCall (u s b) ≡ true → (u s b ≡ t s b → ⊥) → JobFills clock jobs s (t s b) (u s b))
   changed-new-call s b l m e ne =
       let k : kindOf (u s b) ≡ 4 = eq-of (kindOf (u s b)) 4 e in
@@ -341,7 +341,7 @@ module _ (h : Head) (clock : ℕ) (jobs : List Job) (t : Cells) where
   abbrev pub isEvicted : ℕ → ℕ → Bool
   isEvicted s b = inSet (evictionOrder h clock t) (evictedSet h clock jobs t) s b
 
-  -- an evicted cell was optional, a free one empty or optional, in a slot from the clock on
+  -- an evicted cell was optional, a free one empty or optional, in a slot above the clock
   evicted-was : (s b : ℕ) → isEvicted s b ≡ true → (usable clock s ≡ true) × (isOptional (t s b) ≡ true)
   evicted-was s b e =
       let w = in-set-evictable h clock t (evictedSet h clock jobs t) s b e .0 in
@@ -471,7 +471,7 @@ module _ (ties : Ties) (o : TotalTies ties) (h : Head) (clock : ℕ) (jobs : Lis
       n : ℕ
       n = jobAt jobs i .number
 
-  -- in a slot gone by nothing is free, so that it is not placed there
+  -- in a slot up to the clock nothing is free, so that it is not placed there
   gone-unplaced : (s : ℕ) → usable clock s ≡ false → isPlaced ties h clock jobs t i s ≡ false
   gone-unplaced s gone =
       not-true (isPlaced ties h clock jobs t i s) (λ e.
@@ -482,7 +482,7 @@ module _ (ties : Ties) (o : TotalTies ties) (h : Head) (clock : ℕ) (jobs : Lis
         ap (λ (c : Bool). only c (freeNumber h (unevicted h clock jobs t) s)) gone,
       ))
 
-  -- from the clock on as many cells as it needs
+  -- above the clock as many cells as it needs
   pub called-above : Valid h → WellFormed h t → callFits h clock jobs t ≡ true
       → above h clock (called ties h clock jobs t) (callCell (jobAt jobs i .number)) ≡ jobAt jobs i .slots
   called-above valid wf fits =
@@ -548,7 +548,7 @@ module _ (ties : Ties) (o : TotalTies ties) (h : Head) (clock : ℕ) (jobs : Lis
   can : Placeable h clock t jobs
   can = placeable-of h t jobs wf good clock
 
-  -- a job has one cell in each slot where LRTF places it, and none in the others, those gone by included
+  -- a job has one cell in each slot where LRTF places it, and none in the others, those up to the clock included
   called-everywhere : (i : ℕ) → i < length jobs → (s : ℕ) → s < h .slots
       → count (h .bridges) (λ b. eqb (called ties h clock jobs t s b) (callCell (jobAt jobs i .number))) ≡ bit (isPlaced ties h clock jobs t i s)
   called-everywhere i k s l = go (is (usable clock s))

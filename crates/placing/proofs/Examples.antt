@@ -1,7 +1,7 @@
 -- Small frames computed and proved: what the definitions of this layer say of them, and of the frame with free 3, 1, 1, 1 what holds of every
 -- placement.
 --
--- In order: what computes; a plan's ties and bridges (`three-planned`); the two orders of ties (`held-..`, `calls-by-order`); the clock's own slot (`clock-slot`); the worst priority is evicted
+-- In order: what computes; a plan's ties and bridges (`three-planned`); the two orders of ties (`held-..`, `calls-by-order`); the clock: the slots above it, its range, its own slot (`clock-..`); the worst priority is evicted
 -- (`worst-evicted`); what every valid placement of a call that is taken loses (`must-go`, `goes`); free 3, 1, 1, 1: no placement in the empty cells
 -- (`no-empty-placement`), one cell must go and one goes (`one-must-go`, `one-goes`); the room for r at both edges (`capacity-3111`, `capacity-clock`, `longest-first`,
 -- `plan-capacity`, `no-plan-3111`, `plan-3121`). Then what holds the definitions to document 01 from two sides, each a list of cases and one fact: each clause of a sound table broken
@@ -31,7 +31,7 @@ use Rattle.station.specs.declared.types.Job as record-of-job
 use Rattle.station.specs.declared.types.Refusal.the-variants.{TooShort}
 use Rattle.placing.specs.Table.{cell, cells, laidOut, wellFormed}
 use Rattle.placing.specs.State.{State, stateOf}
-use Rattle.placing.specs.Valid.{ValidPlan, ValidCall, lost}
+use Rattle.placing.specs.Valid.{ValidPlan, firstClock, clockIn, usable, ValidCall, lost}
 use Rattle.placing.specs.Plan.{planFreeCount, grants, planned, placing, needsFrom}
 use Rattle.placing.specs.Call.{freeNumberFrom, called, evictedSet, evictionOrder, downward, inSet, callFits}
 use Rattle.placing.specs.Capacity.{longestJobs, freeCapacity, callCapacity, largestMandatory, planCapacity}
@@ -124,29 +124,65 @@ held-bridges = refl
 
 -- The order that is in force where a call comes: by hold c2 c2 c1, and a later call by place leaves those and places c4 c3 c4.
 abbrev calledByHold : List ℕ
-calledByHold = callOf (headOf 6 1 noBusy []) (job 1 1 ∷ job 2 2 ∷ []) (stateOf (replicate 512 0) 1 true) .after .table
+calledByHold = callOf (headOf 6 1 noBusy []) (job 1 1 ∷ job 2 2 ∷ []) (stateOf (replicate 512 0) firstClock true) .after .table
 
 pub calls-by-order : (take 6 calledByHold ≡ 1026 ∷ 1026 ∷ 1025 ∷ 0 ∷ 0 ∷ 0 ∷ [])
-    × (take 6 (callOf (headOf 6 1 noBusy []) (job 3 1 ∷ job 4 2 ∷ []) (stateOf calledByHold 1 false) .after .table) ≡ 1026 ∷ 1026 ∷ 1025 ∷ 1028 ∷ 1027 ∷ 1028 ∷ [])
+    × (take 6 (callOf (headOf 6 1 noBusy []) (job 3 1 ∷ job 4 2 ∷ []) (stateOf calledByHold firstClock false) .after .table) ≡ 1026 ∷ 1026 ∷ 1025 ∷ 1028 ∷ 1027 ∷ 1028 ∷ [])
 unfolding calls
 calls-by-order = (refl, refl)
 
--- ---- the clock: its own slot may be used, the one before it not
+-- ---- the clock (document 02, 2026-05): "A call uses slots above the clock"
 
-abbrev oneSlot : Head
-oneSlot = headOf 1 1 noBusy []
+-- slots 1 to 4 at the clocks 0 to 5: at 0 all may be used, at 3 slot 4 alone, at 4 and 5 none
+pub clock-usable : map (λ clock. map (usable clock) (0 ∷ 1 ∷ 2 ∷ 3 ∷ [])) (0 ∷ 1 ∷ 3 ∷ 4 ∷ 5 ∷ [])
+    ≡ (true ∷ true ∷ true ∷ true ∷ []) ∷ (false ∷ true ∷ true ∷ true ∷ []) ∷ (false ∷ false ∷ false ∷ true ∷ []) ∷ replicate 4 false ∷ replicate 4 false ∷ []
+clock-usable = refl
 
-pub clock-slot : (callOf oneSlot (job 5 1 ∷ []) (stateOf (replicate 512 0) 1 false) .answer ≡ CallAnswer.taken (cost 0))
-    × (callOf oneSlot (job 5 1 ∷ []) (stateOf (replicate 512 0) 2 false) .answer ≡ CallAnswer.refused 0 callNotFeasible)
+-- "2 and 11 take 0 to S + 1 as the clock's range"
+pub clock-range : map (clockIn 4) (0 ∷ 1 ∷ 4 ∷ 5 ∷ 6 ∷ []) ≡ true ∷ true ∷ true ∷ true ∷ false ∷ []
+clock-range = refl
+
+-- A frame of two slots and one bridge: a job of two slots at 0, and none at 1; there a job of one slot has slot 2, and at 2 and 3 none has a place.
+abbrev twoSlots : Head
+twoSlots = headOf 2 1 noBusy []
+
+abbrev clockCall : ℕ → ℕ → CallAnswer
+clockCall clock c = callOf twoSlots (job 5 c ∷ []) (stateOf (replicate 512 0) clock false) .answer
+
+pub clock-slots : (map (λ clock. clockCall clock 2) (0 ∷ 1 ∷ []) ≡ CallAnswer.taken (cost 0) ∷ CallAnswer.refused 0 callNotFeasible ∷ [])
+    × (map (λ clock. clockCall clock 1) (1 ∷ 2 ∷ 3 ∷ 4 ∷ [])
+    ≡ CallAnswer.taken (cost 0) ∷ CallAnswer.refused 0 callNotFeasible ∷ CallAnswer.refused 0 callNotFeasible ∷ CallAnswer.refused 0 notWellFormed ∷ [])
+    × (take 2 (callOf twoSlots (job 5 1 ∷ []) (stateOf (replicate 512 0) 1 false) .after .table) ≡ 0 ∷ 1029 ∷ [])
 unfolding calls
-clock-slot = (refl, refl)
+clock-slots = (refl, refl, refl)
+
+-- `o1 0 | o1 -` at clock 1: the empty cell stands in the clock's own slot, so the refinement above it goes; at clock 0 nothing is lost.
+abbrev ownSlot : Head
+ownSlot = headOf 2 2 (0 ∷ 2 ∷ replicate 6 0) (preset 1 0 0 2 ∷ [])
+
+abbrev ownTable : List ℕ
+ownTable = 769 ∷ 0 ∷ 769 ∷ 256 ∷ replicate 508 0
+
+pub clock-costs : (map (λ clock. callOf ownSlot (job 9 1 ∷ []) (stateOf ownTable clock false) .answer) (0 ∷ 1 ∷ []) ≡ CallAnswer.taken (cost 0) ∷ CallAnswer.taken (cost 1) ∷ [])
+    × (take 4 (callOf ownSlot (job 9 1 ∷ []) (stateOf ownTable 1 false) .after .table) ≡ 769 ∷ 0 ∷ 1033 ∷ 256 ∷ [])
+unfolding calls
+clock-costs = (refl, refl)
+
+-- A call cell in the clock's own slot or below it is no fault of soundness, and its number is used: `c5 | c6 | 0` at the clocks 0 to 2.
+abbrev threeSlots : Head
+threeSlots = headOf 3 1 noBusy []
+
+pub clock-gone : (map (λ clock. callOf threeSlots (job 7 1 ∷ []) (stateOf (1029 ∷ 1030 ∷ replicate 510 0) clock false) .answer) (0 ∷ 1 ∷ 2 ∷ []) ≡ replicate 3 (CallAnswer.taken (cost 0)))
+    × (callOf threeSlots (job 5 1 ∷ []) (stateOf (1029 ∷ 1030 ∷ replicate 510 0) 2 false) .answer ≡ CallAnswer.refused 0 numberUsed)
+unfolding calls
+clock-gone = (refl, refl)
 
 -- ---- priorities 0 and 9 hold the last slot, all else being busy: a one-slot call takes the 9's
 
 abbrev lastSlot : Head
 lastSlot = headOf 2 2 (1 ∷ 1 ∷ replicate 6 0) (preset 1 0 0 1 ∷ preset 2 9 0 1 ∷ [])
 
-pub worst-evicted : take 4 (callOf lastSlot (job 7 1 ∷ []) (stateOf (256 ∷ 256 ∷ 769 ∷ 770 ∷ replicate 508 0) 1 false) .after .table) ≡ 256 ∷ 256 ∷ 769 ∷ 1031 ∷ []
+pub worst-evicted : take 4 (callOf lastSlot (job 7 1 ∷ []) (stateOf (256 ∷ 256 ∷ 769 ∷ 770 ∷ replicate 508 0) firstClock false) .after .table) ≡ 256 ∷ 256 ∷ 769 ∷ 1031 ∷ []
 unfolding calls
 worst-evicted = refl
 
@@ -186,42 +222,42 @@ unfolding plans
 planned-3111 = refl
 
 -- the empty cells are 3, 1, 1, 1
-pub free-3111 : tabulate 4 (freeNumberFrom frame3111 1 (cell frame3111 table3111)) ≡ 3 ∷ 1 ∷ 1 ∷ 1 ∷ []
+pub free-3111 : tabulate 4 (freeNumberFrom frame3111 firstClock (cell frame3111 table3111)) ≡ 3 ∷ 1 ∷ 1 ∷ 1 ∷ []
 unfolding tabulate sum
 free-3111 = refl
 
 -- No placement in the empty cells alone exists.
-pub no-empty-placement : (a : ℕ → ℕ → Bool) → Placed everywhere 2 (at (3 ∷ 3 ∷ [])) 4 (freeNumberFrom frame3111 1 (cell frame3111 table3111)) a → ⊥
+pub no-empty-placement : (a : ℕ → ℕ → Bool) → Placed everywhere 2 (at (3 ∷ 3 ∷ [])) 4 (freeNumberFrom frame3111 firstClock (cell frame3111 table3111)) a → ⊥
 unfolding sum greatest
 no-empty-placement a p =
-    let z : excess 2 (at (3 ∷ 3 ∷ [])) 4 (freeNumberFrom frame3111 1 (cell frame3111 table3111)) ≡ 0 = placed-fits p in
+    let z : excess 2 (at (3 ∷ 3 ∷ [])) 4 (freeNumberFrom frame3111 firstClock (cell frame3111 table3111)) ≡ 0 = placed-fits p in
     omega arith
 
-takes-one : callOf frame3111 threeAndThree (stateOf table3111 1 false) .answer ≡ CallAnswer.taken (cost 1)
+takes-one : callOf frame3111 threeAndThree (stateOf table3111 firstClock false) .answer ≡ CallAnswer.taken (cost 1)
 unfolding calls
 takes-one = refl
 
 -- Exactly one cell must go: every valid placement loses one or more, and the one that the call leaves loses one.
-pub one-must-go : (u : List ℕ) → ValidCall frame3111 1 threeAndThree (cell frame3111 table3111) (cell frame3111 u)
+pub one-must-go : (u : List ℕ) → ValidCall frame3111 firstClock threeAndThree (cell frame3111 table3111) (cell frame3111 u)
     → 1 ≤ cells frame3111 (λ s b. lost (cell frame3111 table3111) (cell frame3111 u) s b)
-one-must-go = must-go frame3111 1 false threeAndThree table3111 1 takes-one
+one-must-go = must-go frame3111 firstClock false threeAndThree table3111 1 takes-one
 
-pub one-goes : (u : List ℕ) × ValidCall frame3111 1 threeAndThree (cell frame3111 table3111) (cell frame3111 u)
+pub one-goes : (u : List ℕ) × ValidCall frame3111 firstClock threeAndThree (cell frame3111 table3111) (cell frame3111 u)
     × (cells frame3111 (λ s b. lost (cell frame3111 table3111) (cell frame3111 u) s b) ≡ 1)
-one-goes = goes frame3111 1 false threeAndThree table3111 1 takes-one
+one-goes = goes frame3111 firstClock false threeAndThree table3111 1 takes-one
 
 -- ---- the room for r, and the r largest needs, for r = 0 to 3
 
 -- docs/CALLS.md, the worked frame: of its empty cells, and with the optional cell; the two jobs exceed the first at 2, and nowhere the other
 pub capacity-3111 : (tabulate 4 (longestJobs threeAndThree) ≡ 0 ∷ 3 ∷ 6 ∷ 6 ∷ [])
-    × (tabulate 4 (freeCapacity frame3111 1 (cell frame3111 table3111)) ≡ 0 ∷ 4 ∷ 5 ∷ 6 ∷ [])
-    × (tabulate 4 (callCapacity frame3111 1 (cell frame3111 table3111)) ≡ 0 ∷ 4 ∷ 6 ∷ 7 ∷ [])
+    × (tabulate 4 (freeCapacity frame3111 firstClock (cell frame3111 table3111)) ≡ 0 ∷ 4 ∷ 5 ∷ 6 ∷ [])
+    × (tabulate 4 (callCapacity frame3111 firstClock (cell frame3111 table3111)) ≡ 0 ∷ 4 ∷ 6 ∷ 7 ∷ [])
 unfolding tabulate sum
 capacity-3111 = (refl, refl, refl)
 
--- a slot gone by has no room, the clock's own slot has; the longest job first, wherever it stands in the call
-pub capacity-clock : (tabulate 4 (callCapacity frame3111 2 (cell frame3111 table3111)) ≡ 0 ∷ 3 ∷ 4 ∷ 4 ∷ [])
-    × (tabulate 4 (freeCapacity frame3111 2 (cell frame3111 table3111)) ≡ 0 ∷ 3 ∷ 3 ∷ 3 ∷ [])
+-- slot 1 has no room where the clock is in it, slot 2 has; the longest job first, wherever it stands in the call
+pub capacity-clock : (tabulate 4 (callCapacity frame3111 1 (cell frame3111 table3111)) ≡ 0 ∷ 3 ∷ 4 ∷ 4 ∷ [])
+    × (tabulate 4 (freeCapacity frame3111 1 (cell frame3111 table3111)) ≡ 0 ∷ 3 ∷ 3 ∷ 3 ∷ [])
 unfolding tabulate sum
 capacity-clock = (refl, refl)
 
@@ -397,49 +433,50 @@ stops r h clock jobs t = record { head = h; clock = clock; jobs = jobs; table = 
 abbrev callCases : List CallCase
 callCases =
     -- "lent table below 512 cells"
-    takes (bare 1 1) 1 (job 5 1 ∷ []) (replicate 512 0)
-    ∷ stops tooShort (bare 1 1) 1 (job 5 1 ∷ []) (replicate 511 0)
-    -- "a clock outside 1 to S + 1"; at S + 1 no slot is left
-    ∷ stops notWellFormed (bare 1 1) 0 (job 5 1 ∷ []) (lent [])
+    takes (bare 1 1) firstClock (job 5 1 ∷ []) (replicate 512 0)
+    ∷ stops tooShort (bare 1 1) firstClock (job 5 1 ∷ []) (replicate 511 0)
+    -- the clock "0 to S + 1"; from S on no slot is left
+    ∷ takes (bare 1 1) 0 (job 5 1 ∷ []) (lent [])
+    ∷ stops callNotFeasible (bare 1 1) 1 (job 5 1 ∷ []) (lent [])
     ∷ stops callNotFeasible (bare 1 1) 2 (job 5 1 ∷ []) (lent [])
     ∷ stops notWellFormed (bare 1 1) 3 (job 5 1 ∷ []) (lent [])
     -- "jobs in a call" from 1 to 8: "a ninth job in a call, or no job outside a text"
-    ∷ stops outOfLimits (bare 1 8) 1 [] (lent [])
-    ∷ takes (bare 1 8) 1 (jobsFrom 8 0) (lent [])
-    ∷ stops outOfLimits (bare 1 8) 1 (jobsFrom 9 0) (lent [])
+    ∷ stops outOfLimits (bare 1 8) firstClock [] (lent [])
+    ∷ takes (bare 1 8) firstClock (jobsFrom 8 0) (lent [])
+    ∷ stops outOfLimits (bare 1 8) firstClock (jobsFrom 9 0) (lent [])
     -- a job's number from 1 to 255
-    ∷ stops outOfLimits (bare 1 1) 1 (job 0 1 ∷ []) (lent [])
-    ∷ takes (bare 1 1) 1 (job 1 1 ∷ []) (lent [])
-    ∷ takes (bare 1 1) 1 (job 255 1 ∷ []) (lent [])
-    ∷ stops outOfLimits (bare 1 1) 1 (job 256 1 ∷ []) (lent [])
+    ∷ stops outOfLimits (bare 1 1) firstClock (job 0 1 ∷ []) (lent [])
+    ∷ takes (bare 1 1) firstClock (job 1 1 ∷ []) (lent [])
+    ∷ takes (bare 1 1) firstClock (job 255 1 ∷ []) (lent [])
+    ∷ stops outOfLimits (bare 1 1) firstClock (job 256 1 ∷ []) (lent [])
     -- c from 1 to 64; it may exceed S
-    ∷ stops outOfLimits (bare 1 1) 1 (job 5 0 ∷ []) (lent [])
-    ∷ stops callNotFeasible (bare 1 1) 1 (job 5 64 ∷ []) (lent [])
-    ∷ stops outOfLimits (bare 1 1) 1 (job 5 65 ∷ []) (lent [])
+    ∷ stops outOfLimits (bare 1 1) firstClock (job 5 0 ∷ []) (lent [])
+    ∷ stops callNotFeasible (bare 1 1) firstClock (job 5 64 ∷ []) (lent [])
+    ∷ stops outOfLimits (bare 1 1) firstClock (job 5 65 ∷ []) (lent [])
     -- "a number already used, or twice in a call": a preset's, a job's, a job's of the same call
-    ∷ stops numberUsed fourSlots 1 (job 1 1 ∷ []) (lent soundTable)
-    ∷ stops numberUsed fourSlots 1 (job 9 1 ∷ []) (lent soundTable)
-    ∷ stops numberUsed (bare 2 1) 1 (job 5 1 ∷ job 5 1 ∷ []) (lent [])
+    ∷ stops numberUsed fourSlots firstClock (job 1 1 ∷ []) (lent soundTable)
+    ∷ stops numberUsed fourSlots firstClock (job 9 1 ∷ []) (lent soundTable)
+    ∷ stops numberUsed (bare 2 1) firstClock (job 5 1 ∷ job 5 1 ∷ []) (lent [])
     -- "jobs in a frame" from 0 to 64: the 64th job is taken, the 65th is 9; a table with 65 job numbers is not sound
-    ∷ takes (bare 8 8) 1 (job 64 1 ∷ []) (lent (jobCells 63 0))
-    ∷ stops tooMany (bare 8 8) 1 (job 64 1 ∷ job 65 1 ∷ []) (lent (jobCells 63 0))
-    ∷ stops notWellFormed (bare 13 5) 1 (job 200 1 ∷ []) (lent (jobCells 65 0))
+    ∷ takes (bare 8 8) firstClock (job 64 1 ∷ []) (lent (jobCells 63 0))
+    ∷ stops tooMany (bare 8 8) firstClock (job 64 1 ∷ job 65 1 ∷ []) (lent (jobCells 63 0))
+    ∷ stops notWellFormed (bare 13 5) firstClock (job 200 1 ∷ []) (lent (jobCells 65 0))
     -- 8 before the head record's 2 and before 11, that 2 before 11, both before the call's own
-    ∷ stops tooShort (bare 0 1) 1 (job 5 1 ∷ []) (replicate 511 0)
+    ∷ stops tooShort (bare 0 1) firstClock (job 5 1 ∷ []) (replicate 511 0)
     ∷ stops tooShort (bare 1 1) 3 (job 5 1 ∷ []) (replicate 511 0)
     ∷ stops outOfLimits (bare 1 9) 12 (job 5 1 ∷ []) (lent (7 ∷ []))
-    ∷ stops outOfLimits (bare 0 1) 1 [] (lent [])
+    ∷ stops outOfLimits (bare 0 1) firstClock [] (lent [])
     ∷ stops notWellFormed (bare 1 1) 3 [] (lent [])
-    ∷ stops notWellFormed (bare 1 1) 1 (job 5 1 ∷ job 5 1 ∷ []) (lent (7 ∷ []))
+    ∷ stops notWellFormed (bare 1 1) firstClock (job 5 1 ∷ job 5 1 ∷ []) (lent (7 ∷ []))
     -- 2 before 4, before 9 and before 7
-    ∷ stops outOfLimits (bare 1 1) 1 (job 5 1 ∷ job 5 65 ∷ []) (lent [])
-    ∷ stops outOfLimits (bare 8 8) 1 (job 65 0 ∷ []) (lent (jobCells 64 0))
-    ∷ stops outOfLimits (bare 1 1) 1 (job 5 64 ∷ job 6 0 ∷ []) (lent [])
+    ∷ stops outOfLimits (bare 1 1) firstClock (job 5 1 ∷ job 5 65 ∷ []) (lent [])
+    ∷ stops outOfLimits (bare 8 8) firstClock (job 65 0 ∷ []) (lent (jobCells 64 0))
+    ∷ stops outOfLimits (bare 1 1) firstClock (job 5 64 ∷ job 6 0 ∷ []) (lent [])
     -- 4 before 9 and before 7
-    ∷ stops numberUsed (bare 8 8) 1 (job 64 1 ∷ []) (lent (jobCells 64 0))
-    ∷ stops numberUsed (bare 1 1) 1 (job 5 64 ∷ job 5 64 ∷ []) (lent [])
+    ∷ stops numberUsed (bare 8 8) firstClock (job 64 1 ∷ []) (lent (jobCells 64 0))
+    ∷ stops numberUsed (bare 1 1) firstClock (job 5 64 ∷ job 5 64 ∷ []) (lent [])
     -- 9 before 7: no cell is left
-    ∷ stops tooMany (bare 8 8) 1 (job 65 1 ∷ []) (lent (jobCells 64 0))
+    ∷ stops tooMany (bare 8 8) firstClock (job 65 1 ∷ []) (lent (jobCells 64 0))
     ∷ []
 
 pub calls-answered : map (λ c. callOf (c .head) (c .jobs) (stateOf (c .table) (c .clock) false) .answer) callCases ≡ map (λ c. c .said) callCases
@@ -466,9 +503,9 @@ pub records-answered : (planMeant (counting 32) (recordsTo 32) (lent []) .answer
     × (planMeant (counting 33) (recordsTo 33) (lent []) .answer ≡ PlanAnswer.refused 0 outOfLimits)
     × (planMeant (counting 33) (recordsTo 33) (replicate 511 0) .answer ≡ PlanAnswer.refused 0 tooShort)
     × (callMeant (counting 33) (recordsTo 33) (job 40 2 ∷ []) (stateOf (lent (7 ∷ [])) 3 false) .answer ≡ CallAnswer.refused 0 outOfLimits)
-    × (callMeant (counting 33) (recordsTo 33) [] (stateOf (replicate 511 0) 1 false) .answer ≡ CallAnswer.refused 0 tooShort)
-    × (callMeant (counting 0) [] (callJobs 8 (jobRecordsTo 8)) (stateOf (lent []) 1 false) .answer ≡ CallAnswer.refused 0 callNotFeasible)
-    × (callMeant (counting 0) [] (callJobs 9 (jobRecordsTo 8)) (stateOf (lent []) 1 false) .answer ≡ CallAnswer.refused 0 outOfLimits)
+    × (callMeant (counting 33) (recordsTo 33) [] (stateOf (replicate 511 0) firstClock false) .answer ≡ CallAnswer.refused 0 tooShort)
+    × (callMeant (counting 0) [] (callJobs 8 (jobRecordsTo 8)) (stateOf (lent []) firstClock false) .answer ≡ CallAnswer.refused 0 callNotFeasible)
+    × (callMeant (counting 0) [] (callJobs 9 (jobRecordsTo 8)) (stateOf (lent []) firstClock false) .answer ≡ CallAnswer.refused 0 outOfLimits)
 unfolding planMeant callMeant plans calls recordsTo jobRecordsTo callJobs
 records-answered = (refl, refl, refl, refl, refl, refl, refl)
 
@@ -507,6 +544,6 @@ lossCases =
     ∷ []
 
 -- A one-slot call takes the cell that document 01 says.
-pub losses : map (λ c. callOf (c .head) (job 5 1 ∷ []) (stateOf (lent (c .before)) 1 false) .after .table) lossCases ≡ map (λ c. lent (c .after)) lossCases
+pub losses : map (λ c. callOf (c .head) (job 5 1 ∷ []) (stateOf (lent (c .before)) firstClock false) .after .table) lossCases ≡ map (λ c. lent (c .after)) lossCases
 unfolding calls
 losses = refl

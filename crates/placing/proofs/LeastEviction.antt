@@ -51,7 +51,7 @@ module _ (h : Head) (clock : ℕ) (jobs : List Job) (t u : Cells) where
           (is-lost t u s b p (ap isOptional q ∙ isOptional-call (jobAt jobs i .number) (omega (arith, can .high i l))))
   job-cell-free can i s b l ls lb late (evicted a o e) q = absurd (omega arith)
 
-  -- job i has the cell of slot s, bridge b, from the clock on
+  -- job i has the cell of slot s, bridge b, above the clock
   abbrev own : ℕ → ℕ → ℕ → Bool
   own i s b = usable clock s && eqb (u s b) (callCell (jobAt jobs i .number))
 
@@ -128,7 +128,7 @@ module _ (h : Head) (clock : ℕ) (jobs : List Job) (t u : Cells) where
               count-none (h .bridges) (λ b. false) (λ b lb. refl),
             )
 
-    -- A table that gives each job its length in cells from the clock on places the jobs in what is free without the cells that it loses.
+    -- A table that gives each job its length in cells above the clock places the jobs in what is free without the cells that it loses.
     pub free-of-valid : ((i : ℕ) → i < length jobs → above h clock u (callCell (jobAt jobs i .number)) ≡ jobAt jobs i .slots)
         → Placed everywhere (length (lengths jobs)) (at (lengths jobs)) (h .slots) (freeNumberFrom h clock (cleared (lost t u) t))
         (λ i s. ltb 0 (count (h .bridges) (λ b. own i s b)))

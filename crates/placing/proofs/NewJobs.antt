@@ -1,7 +1,7 @@
 -- Jobs that pass the causes 2, 4 and 9; what the laws about the table before and after a call use of them; their lengths and their numbers.
 --
 -- In order: `Good` and `Placeable`; the lengths as a list; the numbers that a table uses (`hasJob-of`, `number-used`), and that no cell has a job's number before the
--- call (`fresh-cell`, `fresh-number`), so that such jobs are placeable (`placeable-of`); the cells of a number from the clock on (`above`): a new job has no others (`new-usable`, `above-new`).
+-- call (`fresh-cell`, `fresh-number`), so that such jobs are placeable (`placeable-of`); the cells of a number above the clock (`above`): a new job has no others (`new-usable`, `above-new`).
 -- Assumes nothing.
 use Prim.Native.Nat.{ℕ, _+_, _≤_, _<_}
 use native.Mathlib.Nat.{lt-of-not-le}
@@ -28,7 +28,7 @@ pub record Good (h : Head) (t : Cells) (jobs : List Job) : Type 0 where
   pub distinct : (i j : ℕ) → j < i → i < length jobs → jobAt jobs j .number ≡ jobAt jobs i .number → ⊥
   pub few : jobCount h t + length jobs ≤ 64
 
--- Jobs that may be placed on a table from a clock on: numbers 1 to 255, all different, no preset's, and in no cell of a slot that a call may use. Slots gone by are not asked.
+-- Jobs that may be placed on a table above a clock: numbers 1 to 255, all different, no preset's, and in no cell of a slot that a call may use. The other slots are not asked.
 pub record Placeable (h : Head) (clock : ℕ) (t : Cells) (jobs : List Job) : Type 0 where
   pub low : (i : ℕ) → i < length jobs → 1 ≤ jobAt jobs i .number
   pub high : (i : ℕ) → i < length jobs → jobAt jobs i .number ≤ 255
@@ -98,7 +98,7 @@ placeable-of h t jobs wf good clock = record {
   no-cell = λ i k s b l m late. fresh-number h t jobs wf good i k s b l m;
 }
 
--- ---- cells from the clock on
+-- ---- cells above the clock
 
 -- how many of them hold just v
 abbrev pub above : Head → ℕ → Cells → ℕ → ℕ

@@ -16,7 +16,7 @@ use Rattle.station.specs.Head.{Head, Job, Preset, withSupply}
 use Rattle.station.specs.Refusal.{callNotFeasible, mandatoryNotFeasible, notWellFormed}
 use Rattle.placing.specs.Table.{cell, freeNumber}
 use Rattle.placing.specs.State.{stateOf}
-use Rattle.placing.specs.Valid.{lost}
+use Rattle.placing.specs.Valid.{firstClock, lost}
 use Rattle.placing.specs.Plan.{planFreeCount}
 use Rattle.placing.specs.Call.{usableCount}
 use Rattle.placing.specs.Capacity.{planCapacity, callCapacity, freeCapacity}
@@ -40,29 +40,29 @@ free-numbers = refl
 
 -- The room for 0 to 4, of four empty cells under a supply of 2, for a plan and for a call; and of `m1 o1 0 0` under a supply of 3 in the cells that a call may use and in the empty ones.
 pub capacity-supplied : (tabulate 5 (planCapacity (fed 1 4 2 [])) ≡ 0 ∷ 1 ∷ 2 ∷ 2 ∷ 2 ∷ [])
-    × (tabulate 5 (freeCapacity (fed 1 4 2 []) 1 (cell (fed 1 4 2 []) (lent []))) ≡ 0 ∷ 1 ∷ 2 ∷ 2 ∷ 2 ∷ [])
-    × (tabulate 5 (callCapacity (fed 1 4 3 []) 1 (cell (fed 1 4 3 []) (lent (513 ∷ 770 ∷ [])))) ≡ 0 ∷ 1 ∷ 2 ∷ 2 ∷ 2 ∷ [])
-    × (tabulate 5 (freeCapacity (fed 1 4 3 []) 1 (cell (fed 1 4 3 []) (lent (513 ∷ 770 ∷ [])))) ≡ 0 ∷ 1 ∷ 1 ∷ 1 ∷ 1 ∷ [])
+    × (tabulate 5 (freeCapacity (fed 1 4 2 []) firstClock (cell (fed 1 4 2 []) (lent []))) ≡ 0 ∷ 1 ∷ 2 ∷ 2 ∷ 2 ∷ [])
+    × (tabulate 5 (callCapacity (fed 1 4 3 []) firstClock (cell (fed 1 4 3 []) (lent (513 ∷ 770 ∷ [])))) ≡ 0 ∷ 1 ∷ 2 ∷ 2 ∷ 2 ∷ [])
+    × (tabulate 5 (freeCapacity (fed 1 4 3 []) firstClock (cell (fed 1 4 3 []) (lent (513 ∷ 770 ∷ [])))) ≡ 0 ∷ 1 ∷ 1 ∷ 1 ∷ 1 ∷ [])
 unfolding tabulate sum
 capacity-supplied = (refl, refl, refl, refl)
 
--- So four empty cells under a supply of 2 count in the entries 1 and 2 of the table of slots only; and a slot before the clock counts in none, for a plan it does.
+-- So four empty cells under a supply of 2 count in the entries 1 and 2 of the table of slots only; and the clock's own slot counts in none, for a plan it does.
 pub entries-supplied : AtLeast (2 ∷ 2 ∷ 0 ∷ 0 ∷ 0 ∷ 0 ∷ 0 ∷ 0 ∷ []) 2 (planFreeCount (fed 2 4 2 []))
-    × AtLeast (1 ∷ 1 ∷ 0 ∷ 0 ∷ 0 ∷ 0 ∷ 0 ∷ 0 ∷ []) 2 (usableCount (fed 2 4 2 []) 2 (cell (fed 2 4 2 []) (lent [])))
+    × AtLeast (1 ∷ 1 ∷ 0 ∷ 0 ∷ 0 ∷ 0 ∷ 0 ∷ 0 ∷ []) 2 (usableCount (fed 2 4 2 []) 1 (cell (fed 2 4 2 []) (lent [])))
 unfolding tabulate sum
-entries-supplied = (at-least-of 2 (planFreeCount (fed 2 4 2 [])), at-least-of 2 (usableCount (fed 2 4 2 []) 2 (cell (fed 2 4 2 []) (lent []))))
+entries-supplied = (at-least-of 2 (planFreeCount (fed 2 4 2 [])), at-least-of 2 (usableCount (fed 2 4 2 []) 1 (cell (fed 2 4 2 []) (lent []))))
 
 -- ---- a sound table
 
--- `c7 o1` in slot 1 and nothing in slot 2: under a supply of 2 a call finds a place, under one of 1 the table is not sound, and not either where the clock has passed the slot; without a supply
+-- `c7 o1` in slot 1 and nothing in slot 2: under a supply of 2 a call finds a place, under one of 1 the table is not sound, and not either where the clock is in the slot or past it; without a supply
 -- line, and with one above B, it is.
 abbrev twoHeld : ℕ → Head
 twoHeld k = fed 2 2 k (preset 1 0 0 1 ∷ [])
 
-pub sound-supplied : (map (λ k. callOf (twoHeld k) (job 9 1 ∷ []) (stateOf (lent (1031 ∷ 769 ∷ [])) 2 false) .answer) (0 ∷ 1 ∷ 2 ∷ 8 ∷ [])
+pub sound-supplied : (map (λ k. callOf (twoHeld k) (job 9 1 ∷ []) (stateOf (lent (1031 ∷ 769 ∷ [])) 1 false) .answer) (0 ∷ 1 ∷ 2 ∷ 8 ∷ [])
     ≡ CallAnswer.taken (cost 0) ∷ CallAnswer.refused 0 notWellFormed ∷ CallAnswer.taken (cost 0) ∷ CallAnswer.taken (cost 0) ∷ [])
-    × (map (λ k. callOf (twoHeld k) (job 9 1 ∷ []) (stateOf (lent (1031 ∷ 769 ∷ [])) 1 false) .answer) (1 ∷ 2 ∷ []) ≡ CallAnswer.refused 0 notWellFormed ∷ CallAnswer.taken (cost 0) ∷ [])
-    × (map (λ k. callOf (twoHeld k) (job 9 1 ∷ []) (stateOf (lent (0 ∷ 0 ∷ 1031 ∷ 769 ∷ [])) 1 false) .answer) (1 ∷ 2 ∷ []) ≡ CallAnswer.refused 0 notWellFormed ∷ CallAnswer.taken (cost 0) ∷ [])
+    × (map (λ k. callOf (twoHeld k) (job 9 1 ∷ []) (stateOf (lent (1031 ∷ 769 ∷ [])) firstClock false) .answer) (1 ∷ 2 ∷ []) ≡ CallAnswer.refused 0 notWellFormed ∷ CallAnswer.taken (cost 0) ∷ [])
+    × (map (λ k. callOf (twoHeld k) (job 9 1 ∷ []) (stateOf (lent (0 ∷ 0 ∷ 1031 ∷ 769 ∷ [])) firstClock false) .answer) (1 ∷ 2 ∷ []) ≡ CallAnswer.refused 0 notWellFormed ∷ CallAnswer.taken (cost 0) ∷ [])
 unfolding calls
 sound-supplied = (refl, refl, refl)
 
@@ -80,10 +80,10 @@ plans-supplied = (refl, refl, refl, refl)
 -- ---- calls
 
 abbrev after : Head → List Job → List ℕ → List ℕ
-after h jobs t = callOf h jobs (stateOf t 1 false) .after .table
+after h jobs t = callOf h jobs (stateOf t firstClock false) .after .table
 
 abbrev answer : Head → List Job → List ℕ → CallAnswer
-answer h jobs t = callOf h jobs (stateOf t 1 false) .answer
+answer h jobs t = callOf h jobs (stateOf t firstClock false) .answer
 
 -- `m1 m2 0 0` under a supply of 3: one job finds a place without loss, two do not.
 abbrev threeMotors : Head

@@ -7,10 +7,10 @@ pub use Rattle.placing.proofs.ClaimsHold.{plan-granted, plan-claim, pla
 pub use Rattle.placing.proofs.ByCapacity.{plan-by-capacity, call-by-capacity}
 -- one motor for each lost cell; where the supply feeds every bridge, all is as it was without it
 pub use Rattle.placing.proofs.FreeNumber.{freed-number}
-pub use Rattle.placing.proofs.AsUncapped.{no-line-uncapped, plan-uncapped, called-call, cost-call, state-call, frame-causes, call-causes, call-uncapped}
+pub use Rattle.placing.proofs.AsUncapped.{no-line-uncapped, plan-uncapped, called-call, cost-call, state-call, sound-call, frame-causes, call-causes, call-uncapped}
 pub use Rattle.placing.proofs.AsUncapped.{fed-uncapped, plan-eight, frame-eight, causes-eight, cost-eight, state-eight}
 -- the causes of a running frame and of a call
-pub use Rattle.placing.proofs.WellFormedFrame.{clock-to, clock-is, clock-late}
+pub use Rattle.placing.proofs.WellFormedFrame.{clock-to, clock-is, clock-late, usable-later}
 pub use Rattle.placing.proofs.Causes.{met, of-running, jobs-inside}
 pub use Rattle.placing.proofs.check.FrameCauses.{causes-none, eleven, same-frame, frame-known, frame-running, running-frame}
 pub use Rattle.placing.proofs.counts.causes.CallCauses.{call-jobs}

@@ -1,47 +1,53 @@
 -- The well-formed frame and its test agree; the clocks of a frame, and the slots that a call may use at one.
 --
--- In order: a clock within the frame's (`clock-from`, `clock-to`, `clock-is`), and one outside them (`clock-early`, `clock-late`); the slots from the first on
--- may be used (`usable-from`), those before it may not (`usable-before`); the test is the record (`frame-test`).
+-- In order: a clock within the frame's (`clock-to`, `clock-is`), and one past them (`clock-late`), which past the last slot is all but one (`clock-past`); the slots above the clock, from the first on, may be used (`usable-from`), those before it may
+-- not (`usable-before`), and at a later clock no others (`usable-later`); the test is the record (`frame-test`).
 -- Assumes nothing.
-use Prim.Native.Nat.{ℕ, suc, _≤_, _<_}
-use mathlib.Core.Path.{_≡_}
+use Prim.Native.Nat.{ℕ, suc, _-_, _≤_, _<_}
+use native.Mathlib.Omega.{arith}
+use mathlib.Core.Path.{_≡_, sym, _∙_}
 use mathlib.Core.Logic.{_↔_}
 use mathlib.Core.Bool.{Bool, true, false}
-use lib.Dec.{leb}
-use Rattle.laws.proofs.Tests.{both, left-of, right-of, fails-left, fails-right}
-use Rattle.laws.proofs.Comparisons.{leb-yes, leb-no}
+use lib.Dec.{leb, eqb}
+use Rattle.laws.proofs.Tests.{Is, is, is-true, is-false, both, left-of, right-of, fails-right}
+use Rattle.laws.proofs.Comparisons.{ltb-yes, ltb-no, leb-no, ge-of, eq-of, ne-of}
 use Rattle.station.specs.Head.{Head}
-use Rattle.station.proofs.Theorems.{within-low, within-high, of-within}
+use Rattle.station.proofs.Theorems.{within-high, of-within}
 use Rattle.placing.specs.Table.{cell, wellFormed}
-use Rattle.placing.specs.Valid.{firstClock, clockIn, firstSlot, usable}
+use Rattle.placing.specs.Valid.{firstClock, clockIn, usable}
+use Rattle.placing.specs.method.Search.{firstSlot}
 use Rattle.placing.specs.State.{State, WellFormedFrame, wellFormedFrame}
 use Rattle.placing.proofs.WellFormed.{wellFormed-of, of-wellFormed}
 
 -- ---- the clocks of a frame
 
 module _ (slots c : ℕ) where
-  pub clock-from : clockIn slots c ≡ true → firstClock ≤ c
-  clock-from e = within-low firstClock (suc slots) c e
-
   pub clock-to : clockIn slots c ≡ true → c ≤ suc slots
   clock-to e = within-high firstClock (suc slots) c e
 
-  pub clock-is : firstClock ≤ c → c ≤ suc slots → clockIn slots c ≡ true
-  clock-is low high = of-within firstClock (suc slots) c low high
-
-  pub clock-early : c < firstClock → clockIn slots c ≡ false
-  clock-early l = fails-left (leb firstClock c) (leb c (suc slots)) (leb-no firstClock c l)
+  pub clock-is : c ≤ suc slots → clockIn slots c ≡ true
+  clock-is high = of-within firstClock (suc slots) c (omega arith) high
 
   pub clock-late : suc slots < c → clockIn slots c ≡ false
   clock-late l = fails-right (leb firstClock c) (leb c (suc slots)) (leb-no c (suc slots) l)
 
+  pub clock-past : slots < c → eqb (c - slots) 1 ≡ clockIn slots c
+  clock-past l = go (is (eqb (c - slots) 1))
+    where
+      go : Is (eqb (c - slots) 1) → eqb (c - slots) 1 ≡ clockIn slots c
+      go (is-true e) = e ∙ sym (clock-is (omega (arith, l, eq-of (c - slots) 1 e)))
+      go (is-false e) = let more = ne-of (c - slots) 1 e in e ∙ sym (clock-late (omega (arith, l, more)))
+
 -- ---- the slots that a call may use
 
 pub usable-from : (clock s : ℕ) → firstSlot clock ≤ s → usable clock s ≡ true
-usable-from clock s l = leb-yes (firstSlot clock) s l
+usable-from clock s l = ltb-yes clock (suc s) (omega arith)
 
 pub usable-before : (clock s : ℕ) → s < firstSlot clock → usable clock s ≡ false
-usable-before clock s l = leb-no (firstSlot clock) s l
+usable-before clock s l = ltb-no clock (suc s) (omega arith)
+
+pub usable-later : (clock later s : ℕ) → clock ≤ later → usable clock s ≡ false → usable later s ≡ false
+usable-later clock later s l e = ltb-no later (suc s) (omega (arith, l, ge-of clock (suc s) e))
 
 -- ---- the test
 

@@ -1,4 +1,4 @@
--- A call: which refinement cells it evicts and where its jobs go. Document 01, "What is granted, and where it goes"; document 02, 2026-02 and 2026-03.
+-- A call: which refinement cells it evicts and where its jobs go. Document 01, "What is granted, and where it goes"; document 02, 2026-02, 2026-03 and 2026-05.
 -- Assumes nothing.
 use Prim.Native.Nat.{ℕ, zero, suc, _+_, _<_}
 use mathlib.Core.Path.{_≡_}
@@ -34,7 +34,7 @@ rankOf h n = sum (presetCount h) (λ i. only (eqb (numberAt h i) n) (rank h i))
 abbrev pub isEvictable : Head → ℕ → Bool
 isEvictable h v = isOptional v
 
--- those in slots from the clock on
+-- those in slots above the clock
 abbrev pub evictable : Head → ℕ → Cells → ℕ → ℕ → Bool
 evictable h clock t s b = usable clock s && isEvictable h (t s b)
 
@@ -75,11 +75,11 @@ inSet [] d s b = false
 inSet (z ∷ zs) [] s b = false
 inSet (z ∷ zs) (c ∷ d) s b = (c && eqb (z .slot) s && eqb (z .bridge) b) || inSet zs d s b
 
--- the cells that a call may use without loss: empty ones in slots from the clock on
+-- the cells that a call may use without loss: empty ones in slots above the clock
 abbrev pub emptyFree : ℕ → Cells → ℕ → ℕ → Bool
 emptyFree clock t s b = usable clock s && isEmpty (t s b)
 
--- how many of them it may fill in a slot: the free number of the slot, none in one gone by
+-- how many of them it may fill in a slot: the free number of the slot, none in one up to the clock
 abbrev pub freeNumberFrom : Head → ℕ → Cells → ℕ → ℕ
 freeNumberFrom h clock t s = only (usable clock s) (freeNumber h t s)
 

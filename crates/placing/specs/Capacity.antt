@@ -16,7 +16,7 @@ use Rattle.placing.specs.Plan.{mandatories, planFreeCount}
 use Rattle.placing.specs.Call.{lengths, freeNumberFrom, usableCount}
 
 -- "Room for r: the sum over the slots of the smaller of r and the number of free bridges", by the free number: for a plan; for a call in the cells that it may use, the empty and the
--- refinement cells of slots from the clock on; and in those of them that are empty, that is without loss.
+-- refinement cells of slots above the clock; and in those of them that are empty, that is without loss.
 abbrev pub planCapacity : Head → ℕ → ℕ
 planCapacity h r = capacity (h .slots) (planFreeCount h) r
 

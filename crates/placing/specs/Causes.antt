@@ -30,7 +30,7 @@ causeIn Passed = none
 abbrev pub causesOf : record-of-head.Head → List types.Preset → List ℕ → List (Option Refusal)
 causesOf head ps t = try tooShort (ltb (length t) leastCells) ∷ try outOfLimits (not (validRecord head ps)) ∷ []
 
--- The causes tried of a running frame: those of the table and the head record alone, then "a table that is not sound, or a clock outside 1 to S + 1".
+-- The causes tried of a running frame: those of the table and the head record alone, then "a table that is not sound, or a clock outside" 0 to S + 1 (2026-05).
 abbrev pub frameCausesOf : record-of-head.Head → List types.Preset → State → List (Option Refusal)
 frameCausesOf head ps st = causesOf head ps (st .table) ++ (try notWellFormed (not (wellFormedFrame (headIn head ps) st)) ∷ [])
 

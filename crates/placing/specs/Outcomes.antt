@@ -51,7 +51,7 @@ planOf h t =
 
 -- ---- what every entry on a running frame tries first
 
--- 8, then 2 for the head record, "tried by 2 before a table is held against it by 11", then 11, "a table that is not sound, or a clock outside 1 to S + 1"
+-- 8, then 2 for the head record, "tried by 2 before a table is held against it by 11", then 11, "a table that is not sound, or a clock outside" 0 to S + 1 (2026-05)
 abbrev pub frameCauses : Head → State → List (Option Refusal)
 frameCauses h st =
     try tooShort (ltb (length (st .table)) leastCells)

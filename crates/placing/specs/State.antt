@@ -1,4 +1,4 @@
--- The state of a running frame: what it keeps beside its head, and what each event gets and leaves. Document 01, "What demand 3 speaks of" and "Causes"; document 02, 2026-02.
+-- The state of a running frame: what it keeps beside its head, and what each event gets and leaves. Document 01, "What demand 3 speaks of" and "Causes"; document 02, 2026-02 and 2026-05.
 --
 -- In order: the state; the one that the code's table, clock and order of ties are (`stateOf`); a state with one part made new (`withTable`, `withClock`, `withOrder`); when it is
 -- well-formed, as 11 asks (`WellFormedFrame`), and the same as a test (`wellFormedFrame`).
@@ -31,7 +31,7 @@ withClock c st = record { table = st .table; clock = c; hold = st .hold }
 abbrev pub withOrder : Bool → State → State
 withOrder hold st = record { table = st .table; clock = st .clock; hold = hold }
 
--- A frame that 11 lets pass: "any sound table and clock". 11 is "a table that is not sound, or a clock outside 1 to S + 1"; either order of ties will do.
+-- A frame that 11 lets pass: "any sound table and clock". 11 is "a table that is not sound, or a clock outside" 0 to S + 1 (2026-05); either order of ties will do.
 pub record WellFormedFrame (h : Head) (st : State) : Type 0 where
   pub cells : WellFormed h (cell h (st .table))
   pub clock : clockIn (h .slots) (st .clock) ≡ true

@@ -77,7 +77,7 @@ planUncapped h t =
 
 -- ---- a call
 
--- how many empty cells of a slot from the clock on there are: what a call could fill without loss
+-- how many empty cells of a slot above the clock there are: what a call could fill without loss
 abbrev pub emptyCount : Head → ℕ → Cells → ℕ → ℕ
 emptyCount h clock t = freeCount (h .bridges) (emptyFree clock t)
 

@@ -20,8 +20,8 @@ ghost use Rattle.placing.specs.Valid.{clockIn};
 ghost use Rattle.placing.specs.State.{stateOf, wellFormedFrame};
 ghost use Rattle.placing.specs.Causes.{causeIn, frameCausesOf};
 
-// The first clock.
-pub const FIRST_CLOCK: usize = 1;
+// The first clock: no slot is about to begin yet.
+pub const FIRST_CLOCK: usize = 0;
 
 // What trying some causes gives: the first one that is met, or none.
 pub enum Cause {
@@ -29,17 +29,14 @@ pub enum Cause {
     Passed,
 }
 
-// Whether a frame of so many slots has the clock: 1 to S + 1.
+// Whether a frame of so many slots has the clock: 0 to S + 1, whatever S is.
 pub fn clock_in(slots: usize, clock: usize) -> bool
     ensures { λ r. ⌜ r ≡ clockIn slots clock ⌝ }
 {
-    if clock < FIRST_CLOCK {
-        return false;
+    if clock <= slots {
+        return true;
     }
-    if slots < clock - 1 {
-        return false;
-    }
-    true
+    clock - slots == 1
 }
 
 // Whether the frame is one that 11 lets pass: a well-formed table, and a clock of the frame.
@@ -60,7 +57,7 @@ fn well_formed_frame(
 }
 
 // The causes of a running frame: 8 for a table below 512 cells, 2 for a head record that no text yields, 11 for a table that is not well-formed or a clock
-// outside 1 to S + 1, whatever the order of ties is.
+// outside 0 to S + 1, whatever the order of ties is.
 pub fn frame_cause(
     head: Head,
     presets: [Preset; MOST_PRESETS],

@@ -26,7 +26,7 @@ ghost use Rattle.placing.specs.Table.{cell, isCall, hasPreset};
 ghost use Rattle.placing.specs.method.Jobs.{marked, jobNumber};
 ghost use Rattle.placing.specs.method.Counts.{Marks, Marked, MarkedBeside, CountsOf};
 
-// What a call's own causes are decided by: 1 at each number that a preset or a call cell has, the number of job numbers in the table, and how many slots from the clock on
+// What a call's own causes are decided by: 1 at each number that a preset or a call cell has, the number of job numbers in the table, and how many slots above the clock
 // have at least one, two, up to eight cells that a call may fill: the empty and the optional ones, but no more than the motors beside the cells that stay.
 pub struct Counts {
     pub used: [u8; 256],

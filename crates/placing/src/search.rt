@@ -58,7 +58,7 @@ pub(crate) struct Search {
     pub evicted: usize,
 }
 
-// What the search has before its walk: the empty cells from the clock on, and the free numbers.
+// What the search has before its walk: the empty cells above the clock, and the free numbers.
 fn starting(table: &[Cell], bridges: usize, motors: usize, clock: usize, demand: Demand) -> Search
     requires { ⌜ (bridges ≤ mostBridges) × (demand .slots ≤ mostSlots) × (leastCells ≤ length (now table)) × ((r : ℕ) → r < capacityCount → getD (demand .sums) r 0 ≤ 255 * mostPlaced) × (demand .total ≤ 255 * mostPlaced) ⌝ }
     ensures { λ s. ⌜ Starts (now (table .entry)) bridges motors clock demand s ⌝ }
@@ -80,7 +80,7 @@ fn starting(table: &[Cell], bridges: usize, motors: usize, clock: usize, demand:
 }
 
 // The search of a frame within the limits: for jobs with the first k needs, whether the call fits, how many cells are evicted, and for each slot the mask of the bridges
-// that the jobs may use, the empty ones from the clock on and the evicted ones, 0 before the clock and past the frame, and how many of them they fill at the most. Where the call does not fit,
+// that the jobs may use, the empty ones above the clock and the evicted ones, 0 up to the clock and past the frame, and how many of them they fill at the most. Where the call does not fit,
 // the evicted ones are those that lower the shortage, which then stays above 0. Where what is free is enough, no optional cell is chained.
 fn evict_in_limits(
     table: &[Cell],

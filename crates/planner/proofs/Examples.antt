@@ -1,7 +1,7 @@
 -- The layout of what is lent by worked examples, read and written, and the lengths at both edges. Each is by computing.
 --
 -- In order: the bytes of two preset records (`records-laid-out`); the sixteen numbers of a frame (`frame-laid-out`, `ties-laid-out`); 8 for what is too short, and 10 before it
--- (`lengths-tried`); what is returned of a refusal and of what is accepted (`numbers-returned`); the orders of ties after a text and after an event (`texts-tied`, `events-tied`); the supply (`texts-supplied`, `frames-supplied`);
+-- (`lengths-tried`); what is returned of a refusal and of what is accepted (`numbers-returned`); the orders of ties after a text and after an event (`texts-tied`, `events-tied`); the supply (`texts-supplied`, `frames-supplied`), the clock (`frames-clocked`);
 -- rows read into a frame (`rows-tried`), and the causes of writing them (`write-tried`).
 -- Assumes nothing.
 use Prim.Native.Nat.{ℕ}
@@ -12,7 +12,7 @@ use mathlib.Core.Option.{none, some}
 use mathlib.Core.List.{List, [], _∷_, _++_, map}
 use lib.ListN.{take, replicate}
 use Rattle.laws.specs.Lists.{tabulate}
-use Rattle.station.specs.Refusal.{noForm, tooShort, outOfLimits, mandatoryNotFeasible, textTooLong, notWellFormed, noRow, firstOf}
+use Rattle.station.specs.Refusal.{noForm, tooShort, outOfLimits, mandatoryNotFeasible, clockBack, callNotFeasible, textTooLong, notWellFormed, noRow, firstOf}
 use Rattle.station.specs.WriteHead as writing
 use Rattle.station.specs.Reading.{accepted, refused}
 use Rattle.station.specs.Head.{bareHead, valid, masksIn, allInLimits, allDistinct, hasNumber}
@@ -79,7 +79,7 @@ pub ties-laid-out : (tieOver tieInForce true (ending 0 7) ≡ ending 0 7)
     × (tieOver headTie false (ending 0 7) ≡ ending 0 7)
     × (tieOver headTie true twelve ≡ twelve)
     -- the start's: the first clock, and in force the very number that the head has
-    × (started (ending 7 0) ≡ clockOver 1 (ending 7 7))
+    × (started (ending 7 0) ≡ clockOver 0 (ending 7 7))
 ties-laid-out = (refl, refl, refl, refl, refl, refl)
 
 -- one slot, one bridge, no preset, with the clock 4, which 11 refuses
@@ -116,7 +116,7 @@ numbers-returned = (refl, refl, refl, refl, refl, refl, refl, refl, refl, refl, 
 
 -- a frame with the first clock, this supply at 12 and these orders at 13 and 14, and 0 in the reserved place; and one without a supply
 abbrev fed : ℕ → ℕ → ℕ → List ℕ
-fed k tie force = 1 ∷ 1 ∷ 0 ∷ 1 ∷ replicate 8 0 ++ (k ∷ tie ∷ force ∷ 0 ∷ [])
+fed k tie force = 1 ∷ 1 ∷ 0 ∷ 0 ∷ replicate 8 0 ++ (k ∷ tie ∷ force ∷ 0 ∷ [])
 
 abbrev tied : ℕ → ℕ → List ℕ
 tied = fed 0
@@ -156,6 +156,16 @@ pub frames-supplied : (map (λ k. eventOn (twoBridges k) (replicate 128 0) (1025
     ≡ PlanAnswer.granted (0 ∷ 0 ∷ []) ∷ PlanAnswer.refused 0 mandatoryNotFeasible ∷ PlanAnswer.granted (0 ∷ 0 ∷ []) ∷ PlanAnswer.refused 0 outOfLimits ∷ [])
 unfolding reads plans calls jobsOf ownCauses carriedOut comesTo eventMeant eventOn planMeant planOn firstRecords
 frames-supplied = (refl, refl)
+
+-- The clock at 3: 0 to S + 1 pass, here to 2, and 3 is 11; at 0 a call has the slot, from 1 on it has none.
+abbrev atClock : String → ℕ → event.Answer
+atClock l clock = eventOn (clockOver clock (tied 0 0)) (replicate 128 0) (replicate 512 0) (bytes l) .answer
+
+pub frames-clocked : (map (atClock "(clock 2)\n") (0 ∷ 1 ∷ 2 ∷ 3 ∷ []) ≡ event.clockNow 2 ∷ event.clockNow 2 ∷ event.clockNow 2 ∷ event.refused 0 notWellFormed ∷ [])
+    × (map (atClock "(call (5 1))\n") (0 ∷ 1 ∷ 2 ∷ []) ≡ event.taken (cost 0) ∷ event.refused 0 callNotFeasible ∷ event.refused 0 callNotFeasible ∷ [])
+    × (map (atClock "(clock 0)\n") (0 ∷ 1 ∷ []) ≡ event.clockNow 0 ∷ event.refused 0 clockBack ∷ [])
+unfolding reads plans calls jobsOf ownCauses carriedOut comesTo eventMeant eventOn firstRecords
+frames-clocked = (refl, refl, refl)
 
 -- an event line on it, and the frame afterwards
 abbrev meets : String → ℕ → ℕ → event.Outcome

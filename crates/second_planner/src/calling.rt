@@ -44,9 +44,9 @@ fn is_used(head: usize, table: usize, call: usize) -> bool {
     jobs & (names_in(table) | wrapping_sub_usize(bit(count(head)), 1)) != 0
 }
 
-// The slots from a call's clock on, the clock's own in field 0.
-fn from_clock(sets: usize, call: usize) -> usize {
-    (sets << 8) >> (field(call, 6) % 8 * 8)
+// Document 02, 2026-05: "A call uses slots above the clock". These slots, the first of them in field 0: where the clock is t, the first t slots are dropped.
+fn above_clock(sets: usize, call: usize) -> usize {
+    sets >> field(call, 6) % 8 * 8
 }
 
 // The optional cells of the slots, which a call may evict.
@@ -88,7 +88,7 @@ fn cost(head: usize, table: usize, set: usize) -> usize {
 
 // Document 01, "The lost cells": every set of evictable cells is tried. 64 where the call fits with none.
 fn evicted_set(sets: usize, head: usize, table: usize, call: usize) -> usize {
-    let slots = from_clock(sets, call);
+    let slots = above_clock(sets, call);
     let evictable = evictable(slots, table);
     let empty = cells_of(table, 0, 0, 0);
     let mut best = 64;
@@ -123,7 +123,7 @@ fn emptied(table: usize, set: usize) -> usize {
 
 // The table after a call on a table whose evicted cells are empty: those that no job takes stay so.
 fn placed(sets: usize, head: usize, table: usize, hold: bool, call: usize) -> usize {
-    let slots = from_clock(sets, call);
+    let slots = above_clock(sets, call);
     let free = masked(slots, cells_of(table, 0, 0, 0));
     let marks = call >> 24 | 0x808080;
     place(
@@ -181,7 +181,7 @@ fn is_fewest(
 
 // For each priority p, no valid placement of a call loses fewer cells of presets with priority p or better. Priorities here are 0 and 8.
 pub fn is_least(sets: usize, head: usize, table: usize, call: usize, after: usize) -> bool {
-    let slots = from_clock(sets, call);
+    let slots = above_clock(sets, call);
     let evicted = cells_of(table, 3, 0, 0) ^ cells_of(after, 3, 0, 0);
     let best = cells_of(table, 3, priority(head), 0);
     if !is_fewest(slots, head, table, call, best, evicted) {

@@ -1,5 +1,4 @@
 // Calls, packed: the jobs' lengths in fields 0 to 2, 0 past the last job; their names in fields 3 to 5; the clock in field 6 and the number of jobs in field 7.
-use crate::packed::at_most;
 use crate::packed::field;
 use crate::packed::first_fields;
 use crate::packed::with_field;
@@ -36,9 +35,16 @@ fn jobs_for(code: usize, step: usize, last: usize) -> usize {
     first_fields(lengths_for(code), count) | names << 24 | count << 56
 }
 
+// The clock of a call, by four bits of its code. Document 02, 2026-05: "0 the start; 2 and 11 take 0 to S + 1 as the clock's range". Each of these is drawn, 0 by at least half of the
+// choices; a choice above S + 1 begins again at 0.
+fn clock_for(code: usize, slots: usize) -> usize {
+    let choice = code >> 26 & 14 | code >> 19 & 1;
+    (0x7654321100000000 >> choice % 16 * 4 & 15) % (slots % 16 + 2)
+}
+
 // The call of a code of 32 bits, at a step of a list: one job and an early clock are more frequent.
 fn call_of(code: usize, slots: usize, step: usize) -> usize {
-    let clock = at_most(field(0x0704030201010101, code >> 27 & 7), slots % 16 + 1);
+    let clock = clock_for(code, slots);
     jobs_for(code, step, field(0x02010000, code >> 30 & 3)) | clock << 48
 }
 

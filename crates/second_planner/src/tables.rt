@@ -72,7 +72,7 @@ pub fn table_of(frame: usize, head: usize, code: usize) -> usize {
 }
 
 // Whether in no slot presets and calls hold more cells than the supply feeds, 0 for no supply line. Document 02, 2026-03: "Valid placements from then on obey the cap, and a
-// sound table does too", so the slots below the clock count like the others. A busy cell draws nothing.
+// sound table does too", so the slots up to the clock count like the others. A busy cell draws nothing.
 pub fn is_fed(sets: usize, table: usize, supply: usize) -> bool {
     if supply == 0 {
         return true;

@@ -16,7 +16,7 @@ pub data Refusal : Type 0 where
   tooShort : Refusal  -- "lent table below 512 cells, preset list below 32 records, or output below 8,192 bytes"
   tooMany : Refusal  -- "33rd preset or 65th job"
   textTooLong : Refusal  -- "text above 32,768 bytes"
-  notWellFormed : Refusal  -- "a table that is not sound, or a clock outside 1 to S + 1"
+  notWellFormed : Refusal  -- "a table that is not sound, or a clock outside" 0 to S + 1 (2026-05)
   noRow : Refusal  -- document 02, 2026-01: "a row that is not three decimal fields with CR LF"
 
 -- the paper's numbers

@@ -13,9 +13,9 @@ fn supply_in(column: usize) -> usize {
 }
 
 // Adds a tally, place by place, to what is counted in a column.
-fn add(counts: &mut [u64; 48], column: usize, tally: usize) {
+fn add(counts: &mut [u64; 52], column: usize, tally: usize) {
     let mut i = 0;
-    while i < 12 {
+    while i < 13 {
         let at = i * 4 + column % 4;
         counts[at] = wrapping_add_u64(counts[at], (tally >> 4 * i & 15) as u64);
         i += 1;
@@ -23,7 +23,7 @@ fn add(counts: &mut [u64; 48], column: usize, tally: usize) {
 }
 
 // Tries all, each code with each supply and under `(tie place)` and then under `(tie hold)`, and counts.
-fn try_all(counts: &mut [u64; 48]) {
+fn try_all(counts: &mut [u64; 52]) {
     let mut code = 0;
     while code < 1064448 {
         let column = code / 2 % 4;
@@ -38,7 +38,7 @@ fn try_all(counts: &mut [u64; 48]) {
 
 // Writes the words of a count, 15 bytes each.
 fn write_words(words: &[u8], i: usize) {
-    let from = i % 12 * 15;
+    let from = i % 13 * 15;
     let to = from + 15;
     if to <= words.len() {
         io::write_all(1, &words[from..to]);
@@ -61,10 +61,10 @@ fn write_row(a: u64, b: u64, c: u64, d: u64) {
 }
 
 // Writes each count after its words. The first is the third, so that the differences stand last.
-fn write_counts(words: &[u8], counts: [u64; 48]) {
+fn write_counts(words: &[u8], counts: [u64; 52]) {
     let mut i = 0;
-    while i < 12 {
-        let at = (i + 2) % 12 * 4;
+    while i < 13 {
+        let at = (i + 2) % 13 * 4;
         write_words(words, i);
         write_row(counts[at], counts[at + 1], counts[at + 2], counts[at + 3]);
         i += 1;
@@ -73,11 +73,11 @@ fn write_counts(words: &[u8], counts: [u64; 48]) {
 
 // Compares both planners on every small frame of the family, and writes the counts.
 pub fn compare_all() {
-    let mut counts = [0u64; 48];
+    let mut counts = [0u64; 52];
     try_all(&mut counts);
     io::write_all(1, b"supply          0 1 2 8\n");
     write_counts(
-        b"changed by holdcells evicted  calls refused 4plans refused 5plans granted  calls refused 7left cell emptysupply changes lists of calls refused by 11  calls taken    differences    ",
+        b"changed by holdcells evicted  calls refused 4plans refused 5plans granted  calls refused 7left cell emptysupply changes lists of calls refused by 11  own slot barredcalls taken    differences    ",
         counts,
     );
 }

@@ -1,8 +1,8 @@
 // The heads, tables and calls that are tried, and what is counted of them.
 //
 // A tally is packed, four bits for each count, at the place of its number: 0 calls taken, 1 differences, 2 what `(tie hold)` changes, 3 evicted cells, 4 calls refused by 4,
-// 5 plans refused by 5, 6 plans granted, 7 calls refused by 7, 8 calls that leave an evicted cell empty, 9 what the supply changes, 10 lists of calls, 11 calls refused by 11. So
-// a call's cause is its place.
+// 5 plans refused by 5, 6 plans granted, 7 calls refused by 7, 8 calls that leave an evicted cell empty, 9 what the supply changes, 10 lists of calls, 11 calls refused by 11,
+// 12 what the clock's own slot would change. So a call's cause is its place.
 use crate::compare::compare;
 use second_planner::answer;
 use second_planner::calls::call_in;
@@ -73,7 +73,32 @@ fn by_supply(
     one_if_other(9, frame, with_supply(head, 0), table, hold, call, after)
 }
 
-// The tally of what the order of ties and the supply change of a call or a plan.
+// The tally of what the clock's own slot would change of a call: beside the same call one clock earlier, which may use that slot and else the same ones. Clock 0, which a plan has
+// too, has no slot. Document 02, 2026-05: "a call can no longer use the clock's own slot".
+fn by_clock(
+    frame: usize,
+    head: usize,
+    table: usize,
+    hold: bool,
+    call: usize,
+    after: usize,
+) -> usize {
+    let own = field(call, 6);
+    if own == 0 {
+        return 0;
+    }
+    one_if_other(
+        12,
+        frame,
+        head,
+        table,
+        hold,
+        with_field(call, 6, own - 1),
+        after,
+    )
+}
+
+// The tally of what the order of ties and the supply change of a call or a plan, and the clock's own slot would.
 fn changed(
     frame: usize,
     head: usize,
@@ -84,6 +109,7 @@ fn changed(
 ) -> usize {
     by_hold(frame, head, table, hold, call, after)
         | by_supply(frame, head, table, hold, call, after)
+        | by_clock(frame, head, table, hold, call, after)
 }
 
 // The tally of optional cells that are empty afterwards.

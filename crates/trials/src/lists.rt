@@ -1,6 +1,6 @@
 // The listing of document 01, its head read into a lent list of preset records and written from it, planned, and its events handed over one by one, then as a text: each entry over a lent
-// list once. Then the whole text. What each answers is written, and the first eight cells of the table, which are the frame's, after each that changes it. The order of ties is
-// everywhere the earlier line's; ties.rt has the other.
+// list once. Then those on a running frame at other clocks, and the whole text. What each answers is written, and the first eight cells of the table, which are the frame's, after each
+// that changes it. The order of ties is everywhere the earlier line's; ties.rt has the other.
 use crate::lent::lent_call;
 use crate::lent::lent_event;
 use crate::lent::lent_plan;
@@ -125,7 +125,7 @@ fn try_events(head: Head, records: [Preset; 32]) {
     let mut table = [0u16; 512];
     show_planned(lent_plan(head, records, &mut table));
     show_cells(&table);
-    show_outcome(lent_set_clock(head, records, &table, 1, false, 2));
+    show_outcome(lent_set_clock(head, records, &table, 0, false, 2));
     show_called(lent_call(head, records, &mut table, 2, false, jobs(), 1));
     show_cells(&table);
     show_outcome(lent_event(head, records, &mut table, 2, false, b"(call (10 1))\n"));
@@ -139,7 +139,7 @@ fn try_lines(head: Head, records: [Preset; 32]) {
     let mut out = [0u8; 8192];
     show_planned(lent_plan(head, records, &mut table));
     let lines = b"(clock 2)\n(call (9 2))\n(call (10 1))\n(call (11 1))\n";
-    let run = lent_run_events(head, records, &mut table, 1, false, lines, &mut out);
+    let run = lent_run_events(head, records, &mut table, 0, false, lines, &mut out);
     let ended = run.ended;
     show_run(ended, &out);
     show_cells(&table);
@@ -147,11 +147,41 @@ fn try_lines(head: Head, records: [Preset; 32]) {
     show_written(written, &out);
 }
 
+// Its plan once more, and the entries on a running frame at a clock that is lent: a clock, the first call and an event line, then the same line as a text. Document 02, 2026-05: "2 and 11
+// take 0 to S + 1 as the clock's range".
+fn try_clock(head: Head, records: [Preset; 32], clock: usize) {
+    let mut table = [0u16; 512];
+    let mut out = [0u8; 8192];
+    show_planned(lent_plan(head, records, &mut table));
+    show_outcome(lent_set_clock(head, records, &table, clock, false, 5));
+    show_called(lent_call(head, records, &mut table, clock, false, jobs(), 1));
+    show_outcome(lent_event(head, records, &mut table, clock, false, b"(clock 0)\n"));
+    let run = lent_run_events(
+        head,
+        records,
+        &mut table,
+        clock,
+        false,
+        b"(clock 0)\n",
+        &mut out,
+    );
+    let ended = run.ended;
+    show_run(ended, &out);
+    show_cells(&table);
+}
+
+// The first clock of its frame, the last, and one more, which meets 11.
+fn try_clocks(head: Head, records: [Preset; 32]) {
+    try_clock(head, records, 0);
+    try_clock(head, records, 5);
+    try_clock(head, records, 6);
+}
+
 // The whole text, from records of zeros.
 fn try_text(text: &[u8]) {
     let mut table = [0u16; 512];
     let mut out = [0u8; 8192];
-    let run = lent_run_text(text, NO_HEAD, NO_PRESETS, &mut table, 1, false, &mut out);
+    let run = lent_run_text(text, NO_HEAD, NO_PRESETS, &mut table, 0, false, &mut out);
     let ended = run.ended;
     show_run(ended, &out);
 }
@@ -165,5 +195,6 @@ pub fn try_lists() {
     let read = lent_read_head(text, NO_HEAD, NO_PRESETS);
     try_events(read.head, lent_records(text, NO_HEAD, NO_PRESETS));
     try_lines(read.head, lent_records(text, NO_HEAD, NO_PRESETS));
+    try_clocks(read.head, lent_records(text, NO_HEAD, NO_PRESETS));
     try_text(text);
 }

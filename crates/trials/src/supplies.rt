@@ -52,17 +52,17 @@ fn try_plan(head: Head, records: [Preset; 32]) {
     show_cells(&table);
 }
 
-// A call on a table, at the last slot.
+// A call on a table at the clock before the last slot, which it may use then and no other.
 fn try_call(head: Head, records: [Preset; 32], cells: [Cell; 512]) {
     let mut table = cells;
-    show_called(lent_call(head, records, &mut table, 4, true, jobs(), 1));
+    show_called(lent_call(head, records, &mut table, 3, true, jobs(), 1));
     show_cells(&table);
 }
 
 // The call as an event line.
 fn try_line(head: Head, records: [Preset; 32], cells: [Cell; 512]) {
     let mut table = cells;
-    show_outcome(lent_event(head, records, &mut table, 4, true, b"(call (9 1))\n"));
+    show_outcome(lent_event(head, records, &mut table, 3, true, b"(call (9 1))\n"));
     show_cells(&table);
 }
 
@@ -74,7 +74,7 @@ fn try_lines(head: Head, records: [Preset; 32], cells: [Cell; 512]) {
         head,
         records,
         &mut table,
-        4,
+        3,
         true,
         b"(call (9 1))\n(call (10 1))\n",
         &mut out,
@@ -87,7 +87,7 @@ fn try_lines(head: Head, records: [Preset; 32], cells: [Cell; 512]) {
 // The next clock on a table, and the line of its last slot.
 fn try_clock(head: Head, records: [Preset; 32], cells: [Cell; 512]) {
     let mut out = [0u8; 8192];
-    show_outcome(lent_set_clock(head, records, &cells, 4, true, 5));
+    show_outcome(lent_set_clock(head, records, &cells, 3, true, 4));
     let written = lent_write_slot(head, records, &cells, 4, &mut out);
     show_written(written, &out);
 }
@@ -104,7 +104,7 @@ fn try_table(head: Head, records: [Preset; 32], cells: [Cell; 512]) {
 fn try_text(text: &[u8]) {
     let mut table = [0u16; 512];
     let mut out = [0u8; 8192];
-    let run = lent_run_text(text, NO_HEAD, NO_PRESETS, &mut table, 1, false, &mut out);
+    let run = lent_run_text(text, NO_HEAD, NO_PRESETS, &mut table, 0, false, &mut out);
     let ended = run.ended;
     show_run(ended, &out);
 }
@@ -136,14 +136,14 @@ fn try_tables(head: Head, records: [Preset; 32]) {
 // All of it. The second text has a busy cell beside the optional one, which draws nothing.
 pub fn try_supplies() {
     let text =
-        b"(frame 4 2)\n(supply 1)\n(tie hold)\n(preset 1 0 1 1)\n(preset 2 1 1 1)\n(clock 4)\n(call (9 1))\n(call (10 1))\n";
+        b"(frame 4 2)\n(supply 1)\n(tie hold)\n(preset 1 0 1 1)\n(preset 2 1 1 1)\n(clock 3)\n(call (9 1))\n(call (10 1))\n";
     io::write_all(1, b"(supplies)\n");
     try_head(text);
     let read = lent_read_head(text, NO_HEAD, NO_PRESETS);
     try_tables(read.head, lent_records(text, NO_HEAD, NO_PRESETS));
     try_text(text);
     try_text(
-        b"(frame 2 2)\n(supply 1)\n(busy 1 (2 2))\n(preset 1 0 0 2)\n(clock 2)\n(call (9 1))\n",
+        b"(frame 2 2)\n(supply 1)\n(busy 1 (2 2))\n(preset 1 0 0 2)\n(clock 1)\n(call (9 1))\n",
     );
     try_text(b"(frame 1 1)\n(supply 9)\n");
 }

@@ -38,10 +38,10 @@ fn jobs() -> [Job; 8] {
 fn try_order(head: Head, records: [Preset; 32], hold: bool) {
     let mut table = [0u16; 512];
     show_planned(lent_plan(head, records, &mut table));
-    let set = lent_set_clock(head, records, &table, 1, hold, 4);
+    let set = lent_set_clock(head, records, &table, 0, hold, 3);
     show_outcome(set);
     order_line(b"in force", set.hold);
-    show_called(lent_call(head, records, &mut table, 4, set.hold, jobs(), 2));
+    show_called(lent_call(head, records, &mut table, 3, set.hold, jobs(), 2));
     show_cells(&table);
 }
 
@@ -49,7 +49,7 @@ fn try_order(head: Head, records: [Preset; 32], hold: bool) {
 fn try_line(head: Head, records: [Preset; 32], hold: bool, line: &[u8]) {
     let mut table = [0u16; 512];
     show_planned(lent_plan(head, records, &mut table));
-    let outcome = lent_event(head, records, &mut table, 1, hold, line);
+    let outcome = lent_event(head, records, &mut table, 0, hold, line);
     show_outcome(outcome);
     order_line(b"in force", outcome.hold);
     show_cells(&table);
@@ -60,7 +60,7 @@ fn try_lines(head: Head, records: [Preset; 32], hold: bool, lines: &[u8]) {
     let mut table = [0u16; 512];
     let mut out = [0u8; 8192];
     show_planned(lent_plan(head, records, &mut table));
-    let run = lent_run_events(head, records, &mut table, 1, hold, lines, &mut out);
+    let run = lent_run_events(head, records, &mut table, 0, hold, lines, &mut out);
     let ended = run.ended;
     show_run(ended, &out);
     order_line(b"in force", run.hold);
@@ -71,7 +71,7 @@ fn try_lines(head: Head, records: [Preset; 32], hold: bool, lines: &[u8]) {
 fn try_text(text: &[u8], hold: bool) {
     let mut table = [0u16; 512];
     let mut out = [0u8; 8192];
-    let run = lent_run_text(text, NO_HEAD, NO_PRESETS, &mut table, 1, hold, &mut out);
+    let run = lent_run_text(text, NO_HEAD, NO_PRESETS, &mut table, 0, hold, &mut out);
     let ended = run.ended;
     show_run(ended, &out);
     order_line(b"in force", run.hold);

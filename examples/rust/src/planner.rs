@@ -1,7 +1,7 @@
 //! The planner over slices: include/planner.h in Rust. Everything unsafe is here.
 
 /// The version of the layout: stored beside a frame, so that no frame of another one is restored.
-pub const VERSION: u8 = 4;
+pub const VERSION: u8 = 5;
 
 const FRAME_NUMBERS: usize = 16;
 const PRESETS_BYTES: usize = 128;

@@ -201,7 +201,8 @@ fn before_rows(rng: &mut Rng, text: Vec<u8>) -> Vec<u8> {
 /// After the head an event, and lines that nobody looks at; with rows or without an empty line.
 pub fn events_damaged(rng: &mut Rng) -> Vec<u8> {
     let mut sheet = Sheet::any(rng);
-    const EVENTS: &[&str] = &["(clock 1)", "(call (9 1))", "(clock 0)", "(call (0 99))", "(tie hold)", "(tie place)"];
+    const EVENTS: &[&str] =
+        &["(clock 0)", "(clock 1)", "(clock 99)", "(call (9 1))", "(call (0 99))", "(tie hold)", "(tie place)"];
     sheet.station.events.insert(0, (*rng.pick(EVENTS)).into());
     for _ in 0..rng.within(1..=4) {
         let line =

@@ -103,7 +103,7 @@ unfolding ownCauses
 own-clock h st t = refl
 
 module _ (slots c t : ℕ) where
-  -- "t below 1 or above S + 1"
+  -- a t outside 0 to S + 1
   clock-outside : clockIn slots t ≡ false → firstOf (clockCauses slots c t) ≡ some outOfLimits
   clock-outside e = met outOfLimits (not (clockIn slots t)) _ (not-is-true _ e)
 
@@ -141,30 +141,29 @@ module _ (slots c t : ℕ) where
     pub clock-set : c ≤ t → ClockDone slots c hold t (record { answer = Now t; clock = t; hold = hold })
     clock-set l = let z = clock-moved (clock-after inside l) in record { answer = sym (z .0); clock = sym (z .1); hold = refl }
 
--- the clock that is left is one of the frame's, as the present one is, and not below it
-clock-within : (slots c t : ℕ) → clockIn slots c ≡ true → (clockIn slots (clockAfter slots c t) ≡ true) × (c ≤ clockAfter slots c t)
-clock-within slots c t was = go (firstOf (clockCauses slots c t)) refl
+-- the clock that is left is not below the present one
+clock-onward : (slots c t : ℕ) → c ≤ clockAfter slots c t
+clock-onward slots c t = go (firstOf (clockCauses slots c t)) refl
   where
-    go : (o : Option Refusal) → firstOf (clockCauses slots c t) ≡ o → (clockIn slots (clockAfter slots c t) ≡ true) × (c ≤ clockAfter slots c t)
+    go : (o : Option Refusal) → firstOf (clockCauses slots c t) ≡ o → c ≤ clockAfter slots c t
     go none e =
         let z = clock-moved slots c t e .1 in
         let two = first-none outOfLimits (not (clockIn slots t)) _ e in
         let six = first-none clockBack (ltb t c) [] (two .1) .0 in
-        (ap (clockIn slots) z ∙ true-of-not (clockIn slots t) (two .0), omega (arith, z, ge-of t c six))
-    go (some r) e = let z = clock-stopped slots c t r e .1 in (ap (clockIn slots) z ∙ was, omega (arith, z))
+        omega (arith, z, ge-of t c six)
+    go (some r) e = let z = clock-stopped slots c t r e .1 in omega (arith, z)
 
 -- so the counts are those of the clock that is left, where its slots are taken off
 pub clock-counts : (head : record-of-head.Head) (ps : List record-of-preset.Preset) (n : ℕ) (st : State) {r : result.Outcome} {marks xs ys : List ℕ} {admitted : ℕ}
     → ClockDone (head .slots) (st .clock) (st .hold) n r → validRecord head ps ≡ true → Running (headIn head ps) st → CountsOf (headIn head ps) (st .clock) (cell (headIn head ps) (st .table)) marks admitted xs
-    → (sizesInLimits (head .slots) (head .bridges) 0 (length (st .table)) ≡ true → clockIn (head .slots) (st .clock) ≡ true → clockIn (head .slots) (r .clock) ≡ true → st .clock ≤ r .clock
+    → (sizesInLimits (head .slots) (head .bridges) 0 (length (st .table)) ≡ true → st .clock ≤ r .clock
     → AtLeast xs (head .slots) (slotFree (st .table) (head .bridges) (motorsIn head) (st .clock)) → AtLeast ys (head .slots) (slotFree (st .table) (head .bridges) (motorsIn head) (r .clock)))
     → CountsOf (headIn head ps) (r .clock) (cell (headIn head ps) (st .table)) marks admitted ys
 clock-counts head ps n st {r} d v run was passed =
     let valid = record-valid head ps v in
-    let moved = clock-within (head .slots) (st .clock) n (run .wellFormed .clock) in
     counts-passed (headIn head ps) (st .clock) (r .clock) (st .table) was
-    (passed (in-limits (head .slots) (head .bridges) 0 (length (st .table)) (valid .slots-high) (valid .bridges-high) (omega arith) (run .long)) (run .wellFormed .clock)
-    (ap (clockIn (head .slots)) (d .clock) ∙ moved .0) (omega (arith, d .clock, moved .1)))
+    (passed (in-limits (head .slots) (head .bridges) 0 (length (st .table)) (valid .slots-high) (valid .bridges-high) (omega arith) (run .long))
+    (omega (arith, d .clock, clock-onward (head .slots) (st .clock) n)))
 
 -- ---- an event line as it was read
 
@@ -272,7 +271,7 @@ module _ (h : Head) (st : State) (free : firstOf (frameCauses h st) ≡ none) wh
   outside : (t : ℕ) → suc (h .slots) < t → firstOf (ownCauses h st (setClock t)) ≡ some outOfLimits
   outside t l = ap firstOf (own-clock h st t) ∙ clock-above (h .slots) (st .clock) t l
 
-  -- "t below 1 or above S + 1", whether t was read as it is or stopped at 65,535
+  -- a t above S + 1, whether t was read as it is or stopped at 65,535
   clock-seen : (t : ℕ) → h .slots ≤ 64 → comesTo h st (setClock t) ≡ comesTo h st (setClock (seen t))
   clock-seen t small = go (is (leb t 65535))
     where

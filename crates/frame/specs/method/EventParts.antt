@@ -25,7 +25,7 @@ use Rattle.frame.specs.declared.types.Outcome as result
 use Rattle.frame.specs.Event.{Asked, setClock, setTie, placeJobs, fault, Answer, clockNow, tieNow, refused, answerOf, Outcome, clockState, tieState}
 use Rattle.frame.specs.Types.{answerIn}
 
--- The causes of a clock itself, on a frame of so many slots at the clock c: "t below 1 or above S + 1" and "a clock below the present one".
+-- The causes of a clock itself, on a frame of so many slots at the clock c: a t outside 0 to S + 1 and "a clock below the present one".
 abbrev pub clockCauses : ℕ → ℕ → ℕ → List (Option Refusal)
 clockCauses slots c t = try outOfLimits (not (clockIn slots t)) ∷ try clockBack (ltb t c) ∷ []
 

@@ -37,7 +37,7 @@ fn answered(answer: Answer, clock: usize, hold: bool) -> Outcome
     }
 }
 
-// A clock that is asked for on a frame of so many slots: 2 where it is outside 1 to S + 1, 6 where it is below the present one, else it is the new clock.
+// A clock that is asked for on a frame of so many slots: 2 where it is outside 0 to S + 1, 6 where it is below the present one, else it is the new clock.
 pub(crate) fn asked_clock(slots: usize, clock: usize, hold: bool, to: usize) -> Outcome
     ensures { λ r. ⌜ ClockDone slots clock hold to r ⌝ }
 {

@@ -96,6 +96,6 @@ stayingCell v = isHeld v && not (evictableCell v)
 unfoldable pub usableIn : List ℕ → ℕ → ℕ → ℕ → ℕ
 usableIn t from n motors = min (count n (λ b. freeCell (cellAt t (from + b)))) (motors - count n (λ b. stayingCell (cellAt t (from + b))))
 
--- and of a slot; "A call uses slots from the clock on."
+-- and of a slot; "A call uses slots above the clock."
 unfoldable pub slotFree : List ℕ → ℕ → ℕ → ℕ → ℕ → ℕ
 slotFree t bridges motors clock s = only (usable clock s) (usableIn t (s * bridges) bridges motors)

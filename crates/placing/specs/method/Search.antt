@@ -46,7 +46,11 @@ emptyMask t from n = bridgeMask n (emptyIn t from)
 unfoldable pub heldFrom : List ℕ → ℕ → ℕ → ℕ
 heldFrom t from n = count n (λ b. isHeld (cellAt t (from + b)))
 
--- The mask of the empty cells of a slot, where nothing before the clock is free: "A call uses slots from the clock on."
+-- The first slot that a call may use, counted from 0 as all slots are here: slot clock + 1 of the paper, "above the clock".
+abbrev pub firstSlot : ℕ → ℕ
+firstSlot clock = clock
+
+-- The mask of the empty cells of a slot, where nothing up to the clock is free: "A call uses slots above the clock."
 unfoldable pub slotMask : List ℕ → ℕ → ℕ → ℕ → ℕ
 slotMask t bridges clock s = only (usable clock s) (emptyMask t (s * bridges) bridges)
 
@@ -107,7 +111,7 @@ pub record Walked (d : Demand) (zs : List CellPlace) (s r : Search) : Type 0 whe
   pub stands : Stands d r
   pub kept : keptIn r ≡ walked (shortFor d) zs (keptIn s)
 
--- what the search has before its walk: the empty cells from the clock on, and the free numbers
+-- what the search has before its walk: the empty cells above the clock, and the free numbers
 pub record Starts (t : List ℕ) (bridges motors clock : ℕ) (d : Demand) (s : Search) : Type 0 where
   pub stands : Stands d s
   pub free : (z : ℕ) → getD (s .free) z 0 ≡ only (ltb z (d .slots)) (slotMask t bridges clock z)
@@ -126,7 +130,7 @@ unfoldable pub placesIn : List ℕ → ℕ → List ℕ → ℕ → ℕ → ℕ 
 placesIn t bridges ranks rank slot n =
     downward n (λ b. cond (ofRank ranks rank (cellAt t (slot * bridges + b))) (record { slot = slot; bridge = b } ∷ []) [])
 
--- the cells of one rank in the first n slots, from the clock on
+-- the cells of one rank in the first n slots, above the clock
 unfoldable pub placesFrom : List ℕ → ℕ → ℕ → List ℕ → ℕ → ℕ → List CellPlace
 placesFrom t bridges clock ranks rank n =
     downward n (λ s. cond (usable clock s) (placesIn t bridges ranks rank s bridges) [])

@@ -18,7 +18,6 @@ ghost use lib.ListN.{length};
 ghost use Rattle.laws.specs.Sums.{bit};
 ghost use Rattle.laws.specs.method.Capacities.{AtLeast};
 ghost use Rattle.station.specs.Limits.{mostBridges};
-ghost use Rattle.placing.specs.Valid.{clockIn};
 ghost use Rattle.placing.specs.method.Limits.{sizesInLimits, motorsIn};
 ghost use Rattle.placing.specs.method.Counts.{freeCell, stayingCell, usableIn, slotFree};
 
@@ -70,7 +69,7 @@ fn usable_in(table: &[Cell], from: usize, bridges: usize, motors: usize) -> usiz
     smaller(free as usize, less(motors, staying as usize))
 }
 
-// How many slots from the clock on have at least one, two, up to eight cells that a call may fill, of a table and a clock within the limits. A slot before the clock is not entered.
+// How many slots above the clock have at least one, two, up to eight cells that a call may fill, of a table within the limits. The other slots are not entered.
 pub(crate) fn count_slots(head: Head, table: &[Cell], clock: usize) -> [u8; MOST_BRIDGES]
     ensures { λ r. ⌜ (sizesInLimits (head .slots) (head .bridges) 0 (length (now (table .entry))) ≡ true → AtLeast r (head .slots) (slotFree (now (table .entry)) (head .bridges) (motorsIn head) clock)) ⌝ }
 {
@@ -90,7 +89,7 @@ pub(crate) fn count_slots(head: Head, table: &[Cell], clock: usize) -> [u8; MOST
     entries
 }
 
-// Takes the slots from one clock up to another off: a call cannot use them any more. It promises something
+// Takes the slots above one clock and up to another off: a call cannot use them any more. It promises something
 // within the limits, where the second clock is not below the first, and is safe for every other input.
 pub fn pass_slots(
     head: Head,
@@ -99,7 +98,7 @@ pub fn pass_slots(
     to: usize,
     entries: &mut [u8; MOST_BRIDGES],
 )
-    ensures { λ _. ⌜ (sizesInLimits (head .slots) (head .bridges) 0 (length (now (table .entry))) ≡ true → clockIn (head .slots) from ≡ true → clockIn (head .slots) to ≡ true → from ≤ to
+    ensures { λ _. ⌜ (sizesInLimits (head .slots) (head .bridges) 0 (length (now (table .entry))) ≡ true → from ≤ to
         → AtLeast (now (entries .entry)) (head .slots) (slotFree (now (table .entry)) (head .bridges) (motorsIn head) from) → AtLeast (now (entries .exit)) (head .slots) (slotFree (now (table .entry)) (head .bridges) (motorsIn head) to)) ⌝ }
 {
     let slots = head.slots;

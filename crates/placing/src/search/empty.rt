@@ -2,6 +2,7 @@
 use crate::cells::Cell;
 use crate::cells::is_held;
 use crate::numbers::less;
+use crate::numbers::smaller;
 use station::limits::MOST_BRIDGES;
 use station::limits::MOST_SLOTS;
 ghost use Prim.Native.Nat.{ℕ, _+_, _*_, _-_, _^_, _%_, _<_, _≤_, min};
@@ -11,8 +12,7 @@ ghost use lib.Dec.{ltb};
 ghost use Rattle.laws.specs.Sums.{bit, only};
 ghost use Rattle.station.specs.Limits.{mostSlots, mostBridges, leastCells};
 ghost use Rattle.placing.specs.Table.{isHeld};
-ghost use Rattle.placing.specs.Valid.{firstSlot};
-ghost use Rattle.placing.specs.method.Search.{emptyMask, heldFrom, slotMask};
+ghost use Rattle.placing.specs.method.Search.{firstSlot, emptyMask, heldFrom, slotMask};
 
 // The bit of a bridge in a mask.
 pub(crate) fn bridge_bit(b: usize) -> u8
@@ -74,20 +74,14 @@ fn found_in(table: &[Cell], from: usize, bridges: usize) -> Found
     }
 }
 
-// The first slot from the clock on, and `slots` where there is none.
+// The first slot above the clock, counted from 0, and `slots` where there is none.
 pub(crate) fn first_slot(clock: usize, slots: usize) -> usize
     ensures { λ r. ⌜ r ≡ min (firstSlot clock) slots ⌝ }
 {
-    if slots < clock {
-        return slots;
-    }
-    if clock == 0 {
-        return 0;
-    }
-    clock - 1
+    smaller(clock, slots)
 }
 
-// The masks of the empty cells of the first slots, from the clock on, and 0 elsewhere; `spare` gets for each of these slots how many of so many motors it has to spare.
+// The masks of the empty cells of the first slots, above the clock, and 0 elsewhere; `spare` gets for each of these slots how many of so many motors it has to spare.
 pub(crate) fn slot_masks(
     table: &[Cell],
     bridges: usize,

@@ -1,11 +1,12 @@
 -- Laws of the cells that a call may use, and of how many slots have at least so many.
 --
--- In order: a cell that a call may use (`free-..`), and one that stays (`stays-..`); slots before the clock and from it on (`slot-..`, `entries-before`), and a slot that it passes (`pass-slot`); what a call may fill of the frame's slots (`entries-are`, `entries-of`).
+-- In order: a cell that a call may use (`free-..`), and one that stays (`stays-..`); slots up to the clock and above it (`slot-..`, `entries-before`), a slot that it passes (`pass-slot`), and a clock past the last slot (`entries-past`); what a call may fill of the frame's slots (`entries-are`, `entries-of`).
 -- Assumes nothing.
 use Prim.Native.Nat.{ℕ, _+_, _*_, _-_, _≤_, _<_, min}
 use native.Mathlib.Omega.{arith}
 use native.Mathlib.Nat.{mul-le-mul}
 use mathlib.Core.Path.{_≡_, sym, _∙_, ap, ap₂}
+use mathlib.Core.Logic.{_↔_}
 use mathlib.Core.Bool.{Bool, true, false, not, _&&_, _||_, and-false}
 use mathlib.Core.List.{List}
 use lib.ListN.{length, getD, replicate}
@@ -19,7 +20,8 @@ use Rattle.laws.proofs.Capacities.{at-least-none, at-least-off, at-least-ext}
 use Rattle.station.specs.Head.{Head}
 use Rattle.placing.proofs.WellFormedFrame.{usable-from, usable-before}
 use Rattle.placing.specs.Table.{cell, isEmpty, isHeld, motors, cleared}
-use Rattle.placing.specs.Valid.{usable, firstSlot}
+use Rattle.placing.specs.Valid.{usable}
+use Rattle.placing.specs.method.Search.{firstSlot}
 use Rattle.placing.specs.Call.{evictable, usableCount}
 use Rattle.placing.specs.method.Counts.{evictableCell, freeCell, stayingCell, usableIn, slotFree}
 use Rattle.placing.proofs.FreeNumber.{cleared-empty, cleared-held}
@@ -52,7 +54,7 @@ eight-le s m ls lm = omega (arith, mul-le-mul {n₁ = s} {n₂ = 63} {m₂ = 8} 
 
 -- ---- slots by their free cells, and one that the clock passes
 
--- a slot before the clock has no free cells, and one from it on has its own
+-- a slot up to the clock has no free cells, and one above it has its own
 slot-before : (t : List ℕ) (bridges motors clock s : ℕ) → s < firstSlot clock → slotFree t bridges motors clock s ≡ 0
 unfolding slotFree
 slot-before t bridges motors clock s l = ap (λ (b : Bool). only b (usableIn t (s * bridges) bridges motors)) (usable-before clock s l)
@@ -61,24 +63,36 @@ pub slot-from : (t : List ℕ) (bridges motors clock s : ℕ) → firstSlot cloc
 unfolding slotFree
 slot-from t bridges motors clock s l = ap (λ (b : Bool). only b (usableIn t (s * bridges) bridges motors)) (usable-from clock s l)
 
--- the slots before the clock are in no entry
+-- the slots up to the clock are in no entry
 pub entries-before : (t : List ℕ) (bridges motors clock n : ℕ) → n ≤ firstSlot clock → AtLeast (replicate 8 0) n (slotFree t bridges motors clock)
 entries-before t bridges motors clock n l = at-least-none n (slotFree t bridges motors clock) (λ s m. slot-before t bridges motors clock s (omega arith))
 
 -- the clock passes one slot: its free cells are no more
-pub pass-slot : (t : List ℕ) (slots bridges motors s : ℕ) {xs ys : List ℕ} {free : ℕ} → s < slots → AtLeast xs slots (slotFree t bridges motors (s + 1)) → free ≡ usableIn t (s * bridges) bridges motors
-    → length ys ≡ length xs → ((r : ℕ) → r < 8 → getD ys r 0 ≡ getD xs r 0 - bit (ltb r free)) → AtLeast ys slots (slotFree t bridges motors (s + 1 + 1))
+pub pass-slot : (t : List ℕ) (slots bridges motors s : ℕ) {xs ys : List ℕ} {free : ℕ} → s < slots → AtLeast xs slots (slotFree t bridges motors s) → free ≡ usableIn t (s * bridges) bridges motors
+    → length ys ≡ length xs → ((r : ℕ) → r < 8 → getD ys r 0 ≡ getD xs r 0 - bit (ltb r free)) → AtLeast ys slots (slotFree t bridges motors (s + 1))
 pass-slot t slots bridges motors s inside was own size less =
-    at-least-off was (slotFree t bridges motors (s + 1 + 1)) s inside (λ z m ne. other z ne (is (ltb z s))) (slot-before t bridges motors (s + 1 + 1) s (omega arith))
-    (own ∙ sym (slot-from t bridges motors (s + 1) s (omega arith))) (size ∙ was .long) less
+    at-least-off was (slotFree t bridges motors (s + 1)) s inside (λ z m ne. other z ne (is (ltb z s))) (slot-before t bridges motors (s + 1) s (omega arith))
+    (own ∙ sym (slot-from t bridges motors s s (omega arith))) (size ∙ was .long) less
   where
-    other : (z : ℕ) → (z ≡ s → ⊥) → Is (ltb z s) → slotFree t bridges motors (s + 1 + 1) z ≡ slotFree t bridges motors (s + 1) z
+    other : (z : ℕ) → (z ≡ s → ⊥) → Is (ltb z s) → slotFree t bridges motors (s + 1) z ≡ slotFree t bridges motors s z
     other z ne (is-true e) =
         let l = lt-of z s e in
-        slot-before t bridges motors (s + 1 + 1) z (omega arith) ∙ sym (slot-before t bridges motors (s + 1) z (omega arith))
+        slot-before t bridges motors (s + 1) z (omega arith) ∙ sym (slot-before t bridges motors s z (omega arith))
     other z ne (is-false e) =
         let l = ge-of z s e in
-        slot-from t bridges motors (s + 1 + 1) z (omega arith) ∙ sym (slot-from t bridges motors (s + 1) z (omega arith))
+        slot-from t bridges motors (s + 1) z (omega arith) ∙ sym (slot-from t bridges motors s z (omega arith))
+
+-- no slot is above the last one: a clock past it has the entries of the last
+pub entries-past : (t : List ℕ) (slots bridges motors clock : ℕ) {xs : List ℕ} → AtLeast xs slots (slotFree t bridges motors clock) ↔ AtLeast xs slots (slotFree t bridges motors (min clock slots))
+entries-past t slots bridges motors clock =
+    (λ a. at-least-ext a (slotFree t bridges motors (min clock slots)) same, λ a. at-least-ext a (slotFree t bridges motors clock) (λ s l. sym (same s l)))
+  where
+    same : (s : ℕ) → s < slots → slotFree t bridges motors clock s ≡ slotFree t bridges motors (min clock slots) s
+    same s l = go (is (ltb s clock))
+      where
+        go : Is (ltb s clock) → slotFree t bridges motors clock s ≡ slotFree t bridges motors (min clock slots) s
+        go (is-true e) = let m = lt-of s clock e in slot-before t bridges motors clock s m ∙ sym (slot-before t bridges motors (min clock slots) s (omega (arith, l, m)))
+        go (is-false e) = let m = ge-of s clock e in slot-from t bridges motors clock s m ∙ sym (slot-from t bridges motors (min clock slots) s (omega (arith, l, m)))
 
 -- ---- the table of the frame's slots
 

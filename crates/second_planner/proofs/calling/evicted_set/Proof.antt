@@ -11,8 +11,8 @@ Inv-loop sets head table call slots evictable empty best₀ least₀ set₀ best
 abbrev μ-loop : tie.MeasureT-loop
 μ-loop sets head table call slots evictable empty best₀ least₀ set₀ best least set = 64 - set
 
-from-clock-requires : tie.Need-from-clock-requires Inv-loop μ-loop
-from-clock-requires c κs = search needs
+above-clock-requires : tie.Need-above-clock-requires Inv-loop μ-loop
+above-clock-requires c κs = search needs
 
 evictable-requires : tie.Need-evictable-requires Inv-loop μ-loop
 evictable-requires c κs = search needs
@@ -53,7 +53,7 @@ evicted-set-spec =
     (tie.spec
     Inv-loop
     μ-loop
-    from-clock-requires
+    above-clock-requires
     evictable-requires
     cells-of-requires
     loop-holds

@@ -1,4 +1,4 @@
--- `add` is safe and ends. The loop's invariant: `i` is at most 12. Assumes nothing.
+-- `add` is safe and ends. The loop's invariant: `i` is at most 13. Assumes nothing.
 use Prim.Native.Nat.{_≤_, _-_}
 use native.Mathlib.Omega.{arith}
 use borrow.Author.Needs.{needs}
@@ -6,10 +6,10 @@ use Rattle.trials.proofs.counts.add.Statement.{statement}
 use Rattle.trials.proofs.counts.add.Tie as tie
 
 abbrev Inv-loop : tie.InvT-loop
-Inv-loop counts₀ column tally i₀ counts i = i ≤ 12
+Inv-loop counts₀ column tally i₀ counts i = i ≤ 13
 
 abbrev μ-loop : tie.MeasureT-loop
-μ-loop counts₀ column tally i₀ counts i = 12 - i
+μ-loop counts₀ column tally i₀ counts i = 13 - i
 
 loop-holds : tie.Need-loop-holds Inv-loop μ-loop
 loop-holds c = omega arith

@@ -1,4 +1,4 @@
--- `counts::usable::count_slots` meets its contract: beyond the limits it promises nothing. The loop's invariant: the slots before `s` are entered, of which those before the clock are in no entry. Assumes nothing.
+-- `counts::usable::count_slots` meets its contract: beyond the limits it promises nothing. The loop's invariant: the slots before `s` are entered, of which those up to the clock are in no entry. Assumes nothing.
 use native.Mathlib.Omega.{arith}
 use Prim.Native.Nat.{_+_, _*_, _-_, _≤_, min}
 use mathlib.Core.Path.{_≡_, sym, _∙_}
@@ -6,7 +6,7 @@ use lib.ListN.{length}
 use Rattle.laws.specs.method.Capacities.{AtLeast}
 use Rattle.laws.proofs.Tests.{clash, false-of-not, true-of-not}
 use Rattle.laws.proofs.Capacities.{at-least-le, at-least-on}
-use Rattle.placing.specs.Valid.{firstSlot}
+use Rattle.placing.specs.method.Search.{firstSlot}
 use Rattle.placing.specs.method.Counts.{slotFree}
 use Rattle.placing.proofs.limits.Within.{limits-of}
 use Rattle.placing.proofs.counts.usable.UsableCells.{eight-le, slot-from, entries-before}

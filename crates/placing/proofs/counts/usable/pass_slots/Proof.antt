@@ -1,16 +1,13 @@
--- `counts::usable::pass_slots` meets its contract. The loop's invariant: where the entries were those of the first clock, they are those of the clock at slot s. Assumes nothing.
+-- `counts::usable::pass_slots` meets its contract. The loop's invariant: where the entries were those of the first clock, they are those of the clock s. Assumes nothing.
 use native.Mathlib.Omega.{arith}
-use Prim.Native.Nat.{ℕ, _+_, _-_, _≤_, _<_}
+use Prim.Native.Nat.{ℕ, _-_, _≤_, _<_, min}
 use mathlib.Core.Path.{_≡_, sym, _∙_, subst}
-use mathlib.Core.Bool.{true}
 use lib.ListN.{length}
 use Rattle.laws.proofs.Tests.{clash, false-of-not, true-of-not}
-use Rattle.placing.proofs.WellFormedFrame.{clock-from, clock-to}
-use Rattle.placing.specs.Valid.{clockIn}
 use Rattle.placing.proofs.limits.Within.{limits-of}
 use Rattle.laws.specs.method.Capacities.{AtLeast}
 use Rattle.placing.specs.method.Counts.{slotFree}
-use Rattle.placing.proofs.counts.usable.UsableCells.{eight-le, pass-slot}
+use Rattle.placing.proofs.counts.usable.UsableCells.{eight-le, pass-slot, entries-past}
 use borrow.Author.Needs.{needs}
 use Rattle.placing.proofs.counts.usable.pass_slots.Statement.{statement}
 use Rattle.placing.proofs.counts.usable.pass_slots.Tie as tie
@@ -18,7 +15,7 @@ use Rattle.placing.proofs.counts.usable.pass_slots.Tie as tie
 abbrev Inv-loop : tie.InvT-loop
 Inv-loop table from to entries₀ slots bridges fed end s₀ entries s =
     (from ≤ to → s ≤ end)
-    × (clockIn slots from ≡ true → clockIn slots to ≡ true → from ≤ to → AtLeast entries₀ slots (slotFree table bridges fed from) → AtLeast entries slots (slotFree table bridges fed (s + 1)))
+    × (from ≤ to → AtLeast entries₀ slots (slotFree table bridges fed from) → AtLeast entries slots (slotFree table bridges fed s))
 
 abbrev μ-loop : tie.MeasureT-loop
 μ-loop table from to entries₀ slots bridges fed end s₀ entries s = end - s
@@ -43,9 +40,7 @@ loop-holds c =
     let a = c .before .before .before .before .before .before .args in
     let b = c .first-slot2 .ensures in (
       λ h. omega (arith, h, b, c .before .first-slot .ensures),
-      λ in-from in-to up right.
-          let e : a .from ≡ c .first-slot2 .result + 1 = omega (arith, b, clock-from (a .head .slots) (a .from) in-from, clock-to (a .head .slots) (a .from) in-from) in
-          subst (λ (k : ℕ). AtLeast (a .entries .now) (a .head .slots) (slotFree (a .table .now) (a .head .bridges) (c .before .before .before .before .motors .result) k)) e right,
+      λ up right. rw b (entries-past (a .table .now) (a .head .slots) (a .head .bridges) (c .before .before .before .before .motors .result) (a .from) .0 right),
     )
 
 -- the frame is within the limits, and the slot within the frame
@@ -85,21 +80,22 @@ loop-again c =
     let l = f .before .before .loop in
     let a = f .before .before .before .before .before .before .before .before .before .args in (
       λ h. omega (arith, f .before .loop-test .taken),
-      λ in-from in-to up right.
-          let r = l .inv .1 in-from in-to up right in
+      λ up right.
+          let r = l .inv .1 up right in
           pass-slot (a .table .now) (a .head .slots) (a .head .bridges) (f .before .before .before .before .before .before .before .motors .result) (l .s) (omega (arith, f .before .loop-test .taken, f .before .before .before .before .first-slot .ensures)) r
           (f .usable-in .ensures .0) (c .leave-slot .ensures .0) (c .leave-slot .ensures .1 (r .long)),
     )
 
 returns-2 : tie.Need-returns-2 Inv-loop μ-loop
 returns-2 c =
-    λ e in-from in-to up right.
+    λ e up right.
     let l = c .before .loop in
     let n = c .before .before .before in
     let a = n .before .before .before .before .before .args in
-    let same : l .s + 1 ≡ a .to = omega (arith, l .inv .0 up, c .loop-test .left, n .first-slot .ensures, clock-from (a .head .slots) (a .to) in-to, clock-to (a .head .slots) (a .to) in-to) in
+    let same : l .s ≡ min (a .to) (a .head .slots) = omega (arith, l .inv .0 up, c .loop-test .left, n .first-slot .ensures) in
     let fed = n .before .before .before .motors .ensures in
-    rw fed at (subst (λ (k : ℕ). AtLeast (l .entries) (a .head .slots) (slotFree (a .table .now) (a .head .bridges) (n .before .before .before .motors .result) k)) same (l .inv .1 in-from in-to up (rw fed right)))
+    rw fed at (entries-past (a .table .now) (a .head .slots) (a .head .bridges) (n .before .before .before .motors .result) (a .to) .1
+    (subst (λ (k : ℕ). AtLeast (l .entries) (a .head .slots) (slotFree (a .table .now) (a .head .bridges) (n .before .before .before .motors .result) k)) same (l .inv .1 up (rw fed right))))
 
 pub pass-slots-spec : {M : Type 1} → statement M
 pass-slots-spec =
