@@ -1,6 +1,6 @@
 // One cell, 44 pixels wide and 32 high: its kind's colour, its kind's hatching, which shows where there are no colours, and its letter and number.
 ghost use Rattle.std.specs.Prelude.{◌≡◌, not, ◌&&◌, ◌<◌};
-ghost use Rattle.placing.specs.Table.{isOptional};
+ghost use Rattle.placing.specs.Table.{is_optional};
 
 use crate::output::{around, number, put};
 use placing::cells::{Cell, is_optional, kind_of, number_in};
@@ -16,7 +16,7 @@ const OPTIONAL: u16 = 3;
 
 // Whether a cell is lost: it was optional and is so no more.
 fn is_lost(was: Cell, cell: Cell) -> bool
-    ensures { result ≡ (isOptional was && not (isOptional cell)) }
+    ensures { result ≡ (is_optional was && not (is_optional cell)) }
 {
     if is_optional(was) {
         return !is_optional(cell);

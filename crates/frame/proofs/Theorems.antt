@@ -1,10 +1,10 @@
 -- What programs, the static library and the pages cite of this layer's laws; the three demands are in Demands.
 -- Assumes nothing.
-pub use Rattle.frame.proofs.Demands.{planned-running, demand-3}
-pub use Rattle.frame.proofs.OneEvent.{event-is}
-pub use Rattle.frame.proofs.HandedOver.{handed-over}
-pub use Rattle.frame.proofs.AsUncapped.{run-uncapped, text-uncapped, run-eight}
-pub use Rattle.frame.proofs.AsBefore.{plan-as-before, run-as-before, text-as-before, place-as-before}
-pub use Rattle.frame.proofs.event.EventAnswers.{meant-event, done-running}
-pub use Rattle.frame.proofs.text.WholeText.{beside_long, text-claim}
-pub use Rattle.frame.proofs.listing.WholeListing.{cause-whole}
+pub use Rattle.frame.proofs.Demands.{planned_running, demand_3}
+pub use Rattle.frame.proofs.OneEvent.{event_is}
+pub use Rattle.frame.proofs.HandedOver.{handed_over}
+pub use Rattle.frame.proofs.AsUncapped.{run_uncapped_lem, text_uncapped, run_eight}
+pub use Rattle.frame.proofs.AsBefore.{plan_as_before, run_as_before, text_as_before, place_as_before}
+pub use Rattle.frame.proofs.event.EventAnswers.{meant_event, done_running}
+pub use Rattle.frame.proofs.text.WholeText.{beside_long, text_claim}
+pub use Rattle.frame.proofs.listing.WholeListing.{cause_whole}

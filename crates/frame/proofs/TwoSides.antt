@@ -2,9 +2,9 @@
 -- and head records are in the station crate's proofs/Examples.antt, sound tables, plans and calls in the placing crate's.)
 --
 -- In order: texts: lines after an event, the limits of a clock and of a call at both edges, the causes of a head and of an event two at a time, the order of
--- loss (`texts-list`); events on a lent table, by the listed order 8, 2, 11, 1, 3, 2, 4, 9, 6, 7 (`events-answered`), and with preset records
--- (`records-answered`); the order of ties that is lent, met and left (`orders-met`, `orders-left`); what a list handed over may start from (`starts-pass`); the moments of a list
--- (`between_ends`); the planner before there were ties and a supply (`before-listed`, `five-met`, `asked-met`), and when a call could use the clock's own slot (`own-slot-listed`, `no-clock-met`, `higher-met`), and document 01's own (`document-listed`); a text beside short lent things (`texts-end`), and a text of events (`events-end`); the entries that write lines (`lines-answered`).
+-- loss (`texts_list`); events on a lent table, by the listed order 8, 2, 11, 1, 3, 2, 4, 9, 6, 7 (`events_answered`), and with preset records
+-- (`records_answered`); the order of ties that is lent, met and left (`orders_met`, `orders_left`); what a list handed over may start from (`starts_pass`); the moments of a list
+-- (`between_ends`); the planner before there were ties and a supply (`before_listed`, `five_met`, `asked_met`), and when a call could use the clock's own slot (`own_slot_listed`, `no_clock_met`, `higher_met`), and document 01's own (`document_listed`); a text beside short lent things (`texts_end`), and a text of events (`events_end`); the entries that write lines (`lines_answered`).
 -- Assumes nothing.
 use Prim.Native.Nat.{ℕ, zero, suc, ◌≤◌}
 use mathlib.Core.Path.{◌≡◌, refl, sym, ap}
@@ -13,34 +13,34 @@ use mathlib.Core.Option.{Option, none, some}
 use mathlib.Core.List.{List, [], ◌∷◌, ◌++◌, map}
 use native.Mathlib.Omega.{arith}
 use lib.ListN.{length, take, replicate}
-use Rattle.laws.proofs.Tests.{none-some}
-use Rattle.station.specs.Head.{Head, Job, withSupply}
-use Rattle.station.specs.Refusal.{number_of, noForm, outOfLimits, outOfPlace, numberUsed, clockBack, callNotFeasible, tooShort, tooMany, textTooLong, notWellFormed}
-use Rattle.station.specs.Form.{Form, clockLine, form}
+use Rattle.laws.proofs.Tests.{none_some}
+use Rattle.station.specs.Head.{Head, Job, with_supply}
+use Rattle.station.specs.Refusal.{number_of, no_form, out_of_limits, out_of_place, number_used, clock_back, call_not_feasible, too_short, too_many, text_too_long, not_well_formed}
+use Rattle.station.specs.Form.{Form, clock_line, form}
 use Rattle.station.specs.Text.{bytes, lines}
 use Rattle.station.specs.Wrote.{moved}
 use Rattle.station.specs.WriteHead as write
 use Rattle.station.specs.declared.types.Head as record-of-head
-use Rattle.placing.specs.Table.{callCell}
-use Rattle.placing.proofs.Examples.{jobCells, recordsTo}
-use Rattle.frame.specs.Event.{Event, line, clock, call, Asked, setClock, setTie, placeJobs, fault, askedByForm, asked, Answer, clockNow, tieNow, taken, refused, eventOf}
+use Rattle.placing.specs.Table.{call_cell}
+use Rattle.placing.proofs.Examples.{job_cells, records_to}
+use Rattle.frame.specs.Event.{Event, line, clock, call, Asked, set_clock, set_tie, place_jobs, fault, asked_by_form, asked, Answer, clock_now, tie_now, taken, refused, event_of}
 use Rattle.placing.specs.State.{State, state_of}
-use Rattle.frame.specs.EventDone.{eventMeant}
-use Rattle.frame.specs.EventEntry.{eventOnSlice}
+use Rattle.frame.specs.EventDone.{event_meant}
+use Rattle.frame.specs.EventEntry.{event_on_slice}
 use Rattle.frame.specs.HandedOver.{LetPass}
-use Rattle.frame.specs.Demands.{eventAt, Between}
-use Rattle.frame.specs.Text.{notRead, whole_of}
-use Rattle.frame.specs.TextDone.{wholeWithOutput, listed, refusedAt, holdAfter}
-use Rattle.frame.specs.TextEntry.{wholeOnSlice}
-use Rattle.frame.specs.EventsDone.{EventsOutcome, eventsMeant}
-use Rattle.frame.specs.Listing.{listingOf}
-use Rattle.placing.specs.Uncapped.{Uncapped, needsUncapped, grantsUncapped, evictedUncapped, fitsUncapped}
-use Rattle.frame.specs.Before.{readBefore, headBefore, servedBefore, leftBefore, planBefore, carriedBefore, eventBefore, wholeBefore, FiveForms, FiveAsked}
-use Rattle.frame.specs.OwnSlot.{lastGone, today, documentOne, wholeDocumentOne, ownSlotCauses, carriedOwnSlot, eventOwnSlot, wholeOwnSlot, higherAsked, OneHigher, NoClockLine}
-use Rattle.frame.specs.Uncapped.{run_by, withPlanBy, withHeadBy, wholeBy, ownUncapped}
+use Rattle.frame.specs.Demands.{event_at, Between}
+use Rattle.frame.specs.Text.{not_read, whole_of}
+use Rattle.frame.specs.TextDone.{whole_with_output, listed, refused_at, hold_after}
+use Rattle.frame.specs.TextEntry.{whole_on_slice}
+use Rattle.frame.specs.EventsDone.{EventsOutcome, events_meant}
+use Rattle.frame.specs.Listing.{listing_of}
+use Rattle.placing.specs.Uncapped.{Uncapped, needs_uncapped, grants_uncapped, evicted_uncapped, fits_uncapped}
+use Rattle.frame.specs.Before.{read_before, head_before, served_before, left_before, plan_before, carried_before, event_before, whole_before, FiveForms, FiveAsked}
+use Rattle.frame.specs.OwnSlot.{last_gone, today, document_one, whole_document_one, own_slot_causes, carried_own_slot, event_own_slot, whole_own_slot, higher_asked, OneHigher, NoClockLine}
+use Rattle.frame.specs.Uncapped.{run_by, with_plan_by, with_head_by, whole_by, own_uncapped}
 use Rattle.frame.specs.declared.types.Answer.TheVariants as reply
-use Rattle.frame.specs.WriteListing.{listingCause, listingMeant}
-use Rattle.frame.specs.WroteLine.{lineWritten, answerWritten, grantWritten, slotWritten}
+use Rattle.frame.specs.WriteListing.{listing_cause, listing_meant}
+use Rattle.frame.specs.WroteLine.{line_written, answer_written, grant_written, slot_written}
 use Rattle.frame.proofs.Starred.{Case, shows, blank, lists}
 use Rattle.placing.specs.Outcomes.{cost}
 
@@ -75,9 +75,9 @@ texts =
     "(granted 1 2)\n(granted 2 1)\n(taken 1)\n(slot 1 o1 c5)\n(slot 2 o1 -)\n"
     ∷ []
 
-pub texts-list : map (λ c. listingOf (whole_of (bytes c.text) blank)) texts ≡ map (λ c. c.listing) texts
+pub texts_list : map (λ c. listing_of (whole_of (bytes c.text) blank)) texts ≡ map (λ c. c.listing) texts
 unfolding lists
-texts-list = refl
+texts_list = refl
 
 -- ---- events on a lent table
 
@@ -103,60 +103,60 @@ job n c = record { number = n; slots = c }
 abbrev events : List EventCase
 events =
     -- 8: "lent table below 512 cells", before the head record's 2, before 11, before the line's 1 and 3
-    answers (clockNow 1) (bare 1 1) (lent []) 0 (line (bytes "(clock 1)\n"))
-    ∷ answers (refused 0 tooShort) (bare 1 1) (replicate 511 0) 1 (line (bytes "(clock 1)\n"))
-    ∷ answers (refused 0 tooShort) (bare 0 1) (replicate 511 0) 1 (line (bytes "(clock 1)\n"))
-    ∷ answers (refused 0 tooShort) (bare 1 1) (replicate 511 7) 1 (line (bytes "(clock 1)\n"))
-    ∷ answers (refused 0 tooShort) (bare 1 1) (replicate 511 0) 1 (line [])
+    answers (clock_now 1) (bare 1 1) (lent []) 0 (line (bytes "(clock 1)\n"))
+    ∷ answers (refused 0 too_short) (bare 1 1) (replicate 511 0) 1 (line (bytes "(clock 1)\n"))
+    ∷ answers (refused 0 too_short) (bare 0 1) (replicate 511 0) 1 (line (bytes "(clock 1)\n"))
+    ∷ answers (refused 0 too_short) (bare 1 1) (replicate 511 7) 1 (line (bytes "(clock 1)\n"))
+    ∷ answers (refused 0 too_short) (bare 1 1) (replicate 511 0) 1 (line [])
     -- the head record's 2, before 11, before the line's 1 and 3
-    ∷ answers (refused 0 outOfLimits) (bare 1 9) (lent (7 ∷ [])) 3 (line (bytes "(clock 1)\n"))
-    ∷ answers (refused 0 outOfLimits) (bare 65 1) (lent []) 1 (line [])
-    ∷ answers (refused 0 outOfLimits) (bare 1 0) (lent []) 1 (line (bytes "(frame 1 1)\n"))
+    ∷ answers (refused 0 out_of_limits) (bare 1 9) (lent (7 ∷ [])) 3 (line (bytes "(clock 1)\n"))
+    ∷ answers (refused 0 out_of_limits) (bare 65 1) (lent []) 1 (line [])
+    ∷ answers (refused 0 out_of_limits) (bare 1 0) (lent []) 1 (line (bytes "(frame 1 1)\n"))
     -- 11: "a table that is not sound, or a clock outside" 0 to S + 1, before 1, 3, 2, 4, 6 and 7
-    ∷ answers (refused 0 notWellFormed) (bare 1 1) (lent (7 ∷ [])) 1 (line [])
-    ∷ answers (refused 0 notWellFormed) (bare 1 1) (lent []) 3 (line (bytes "(frame 1 1)\n"))
-    ∷ answers (refused 0 notWellFormed) (bare 1 1) (lent []) 3 (clock 3)
-    ∷ answers (refused 0 notWellFormed) (bare 1 1) (lent []) 3 (clock 1)
-    ∷ answers (refused 0 notWellFormed) (bare 1 1) (lent (7 ∷ [])) 1 (call [])
-    ∷ answers (refused 0 notWellFormed) (bare 1 1) (lent (7 ∷ [])) 1 (call (job 5 1 ∷ job 5 1 ∷ []))
-    ∷ answers (refused 0 notWellFormed) (bare 1 1) (lent []) 3 (call (job 5 1 ∷ []))
-    ∷ answers (refused 0 notWellFormed) (bare 13 5) (lent (jobCells 65 0)) 1 (clock 1)
+    ∷ answers (refused 0 not_well_formed) (bare 1 1) (lent (7 ∷ [])) 1 (line [])
+    ∷ answers (refused 0 not_well_formed) (bare 1 1) (lent []) 3 (line (bytes "(frame 1 1)\n"))
+    ∷ answers (refused 0 not_well_formed) (bare 1 1) (lent []) 3 (clock 3)
+    ∷ answers (refused 0 not_well_formed) (bare 1 1) (lent []) 3 (clock 1)
+    ∷ answers (refused 0 not_well_formed) (bare 1 1) (lent (7 ∷ [])) 1 (call [])
+    ∷ answers (refused 0 not_well_formed) (bare 1 1) (lent (7 ∷ [])) 1 (call (job 5 1 ∷ job 5 1 ∷ []))
+    ∷ answers (refused 0 not_well_formed) (bare 1 1) (lent []) 3 (call (job 5 1 ∷ []))
+    ∷ answers (refused 0 not_well_formed) (bare 13 5) (lent (job_cells 65 0)) 1 (clock 1)
     -- the clock's limits, and those of the lent one; 0 is below 1 (6), and no longer outside
-    ∷ answers (clockNow 0) (bare 1 1) (lent []) 0 (clock 0)
-    ∷ answers (clockNow 2) (bare 1 1) (lent []) 2 (clock 2)
-    ∷ answers (refused 0 outOfLimits) (bare 1 1) (lent []) 2 (clock 3)
-    ∷ answers (refused 0 outOfLimits) (bare 1 1) (lent []) 0 (clock 3)
-    ∷ answers (refused 0 clockBack) (bare 1 1) (lent []) 2 (clock 1)
-    ∷ answers (refused 0 clockBack) (bare 1 1) (lent []) 1 (clock 0)
+    ∷ answers (clock_now 0) (bare 1 1) (lent []) 0 (clock 0)
+    ∷ answers (clock_now 2) (bare 1 1) (lent []) 2 (clock 2)
+    ∷ answers (refused 0 out_of_limits) (bare 1 1) (lent []) 2 (clock 3)
+    ∷ answers (refused 0 out_of_limits) (bare 1 1) (lent []) 0 (clock 3)
+    ∷ answers (refused 0 clock_back) (bare 1 1) (lent []) 2 (clock 1)
+    ∷ answers (refused 0 clock_back) (bare 1 1) (lent []) 1 (clock 0)
     -- a tie meets no cause of its own, at any clock; 8, 2 and 11 come before it
-    ∷ answers (tieNow true) (bare 1 1) (lent []) 1 (line (bytes "(tie hold)\n"))
-    ∷ answers (tieNow false) (bare 1 1) (lent []) 2 (line (bytes "(tie place)\n"))
-    ∷ answers (refused 0 tooShort) (bare 1 1) (replicate 511 0) 1 (line (bytes "(tie hold)\n"))
-    ∷ answers (refused 0 outOfLimits) (bare 1 9) (lent []) 1 (line (bytes "(tie hold)\n"))
-    ∷ answers (refused 0 notWellFormed) (bare 1 1) (lent []) 3 (line (bytes "(tie place)\n"))
-    ∷ answers (refused 0 noForm) (bare 1 1) (lent []) 1 (line (bytes "(tie hold)"))
+    ∷ answers (tie_now true) (bare 1 1) (lent []) 1 (line (bytes "(tie hold)\n"))
+    ∷ answers (tie_now false) (bare 1 1) (lent []) 2 (line (bytes "(tie place)\n"))
+    ∷ answers (refused 0 too_short) (bare 1 1) (replicate 511 0) 1 (line (bytes "(tie hold)\n"))
+    ∷ answers (refused 0 out_of_limits) (bare 1 9) (lent []) 1 (line (bytes "(tie hold)\n"))
+    ∷ answers (refused 0 not_well_formed) (bare 1 1) (lent []) 3 (line (bytes "(tie place)\n"))
+    ∷ answers (refused 0 no_form) (bare 1 1) (lent []) 1 (line (bytes "(tie hold)"))
     -- a supply line is no event, whatever its k; a supply that no text yields is 2, before 11; a table above the cap is 11, at the cap it passes
-    ∷ answers (refused 0 outOfPlace) (bare 1 1) (lent []) 1 (line (bytes "(supply 1)\n"))
-    ∷ answers (refused 0 outOfPlace) (bare 1 1) (lent []) 1 (line (bytes "(supply 99)\n"))
-    ∷ answers (refused 0 noForm) (bare 1 1) (lent []) 1 (line (bytes "(supply)\n"))
-    ∷ answers (refused 0 outOfLimits) (withSupply (bare 1 1) 9) (lent (7 ∷ [])) 1 (clock 1)
-    ∷ answers (refused 0 notWellFormed) (withSupply (bare 1 2) 1) (lent (callCell 7 ∷ callCell 8 ∷ [])) 2 (clock 2)
-    ∷ answers (clockNow 2) (withSupply (bare 1 2) 2) (lent (callCell 7 ∷ callCell 8 ∷ [])) 2 (clock 2)
+    ∷ answers (refused 0 out_of_place) (bare 1 1) (lent []) 1 (line (bytes "(supply 1)\n"))
+    ∷ answers (refused 0 out_of_place) (bare 1 1) (lent []) 1 (line (bytes "(supply 99)\n"))
+    ∷ answers (refused 0 no_form) (bare 1 1) (lent []) 1 (line (bytes "(supply)\n"))
+    ∷ answers (refused 0 out_of_limits) (with_supply (bare 1 1) 9) (lent (7 ∷ [])) 1 (clock 1)
+    ∷ answers (refused 0 not_well_formed) (with_supply (bare 1 2) 1) (lent (call_cell 7 ∷ call_cell 8 ∷ [])) 2 (clock 2)
+    ∷ answers (clock_now 2) (with_supply (bare 1 2) 2) (lent (call_cell 7 ∷ call_cell 8 ∷ [])) 2 (clock 2)
     -- "no job outside a text"; 2 before 4, 4 before 9, 9 before 7
-    ∷ answers (refused 0 outOfLimits) (bare 1 1) (lent []) 1 (call [])
-    ∷ answers (refused 0 outOfLimits) (bare 1 1) (lent []) 1 (call (job 5 1 ∷ job 5 65 ∷ []))
-    ∷ answers (refused 0 numberUsed) (bare 8 8) (lent (jobCells 64 0)) 1 (call (job 64 1 ∷ []))
-    ∷ answers (refused 0 tooMany) (bare 8 8) (lent (jobCells 64 0)) 1 (line (bytes "(call (65 1))\n"))
-    ∷ answers (taken (cost 0)) (bare 8 8) (lent (jobCells 63 0)) 1 (line (bytes "(call (64 1))\n"))
+    ∷ answers (refused 0 out_of_limits) (bare 1 1) (lent []) 1 (call [])
+    ∷ answers (refused 0 out_of_limits) (bare 1 1) (lent []) 1 (call (job 5 1 ∷ job 5 65 ∷ []))
+    ∷ answers (refused 0 number_used) (bare 8 8) (lent (job_cells 64 0)) 1 (call (job 64 1 ∷ []))
+    ∷ answers (refused 0 too_many) (bare 8 8) (lent (job_cells 64 0)) 1 (line (bytes "(call (65 1))\n"))
+    ∷ answers (taken (cost 0)) (bare 8 8) (lent (job_cells 63 0)) 1 (line (bytes "(call (64 1))\n"))
     -- a slot above the clock, or none
     ∷ answers (taken (cost 0)) (bare 1 1) (lent []) 0 (call (job 5 1 ∷ []))
-    ∷ answers (refused 0 callNotFeasible) (bare 1 1) (lent []) 1 (call (job 5 1 ∷ []))
-    ∷ answers (refused 0 callNotFeasible) (bare 1 1) (lent []) 2 (call (job 5 1 ∷ []))
+    ∷ answers (refused 0 call_not_feasible) (bare 1 1) (lent []) 1 (call (job 5 1 ∷ []))
+    ∷ answers (refused 0 call_not_feasible) (bare 1 1) (lent []) 2 (call (job 5 1 ∷ []))
     ∷ []
 
-pub events-answered : map (λ c. (eventOf c.head c.state c.event).answer) events ≡ map (λ c. c.said) events
-unfolding lists jobCells
-events-answered = refl
+pub events_answered : map (λ c. (event_of c.head c.state c.event).answer) events ≡ map (λ c. c.said) events
+unfolding lists job_cells
+events_answered = refl
 
 -- ---- the same with preset records: a record that counts 33 presets is 2, a list of 31 records is 8
 
@@ -164,54 +164,54 @@ events-answered = refl
 abbrev counting : ℕ → record-of-head.Head
 counting n = record { slots = 1; bridges = 1; supply = 0; hold = false; busy = replicate 8 0; count = n }
 
-abbrev clockOne : Event
-clockOne = line (bytes "(clock 1)\n")
+abbrev clock_one : Event
+clock_one = line (bytes "(clock 1)\n")
 
-pub records-answered : ((eventMeant (counting 32) (recordsTo 32) (state_of (lent []) 1 false) clockOne).answer ≡ clockNow 1)
-    × ((eventMeant (counting 33) (recordsTo 33) (state_of (lent (7 ∷ [])) 3 false) (line [])).answer ≡ refused 0 outOfLimits)
-    × ((eventMeant (counting 33) (recordsTo 33) (state_of (replicate 511 0) 1 false) clockOne).answer ≡ refused 0 tooShort)
-    × ((eventOnSlice 32 (counting 0) [] (state_of (lent []) 1 false) clockOne).answer ≡ clockNow 1)
-    × ((eventOnSlice 31 (counting 0) [] (state_of (lent []) 1 false) clockOne).answer ≡ refused 0 tooShort)
-    × ((eventOnSlice 31 (counting 33) [] (state_of (lent (7 ∷ [])) 3 false) (line [])).answer ≡ refused 0 tooShort)
-unfolding lists eventMeant eventOnSlice recordsTo
-records-answered = (refl, refl, refl, refl, refl, refl)
+pub records_answered : ((event_meant (counting 32) (records_to 32) (state_of (lent []) 1 false) clock_one).answer ≡ clock_now 1)
+    × ((event_meant (counting 33) (records_to 33) (state_of (lent (7 ∷ [])) 3 false) (line [])).answer ≡ refused 0 out_of_limits)
+    × ((event_meant (counting 33) (records_to 33) (state_of (replicate 511 0) 1 false) clock_one).answer ≡ refused 0 too_short)
+    × ((event_on_slice 32 (counting 0) [] (state_of (lent []) 1 false) clock_one).answer ≡ clock_now 1)
+    × ((event_on_slice 31 (counting 0) [] (state_of (lent []) 1 false) clock_one).answer ≡ refused 0 too_short)
+    × ((event_on_slice 31 (counting 33) [] (state_of (lent (7 ∷ [])) 3 false) (line [])).answer ≡ refused 0 too_short)
+unfolding lists event_meant event_on_slice records_to
+records_answered = (refl, refl, refl, refl, refl, refl)
 
 -- ---- the order of ties that is lent
 
 -- It is in force, and a tie event's from then on; a refused line leaves it.
-abbrev twoJobs : Event
-twoJobs = call (job 1 1 ∷ job 2 2 ∷ [])
+abbrev two_jobs : Event
+two_jobs = call (job 1 1 ∷ job 2 2 ∷ [])
 
-abbrev leftBy : Bool → List ℕ → EventsOutcome
-leftBy hold text = eventsMeant 32 (counting 0) [] (state_of (lent []) 0 hold) text (replicate 8192 0)
+abbrev left_by : Bool → List ℕ → EventsOutcome
+left_by hold text = events_meant 32 (counting 0) [] (state_of (lent []) 0 hold) text (replicate 8192 0)
 
-pub orders-met : (take 3 (eventOf (bare 3 1) (state_of (lent []) 0 true) twoJobs).after.table ≡ callCell 2 ∷ callCell 2 ∷ callCell 1 ∷ [])
-    × (take 3 (eventOf (bare 3 1) (state_of (lent []) 0 false) twoJobs).after.table ≡ callCell 2 ∷ callCell 1 ∷ callCell 2 ∷ [])
-    × ((leftBy true (bytes "(clock 1)\n(tie Place)\n")).after.hold ≡ true)
-    × ((leftBy true (bytes "(tie place)\n(clock 1)\n")).after.hold ≡ false)
-    × ((leftBy false (bytes "(tie hold)\n(clock 9)\n")).after.hold ≡ true)
-unfolding lists eventsMeant moved
-orders-met = (refl, refl, refl, refl, refl)
+pub orders_met : (take 3 (event_of (bare 3 1) (state_of (lent []) 0 true) two_jobs).after.table ≡ call_cell 2 ∷ call_cell 2 ∷ call_cell 1 ∷ [])
+    × (take 3 (event_of (bare 3 1) (state_of (lent []) 0 false) two_jobs).after.table ≡ call_cell 2 ∷ call_cell 1 ∷ call_cell 2 ∷ [])
+    × ((left_by true (bytes "(clock 1)\n(tie Place)\n")).after.hold ≡ true)
+    × ((left_by true (bytes "(tie place)\n(clock 1)\n")).after.hold ≡ false)
+    × ((left_by false (bytes "(tie hold)\n(clock 9)\n")).after.hold ≡ true)
+unfolding lists events_meant moved
+orders_met = (refl, refl, refl, refl, refl)
 
 -- What is refused before it is run leaves the order in force: a head that is not read, required slots that do not fit whatever the head says, and 8.
-pub orders-left : (holdAfter (whole_of (bytes "(frame 1 1)\n(tie place)\n") (lent [])) true ≡ true)
-    × (holdAfter (whole_of (bytes "(frame 1 1)\n(tie hold)\n(preset 1 0 2 0)\n") (lent [])) false ≡ false)
-    × (holdAfter (whole_of (bytes "(frame 1 1)\n(preset 1 0 2 0)\n") (lent [])) true ≡ true)
-    × ((eventsMeant 31 (counting 0) [] (state_of (lent []) 1 true) (bytes "(tie place)\n") (replicate 8192 0)).after.hold ≡ true)
-    × ((eventOnSlice 31 (counting 0) [] (state_of (lent []) 1 true) (line (bytes "(tie place)\n"))).after.hold ≡ true)
-    × ((eventMeant (counting 33) (recordsTo 33) (state_of (lent []) 1 true) (line (bytes "(tie place)\n"))).after.hold ≡ true)
-unfolding lists holdAfter eventsMeant eventMeant eventOnSlice recordsTo moved
-orders-left = (refl, refl, refl, refl, refl, refl)
+pub orders_left : (hold_after (whole_of (bytes "(frame 1 1)\n(tie place)\n") (lent [])) true ≡ true)
+    × (hold_after (whole_of (bytes "(frame 1 1)\n(tie hold)\n(preset 1 0 2 0)\n") (lent [])) false ≡ false)
+    × (hold_after (whole_of (bytes "(frame 1 1)\n(preset 1 0 2 0)\n") (lent [])) true ≡ true)
+    × ((events_meant 31 (counting 0) [] (state_of (lent []) 1 true) (bytes "(tie place)\n") (replicate 8192 0)).after.hold ≡ true)
+    × ((event_on_slice 31 (counting 0) [] (state_of (lent []) 1 true) (line (bytes "(tie place)\n"))).after.hold ≡ true)
+    × ((event_meant (counting 33) (records_to 33) (state_of (lent []) 1 true) (line (bytes "(tie place)\n"))).after.hold ≡ true)
+unfolding lists hold_after events_meant event_meant event_on_slice records_to moved
+orders_left = (refl, refl, refl, refl, refl, refl)
 
 -- ---- a list handed over
 
 -- It may start from 32 records, and from the first clock, 0, to the last; not from 31, nor past that clock.
-pub starts-pass : LetPass (counting 0) (recordsTo 32) (state_of (lent []) 0 false)
-    × LetPass (counting 32) (recordsTo 32) (state_of (lent []) 2 false)
-    × (LetPass (counting 0) (recordsTo 31) (state_of (lent []) 1 false) → some tooShort ≡ none)
-    × (LetPass (counting 0) (recordsTo 32) (state_of (lent []) 3 false) → some notWellFormed ≡ none)
-unfolding lists recordsTo
-starts-pass = (refl, refl, λ p. p, λ p. p)
+pub starts_pass : LetPass (counting 0) (records_to 32) (state_of (lent []) 0 false)
+    × LetPass (counting 32) (records_to 32) (state_of (lent []) 2 false)
+    × (LetPass (counting 0) (records_to 31) (state_of (lent []) 1 false) → some too_short ≡ none)
+    × (LetPass (counting 0) (records_to 32) (state_of (lent []) 3 false) → some not_well_formed ≡ none)
+unfolding lists records_to
+starts_pass = (refl, refl, λ p. p, λ p. p)
 
 -- Of any two moments of a list the one may be its start and the other its end.
 pub between_ends : (es : List Event) (P : ℕ → ℕ → Type 0) → Between es P → P 0 (length es)
@@ -221,45 +221,45 @@ between_ends es P all = all 0 (length es) (omega arith) (omega arith)
 
 -- As document 01 has it: a tie line and a supply line are none of the five forms, in a head and after one; of equal ones the earlier line goes first, in a plan and in a call; every free bridge
 -- is used.
-pub before-listed : (listingOf (wholeBefore (bytes "(frame 1 1)\n(tie hold)\n") blank) ≡ bytes "(refused 2 1)\n")
-    × (listingOf (wholeBefore (bytes "(frame 1 1)\n(clock 1)\n(tie hold)\n") blank) ≡ bytes "(now 1)\n(refused 3 1)\n(slot 1 0)\n")
-    × (listingOf (wholeBefore (bytes "(frame 1 1)\n(supply 1)\n") blank) ≡ bytes "(refused 2 1)\n")
-    × (listingOf (wholeBefore (bytes "(frame 1 1)\n(clock 1)\n(supply 1)\n") blank) ≡ bytes "(now 1)\n(refused 3 1)\n(slot 1 0)\n")
-    × (listingOf (wholeBefore (bytes "(frame 1 3)\n(preset 1 0 0 1)\n(preset 2 0 0 1)\n(call (5 1) (6 1))\n(call (7 2))\n") blank)
+pub before_listed : (listing_of (whole_before (bytes "(frame 1 1)\n(tie hold)\n") blank) ≡ bytes "(refused 2 1)\n")
+    × (listing_of (whole_before (bytes "(frame 1 1)\n(clock 1)\n(tie hold)\n") blank) ≡ bytes "(now 1)\n(refused 3 1)\n(slot 1 0)\n")
+    × (listing_of (whole_before (bytes "(frame 1 1)\n(supply 1)\n") blank) ≡ bytes "(refused 2 1)\n")
+    × (listing_of (whole_before (bytes "(frame 1 1)\n(clock 1)\n(supply 1)\n") blank) ≡ bytes "(now 1)\n(refused 3 1)\n(slot 1 0)\n")
+    × (listing_of (whole_before (bytes "(frame 1 3)\n(preset 1 0 0 1)\n(preset 2 0 0 1)\n(call (5 1) (6 1))\n(call (7 2))\n") blank)
     ≡ bytes "(granted 1 1)\n(granted 2 1)\n(taken 1)\n(refused 5 7)\n(slot 1 o1 c5 c6)\n")
-    × (listingOf (wholeBefore (bytes "(frame 6 1)\n(preset 1 0 1 0)\n(preset 2 0 2 0)\n(call (5 1) (6 2))\n") blank)
+    × (listing_of (whole_before (bytes "(frame 6 1)\n(preset 1 0 1 0)\n(preset 2 0 2 0)\n(call (5 1) (6 2))\n") blank)
     ≡ bytes "(granted 1 0)\n(granted 2 0)\n(taken 0)\n(slot 1 m2)\n(slot 2 m1)\n(slot 3 m2)\n(slot 4 c6)\n(slot 5 c5)\n(slot 6 c6)\n")
 unfolding
-    lists readBefore headBefore servedBefore leftBefore needsUncapped grantsUncapped evictedUncapped fitsUncapped planBefore ownUncapped carriedBefore eventBefore run_by withPlanBy
-    withHeadBy wholeBy
-before-listed = (refl, refl, refl, refl, refl, refl)
+    lists read_before head_before served_before left_before needs_uncapped grants_uncapped evicted_uncapped fits_uncapped plan_before own_uncapped carried_before event_before run_by with_plan_by
+    with_head_by whole_by
+before_listed = (refl, refl, refl, refl, refl, refl)
 
--- What `place-as-before` asks of a text can be met, and a text with a tie line or a supply line does not meet it.
-pub five-met : FiveForms (lines (bytes "(frame 1 1)\n(clock 1)\n"))
+-- What `place_as_before` asks of a text can be met, and a text with a tie line or a supply line does not meet it.
+pub five_met : FiveForms (lines (bytes "(frame 1 1)\n(clock 1)\n"))
     × (FiveForms (lines (bytes "(frame 1 1)\n(tie hold)\n")) → ⊥)
     × (FiveForms (lines (bytes "(frame 1 1)\n(supply 8)\n")) → ⊥)
 unfolding lists
-five-met = (met, λ p. none-some (sym (p 1)), λ p. none-some (sym (p 1)))
+five_met = (met, λ p. none_some (sym (p 1)), λ p. none_some (sym (p 1)))
   where
     met : FiveForms (lines (bytes "(frame 1 1)\n(clock 1)\n"))
     met zero = refl
     met (suc zero) = refl
     met (suc (suc j)) = refl
 
--- So it is with what `run-as-before` asks of events and of a head: a tie line and a supply line ask for something else, and a supply below the bridges is a cap, one for each bridge is none.
+-- So it is with what `run_as_before` asks of events and of a head: a tie line and a supply line ask for something else, and a supply below the bridges is a cap, one for each bridge is none.
 abbrev cause : Asked → ℕ
-cause (setClock t) = 0
-cause (setTie hold) = 0
-cause (placeJobs jobs) = 0
+cause (set_clock t) = 0
+cause (set_tie hold) = 0
+cause (place_jobs jobs) = 0
 cause (fault r) = number_of r
 
-pub asked-met : FiveAsked (line (bytes "(clock 1)\n") ∷ clock 2 ∷ [])
+pub asked_met : FiveAsked (line (bytes "(clock 1)\n") ∷ clock 2 ∷ [])
     × (FiveAsked (line (bytes "(tie place)\n") ∷ []) → ⊥)
     × (FiveAsked (line (bytes "(supply 8)\n") ∷ []) → ⊥)
-    × Uncapped (withSupply (bare 1 2) 2)
-    × (Uncapped (withSupply (bare 1 2) 1) → ⊥)
+    × Uncapped (with_supply (bare 1 2) 2)
+    × (Uncapped (with_supply (bare 1 2) 1) → ⊥)
 unfolding lists
-asked-met = (met, λ p. let e : ◌≡◌ {A = ℕ} 0 1 = ap cause (p 0) in omega arith, λ p. let e : ◌≡◌ {A = ℕ} 3 1 = ap cause (p 0) in omega arith, omega arith, λ p. let l : 2 ≤ 1 = p in omega arith)
+asked_met = (met, λ p. let e : ◌≡◌ {A = ℕ} 0 1 = ap cause (p 0) in omega arith, λ p. let e : ◌≡◌ {A = ℕ} 3 1 = ap cause (p 0) in omega arith, omega arith, λ p. let l : 2 ≤ 1 = p in omega arith)
   where
     met : FiveAsked (line (bytes "(clock 1)\n") ∷ clock 2 ∷ [])
     met zero = refl
@@ -269,122 +269,122 @@ asked-met = (met, λ p. let e : ◌≡◌ {A = ℕ} 0 1 = ap cause (p 0) in omeg
 -- ---- the planner when a call could use the clock's own slot
 
 -- Document 01's listing with its clock line at 4: "jobs 10 and 11 found a place before". The clock started at 1 and ended at S + 1, 0 was 2 (before 6), and a call at clock 1 had all slots.
-pub own-slot-listed : (listingOf (wholeOwnSlot (bytes "(frame 4 2)\n(busy 2 (2 3))\n(preset 1 0 2 1)\n(preset 2 1 1 2)\n(clock 4)\n(call (9 2))\n(call (10 1))\n(call (11 1))\n") blank)
+pub own_slot_listed : (listing_of (whole_own_slot (bytes "(frame 4 2)\n(busy 2 (2 3))\n(preset 1 0 2 1)\n(preset 2 1 1 2)\n(clock 4)\n(call (9 2))\n(call (10 1))\n(call (11 1))\n") blank)
     ≡ bytes "(granted 1 1)\n(granted 2 2)\n(now 4)\n(refused 6 7)\n(taken 1)\n(taken 1)\n(slot 1 m1 m2)\n(slot 2 m1 -)\n(slot 3 o2 -)\n(slot 4 c11 c10)\n")
-    × (listingOf (wholeOwnSlot (bytes "(frame 2 1)\n(clock 0)\n(clock 1)\n(call (1 2))\n(clock 3)\n(clock 4)\n(clock 2)\n(clock 0)\n") blank)
+    × (listing_of (whole_own_slot (bytes "(frame 2 1)\n(clock 0)\n(clock 1)\n(call (1 2))\n(clock 3)\n(clock 4)\n(clock 2)\n(clock 0)\n") blank)
     ≡ bytes "(refused 2 2)\n(now 1)\n(taken 0)\n(now 3)\n(refused 6 2)\n(refused 7 6)\n(refused 8 2)\n(slot 1 c1)\n(slot 2 c1)\n")
-    × (listingOf (wholeOwnSlot (bytes "(frame 2 2)\n(busy 2 (2 2))\n(preset 1 0 0 2)\n(clock 1)\n(call (9 1))\n") blank) ≡ bytes "(granted 1 2)\n(now 1)\n(taken 0)\n(slot 1 o1 c9)\n(slot 2 o1 -)\n")
-    × ((eventOwnSlot today (bare 1 1) (state_of (lent []) 0 false) (clock 1)).answer ≡ refused 0 notWellFormed)
-    × ((eventOwnSlot today (bare 1 1) (state_of (lent []) 3 false) (clock 1)).answer ≡ refused 0 notWellFormed)
-unfolding lists lastGone ownSlotCauses carriedOwnSlot eventOwnSlot run_by withPlanBy withHeadBy wholeBy
-own-slot-listed = (refl, refl, refl, refl, refl)
+    × (listing_of (whole_own_slot (bytes "(frame 2 2)\n(busy 2 (2 2))\n(preset 1 0 0 2)\n(clock 1)\n(call (9 1))\n") blank) ≡ bytes "(granted 1 2)\n(now 1)\n(taken 0)\n(slot 1 o1 c9)\n(slot 2 o1 -)\n")
+    × ((event_own_slot today (bare 1 1) (state_of (lent []) 0 false) (clock 1)).answer ≡ refused 0 not_well_formed)
+    × ((event_own_slot today (bare 1 1) (state_of (lent []) 3 false) (clock 1)).answer ≡ refused 0 not_well_formed)
+unfolding lists last_gone own_slot_causes carried_own_slot event_own_slot run_by with_plan_by with_head_by whole_by
+own_slot_listed = (refl, refl, refl, refl, refl)
 
 -- Document 01, "One listing, whole": its planner, without ties, a supply and the clock of 2026-05, lists just that; a tie line and a supply line were 1, two cells of a slot no fault of soundness whatever the supply.
-pub document-listed : (listingOf (wholeDocumentOne (bytes "(frame 4 2)\n(busy 2 (2 3))\n(preset 1 0 2 1)\n(preset 2 1 1 2)\n(clock 2)\n(call (9 2))\n(call (10 1))\n(call (11 1))\n") blank)
+pub document_listed : (listing_of (whole_document_one (bytes "(frame 4 2)\n(busy 2 (2 3))\n(preset 1 0 2 1)\n(preset 2 1 1 2)\n(clock 2)\n(call (9 2))\n(call (10 1))\n(call (11 1))\n") blank)
     ≡ bytes "(granted 1 1)\n(granted 2 2)\n(now 2)\n(taken 2)\n(taken 1)\n(refused 8 7)\n(slot 1 m1 m2)\n(slot 2 m1 -)\n(slot 3 c9 -)\n(slot 4 c10 c9)\n")
-    × (listingOf (wholeDocumentOne (bytes "(frame 2 1)\n(clock 0)\n(call (5 1) (6 1))\n(clock 2)\n(tie hold)\n(supply 1)\n(call (7 1))\n(clock 3)\n(clock 4)\n(clock 1)\n") blank)
+    × (listing_of (whole_document_one (bytes "(frame 2 1)\n(clock 0)\n(call (5 1) (6 1))\n(clock 2)\n(tie hold)\n(supply 1)\n(call (7 1))\n(clock 3)\n(clock 4)\n(clock 1)\n") blank)
     ≡ bytes "(refused 2 2)\n(taken 0)\n(now 2)\n(refused 5 1)\n(refused 6 1)\n(refused 7 7)\n(now 3)\n(refused 9 2)\n(refused 10 6)\n(slot 1 c5)\n(slot 2 c6)\n")
-    × ((eventOwnSlot documentOne (withSupply (bare 1 2) 1) (state_of (lent (callCell 7 ∷ callCell 8 ∷ [])) 1 false) (clock 2)).answer ≡ clockNow 2)
-    × ((eventOwnSlot documentOne (bare 1 1) (state_of (lent []) 1 false) (call (job 5 1 ∷ []))).answer ≡ taken (cost 0))
+    × ((event_own_slot document_one (with_supply (bare 1 2) 1) (state_of (lent (call_cell 7 ∷ call_cell 8 ∷ [])) 1 false) (clock 2)).answer ≡ clock_now 2)
+    × ((event_own_slot document_one (bare 1 1) (state_of (lent []) 1 false) (call (job 5 1 ∷ []))).answer ≡ taken (cost 0))
 unfolding
-    lists lastGone readBefore headBefore servedBefore leftBefore needsUncapped grantsUncapped evictedUncapped fitsUncapped planBefore ownSlotCauses carriedOwnSlot eventOwnSlot run_by withPlanBy
-    withHeadBy wholeBy
-document-listed = (refl, refl, refl, refl)
+    lists last_gone read_before head_before served_before left_before needs_uncapped grants_uncapped evicted_uncapped fits_uncapped plan_before own_slot_causes carried_own_slot event_own_slot run_by with_plan_by
+    with_head_by whole_by
+document_listed = (refl, refl, refl, refl)
 
 -- the clock that is asked for, one higher; 0 where none is
-abbrev clockAsked : Asked → ℕ
-clockAsked (setClock t) = suc t
-clockAsked (setTie hold) = 0
-clockAsked (placeJobs jobs) = 0
-clockAsked (fault r) = 0
+abbrev clock_asked : Asked → ℕ
+clock_asked (set_clock t) = suc t
+clock_asked (set_tie hold) = 0
+clock_asked (place_jobs jobs) = 0
+clock_asked (fault r) = 0
 
-no-clock : (o : Option Form) (t : ℕ) → clockAsked (askedByForm o) ≡ 0 → o ≡ some (clockLine t) → ⊥
-no-clock o t z e = let q : clockAsked (askedByForm o) ≡ suc t = ap (λ (f : Option Form). clockAsked (askedByForm f)) e in omega (arith, z, q)
+no_clock : (o : Option Form) (t : ℕ) → clock_asked (asked_by_form o) ≡ 0 → o ≡ some (clock_line t) → ⊥
+no_clock o t z e = let q : clock_asked (asked_by_form o) ≡ suc t = ap (λ (f : Option Form). clock_asked (asked_by_form f)) e in omega (arith, z, q)
 
--- What `text-without-clock` asks of a text can be met, with an event too, and a text with a clock line does not meet it.
-pub no-clock-met : NoClockLine (lines (bytes "(frame 1 1)\n(tie hold)\n(call (5 1))\n")) × (NoClockLine (lines (bytes "(frame 1 1)\n(clock 0)\n")) → ⊥)
+-- What `text_without_clock` asks of a text can be met, with an event too, and a text with a clock line does not meet it.
+pub no_clock_met : NoClockLine (lines (bytes "(frame 1 1)\n(tie hold)\n(call (5 1))\n")) × (NoClockLine (lines (bytes "(frame 1 1)\n(clock 0)\n")) → ⊥)
 unfolding lists
-no-clock-met = (met, λ p. p 1 0 refl)
+no_clock_met = (met, λ p. p 1 0 refl)
   where
     met : NoClockLine (lines (bytes "(frame 1 1)\n(tie hold)\n(call (5 1))\n"))
-    met zero t e = no-clock (form (bytes "(frame 1 1)\n")) t refl e
-    met (suc zero) t e = no-clock (form (bytes "(tie hold)\n")) t refl e
-    met (suc (suc zero)) t e = no-clock (form (bytes "(call (5 1))\n")) t refl e
-    met (suc (suc (suc j))) t e = no-clock (form []) t refl e
+    met zero t e = no_clock (form (bytes "(frame 1 1)\n")) t refl e
+    met (suc zero) t e = no_clock (form (bytes "(tie hold)\n")) t refl e
+    met (suc (suc zero)) t e = no_clock (form (bytes "(call (5 1))\n")) t refl e
+    met (suc (suc (suc j))) t e = no_clock (form []) t refl e
 
--- So it is with what `run-one-higher` asks of two lists: the clocks 0 and S were 1 and S + 1; the last clock is left out, and the same clock is not one higher.
-pub higher-met : OneHigher 2 (clock 0 ∷ call [] ∷ clock 2 ∷ []) (clock 1 ∷ call [] ∷ clock 3 ∷ [])
+-- So it is with what `run_one_higher` asks of two lists: the clocks 0 and S were 1 and S + 1; the last clock is left out, and the same clock is not one higher.
+pub higher_met : OneHigher 2 (clock 0 ∷ call [] ∷ clock 2 ∷ []) (clock 1 ∷ call [] ∷ clock 3 ∷ [])
     × (OneHigher 2 (clock 3 ∷ []) (clock 4 ∷ []) → ⊥)
     × (OneHigher 2 (clock 0 ∷ []) (clock 0 ∷ []) → ⊥)
 unfolding lists
-higher-met =
-    (record { long = refl; asks = asks; not_last = not_last }, λ p. p.not_last 0 refl, λ p. let q : ◌≡◌ {A = ℕ} 1 2 = ap clockAsked (p.asks 0) in omega (arith, q))
+higher_met =
+    (record { long = refl; asks = asks; not_last = not_last }, λ p. p.not_last 0 refl, λ p. let q : ◌≡◌ {A = ℕ} 1 2 = ap clock_asked (p.asks 0) in omega (arith, q))
   where
-    asks : (j : ℕ) → asked (eventAt (clock 1 ∷ call [] ∷ clock 3 ∷ []) j) ≡ higherAsked (asked (eventAt (clock 0 ∷ call [] ∷ clock 2 ∷ []) j))
+    asks : (j : ℕ) → asked (event_at (clock 1 ∷ call [] ∷ clock 3 ∷ []) j) ≡ higher_asked (asked (event_at (clock 0 ∷ call [] ∷ clock 2 ∷ []) j))
     asks zero = refl
     asks (suc zero) = refl
     asks (suc (suc zero)) = refl
     asks (suc (suc (suc j))) = refl
 
-    not_last : (j : ℕ) → asked (eventAt (clock 0 ∷ call [] ∷ clock 2 ∷ []) j) ≡ setClock 3 → ⊥
-    not_last zero e = let q : ◌≡◌ {A = ℕ} 1 4 = ap clockAsked e in omega (arith, q)
-    not_last (suc zero) e = let q : ◌≡◌ {A = ℕ} 0 4 = ap clockAsked e in omega (arith, q)
-    not_last (suc (suc zero)) e = let q : ◌≡◌ {A = ℕ} 3 4 = ap clockAsked e in omega (arith, q)
-    not_last (suc (suc (suc j))) e = let q : ◌≡◌ {A = ℕ} 0 4 = ap clockAsked e in omega (arith, q)
+    not_last : (j : ℕ) → asked (event_at (clock 0 ∷ call [] ∷ clock 2 ∷ []) j) ≡ set_clock 3 → ⊥
+    not_last zero e = let q : ◌≡◌ {A = ℕ} 1 4 = ap clock_asked e in omega (arith, q)
+    not_last (suc zero) e = let q : ◌≡◌ {A = ℕ} 0 4 = ap clock_asked e in omega (arith, q)
+    not_last (suc (suc zero)) e = let q : ◌≡◌ {A = ℕ} 3 4 = ap clock_asked e in omega (arith, q)
+    not_last (suc (suc (suc j))) e = let q : ◌≡◌ {A = ℕ} 0 4 = ap clock_asked e in omega (arith, q)
 
 -- ---- a text beside lent things that are too short: 10, then 8, then the head's
 
-pub texts-end : (whole_of (replicate 32769 10) (replicate 511 0) ≡ notRead 0 textTooLong)
-    × (whole_of (replicate 32768 10) (replicate 511 0) ≡ notRead 0 tooShort)
-    × (whole_of (replicate 32768 10) (replicate 512 0) ≡ notRead 1 noForm)
-    × (whole_of [] (replicate 511 0) ≡ notRead 0 tooShort)
-    × (wholeWithOutput (replicate 32769 10) [] (replicate 8191 0) ≡ notRead 0 textTooLong)
-    × (wholeWithOutput [] (replicate 512 0) (replicate 8191 0) ≡ notRead 0 tooShort)
-    × (wholeWithOutput [] (replicate 511 0) (replicate 8192 0) ≡ notRead 0 tooShort)
-    × (wholeWithOutput [] (replicate 512 0) (replicate 8192 0) ≡ notRead 1 outOfPlace)
-    × (wholeOnSlice 31 (replicate 32769 10) [] [] ≡ notRead 0 textTooLong)
-    × (wholeOnSlice 31 [] (replicate 512 0) (replicate 8192 0) ≡ notRead 0 tooShort)
-    × (wholeOnSlice 32 [] (replicate 512 0) (replicate 8192 0) ≡ notRead 1 outOfPlace)
-unfolding lists wholeWithOutput wholeOnSlice
-texts-end = (refl, refl, refl, refl, refl, refl, refl, refl, refl, refl, refl)
+pub texts_end : (whole_of (replicate 32769 10) (replicate 511 0) ≡ not_read 0 text_too_long)
+    × (whole_of (replicate 32768 10) (replicate 511 0) ≡ not_read 0 too_short)
+    × (whole_of (replicate 32768 10) (replicate 512 0) ≡ not_read 1 no_form)
+    × (whole_of [] (replicate 511 0) ≡ not_read 0 too_short)
+    × (whole_with_output (replicate 32769 10) [] (replicate 8191 0) ≡ not_read 0 text_too_long)
+    × (whole_with_output [] (replicate 512 0) (replicate 8191 0) ≡ not_read 0 too_short)
+    × (whole_with_output [] (replicate 511 0) (replicate 8192 0) ≡ not_read 0 too_short)
+    × (whole_with_output [] (replicate 512 0) (replicate 8192 0) ≡ not_read 1 out_of_place)
+    × (whole_on_slice 31 (replicate 32769 10) [] [] ≡ not_read 0 text_too_long)
+    × (whole_on_slice 31 [] (replicate 512 0) (replicate 8192 0) ≡ not_read 0 too_short)
+    × (whole_on_slice 32 [] (replicate 512 0) (replicate 8192 0) ≡ not_read 1 out_of_place)
+unfolding lists whole_with_output whole_on_slice
+texts_end = (refl, refl, refl, refl, refl, refl, refl, refl, refl, refl, refl)
 
 -- ---- a text of events on a lent frame: 10, 8, the head record's 2, 11, then its lines, numbered from 1
 
-pub events-end : ((eventsMeant 31 (counting 33) [] (state_of [] 3 false) (replicate 32769 10) []).ended ≡ refusedAt 0 textTooLong)
-    × ((eventsMeant 31 (counting 33) [] (state_of (lent (7 ∷ [])) 3 false) [] (replicate 8192 0)).ended ≡ refusedAt 0 tooShort)
-    × ((eventsMeant 32 (counting 33) [] (state_of (lent (7 ∷ [])) 3 false) [] (replicate 8191 0)).ended ≡ refusedAt 0 tooShort)
-    × ((eventsMeant 32 (counting 33) [] (state_of (replicate 511 0) 3 false) [] (replicate 8192 0)).ended ≡ refusedAt 0 tooShort)
-    × ((eventsMeant 32 (counting 33) [] (state_of (lent (7 ∷ [])) 3 false) [] (replicate 8192 0)).ended ≡ refusedAt 0 outOfLimits)
-    × ((eventsMeant 32 (counting 0) [] (state_of (lent (7 ∷ [])) 1 false) (bytes "x") (replicate 8192 0)).ended ≡ refusedAt 0 notWellFormed)
-    × ((eventsMeant 32 (counting 0) [] (state_of (lent []) 3 false) (bytes "x") (replicate 8192 0)).ended ≡ refusedAt 0 notWellFormed)
-    × ((eventsMeant 32 (counting 0) [] (state_of (lent []) 2 false) [] (replicate 8192 0)).ended ≡ listed 0)
-    × (take 45 (eventsMeant 32 (counting 0) [] (state_of (lent []) 0 false) (bytes "(frame 1 1)\n(call (5 1))\n(clock 2)\n(clock 1)") (replicate 8192 0)).output
+pub events_end : ((events_meant 31 (counting 33) [] (state_of [] 3 false) (replicate 32769 10) []).ended ≡ refused_at 0 text_too_long)
+    × ((events_meant 31 (counting 33) [] (state_of (lent (7 ∷ [])) 3 false) [] (replicate 8192 0)).ended ≡ refused_at 0 too_short)
+    × ((events_meant 32 (counting 33) [] (state_of (lent (7 ∷ [])) 3 false) [] (replicate 8191 0)).ended ≡ refused_at 0 too_short)
+    × ((events_meant 32 (counting 33) [] (state_of (replicate 511 0) 3 false) [] (replicate 8192 0)).ended ≡ refused_at 0 too_short)
+    × ((events_meant 32 (counting 33) [] (state_of (lent (7 ∷ [])) 3 false) [] (replicate 8192 0)).ended ≡ refused_at 0 out_of_limits)
+    × ((events_meant 32 (counting 0) [] (state_of (lent (7 ∷ [])) 1 false) (bytes "x") (replicate 8192 0)).ended ≡ refused_at 0 not_well_formed)
+    × ((events_meant 32 (counting 0) [] (state_of (lent []) 3 false) (bytes "x") (replicate 8192 0)).ended ≡ refused_at 0 not_well_formed)
+    × ((events_meant 32 (counting 0) [] (state_of (lent []) 2 false) [] (replicate 8192 0)).ended ≡ listed 0)
+    × (take 45 (events_meant 32 (counting 0) [] (state_of (lent []) 0 false) (bytes "(frame 1 1)\n(call (5 1))\n(clock 2)\n(clock 1)") (replicate 8192 0)).output
     ≡ bytes "(refused 1 3)\n(taken 0)\n(now 2)\n(refused 4 1)")
-unfolding lists eventsMeant moved
-events-end = (refl, refl, refl, refl, refl, refl, refl, refl, refl)
+unfolding lists events_meant moved
+events_end = (refl, refl, refl, refl, refl, refl, refl, refl, refl)
 
 -- ---- the entries that write lines
 
 -- `write_listing`: 10, then 8 for the output and for the table; the refused line of an empty text has 14 bytes
-pub lines-answered : ((listingMeant (replicate 32769 10) [] []).answer ≡ write.refused 0 textTooLong)
-    × ((listingMeant [] blank (replicate 8191 0)).answer ≡ write.refused 0 tooShort)
-    × ((listingMeant [] (replicate 511 0) (replicate 8192 0)).answer ≡ write.refused 0 tooShort)
-    × ((listingMeant [] blank (replicate 8192 0)).answer ≡ write.written 14)
+pub lines_answered : ((listing_meant (replicate 32769 10) [] []).answer ≡ write.refused 0 text_too_long)
+    × ((listing_meant [] blank (replicate 8191 0)).answer ≡ write.refused 0 too_short)
+    × ((listing_meant [] (replicate 511 0) (replicate 8192 0)).answer ≡ write.refused 0 too_short)
+    × ((listing_meant [] blank (replicate 8192 0)).answer ≡ write.written 14)
     -- the line of an answer and of a grant: 8 for the output
-    × ((answerWritten 0 (reply.Now 1) (replicate 8192 0)).answer ≡ write.written 8)
-    × ((answerWritten 0 (reply.Now 1) (replicate 8191 0)).answer ≡ write.refused 0 tooShort)
-    × ((answerWritten 0 (reply.Tie true) (replicate 8192 0)).answer ≡ write.written 11)
-    × ((answerWritten 0 (reply.Tie false) (replicate 8192 0)).answer ≡ write.written 12)
-    × ((grantWritten 1 2 (replicate 8192 0)).answer ≡ write.written 14)
-    × ((grantWritten 1 2 (replicate 8191 0)).answer ≡ write.refused 0 tooShort)
+    × ((answer_written 0 (reply.Now 1) (replicate 8192 0)).answer ≡ write.written 8)
+    × ((answer_written 0 (reply.Now 1) (replicate 8191 0)).answer ≡ write.refused 0 too_short)
+    × ((answer_written 0 (reply.Tie true) (replicate 8192 0)).answer ≡ write.written 11)
+    × ((answer_written 0 (reply.Tie false) (replicate 8192 0)).answer ≡ write.written 12)
+    × ((grant_written 1 2 (replicate 8192 0)).answer ≡ write.written 14)
+    × ((grant_written 1 2 (replicate 8191 0)).answer ≡ write.refused 0 too_short)
     -- a slot's line: 8, the head record's 2, 11, then 2 for the slot, from 1 to S
-    × ((slotWritten 32 (counting 0) [] (lent []) 1 (replicate 8192 0)).answer ≡ write.written 11)
-    × ((slotWritten 32 (counting 33) [] (lent (7 ∷ [])) 0 (replicate 8191 0)).answer ≡ write.refused 0 tooShort)
-    × ((slotWritten 31 (counting 0) [] (lent []) 1 (replicate 8192 0)).answer ≡ write.refused 0 tooShort)
-    × ((slotWritten 32 (counting 33) [] (replicate 511 0) 0 (replicate 8192 0)).answer ≡ write.refused 0 tooShort)
-    × ((slotWritten 32 (counting 33) [] (lent (7 ∷ [])) 1 (replicate 8192 0)).answer ≡ write.refused 0 outOfLimits)
-    × ((slotWritten 32 (counting 0) [] (lent (7 ∷ [])) 0 (replicate 8192 0)).answer ≡ write.refused 0 notWellFormed)
-    × ((slotWritten 32 (counting 0) [] (lent []) 0 (replicate 8192 0)).answer ≡ write.refused 0 outOfLimits)
-    × ((slotWritten 32 (counting 0) [] (lent []) 2 (replicate 8192 0)).answer ≡ write.refused 0 outOfLimits)
-unfolding lists moved listingCause listingMeant lineWritten
-lines-answered = (refl, refl, refl, refl, refl, refl, refl, refl, refl, refl, refl, refl, refl, refl, refl, refl, refl, refl)
+    × ((slot_written 32 (counting 0) [] (lent []) 1 (replicate 8192 0)).answer ≡ write.written 11)
+    × ((slot_written 32 (counting 33) [] (lent (7 ∷ [])) 0 (replicate 8191 0)).answer ≡ write.refused 0 too_short)
+    × ((slot_written 31 (counting 0) [] (lent []) 1 (replicate 8192 0)).answer ≡ write.refused 0 too_short)
+    × ((slot_written 32 (counting 33) [] (replicate 511 0) 0 (replicate 8192 0)).answer ≡ write.refused 0 too_short)
+    × ((slot_written 32 (counting 33) [] (lent (7 ∷ [])) 1 (replicate 8192 0)).answer ≡ write.refused 0 out_of_limits)
+    × ((slot_written 32 (counting 0) [] (lent (7 ∷ [])) 0 (replicate 8192 0)).answer ≡ write.refused 0 not_well_formed)
+    × ((slot_written 32 (counting 0) [] (lent []) 0 (replicate 8192 0)).answer ≡ write.refused 0 out_of_limits)
+    × ((slot_written 32 (counting 0) [] (lent []) 2 (replicate 8192 0)).answer ≡ write.refused 0 out_of_limits)
+unfolding lists moved listing_cause listing_meant line_written
+lines_answered = (refl, refl, refl, refl, refl, refl, refl, refl, refl, refl, refl, refl, refl, refl, refl, refl, refl, refl)

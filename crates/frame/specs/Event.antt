@@ -3,12 +3,12 @@
 use Rattle.std.specs.Prelude.{ℕ, Bool, not, List, [], ◌∷◌, ◌++◌, ltb}
 use Rattle.std.proofs.Math.Option.{Option, none, some}
 use Rattle.station.specs.Head.{Head, Job}
-use Rattle.station.specs.Refusal.{Refusal, noForm, outOfLimits, outOfPlace, clockBack, try, first_of}
-use Rattle.station.specs.Form.{Form, frameLine, busyLine, presetLine, clockLine, callLine, tieLine, supplyLine, jobsOf, form}
+use Rattle.station.specs.Refusal.{Refusal, no_form, out_of_limits, out_of_place, clock_back, try, first_of}
+use Rattle.station.specs.Form.{Form, frame_line, busy_line, preset_line, clock_line, call_line, tie_line, supply_line, jobs_of, form}
 use Rattle.placing.specs.Table.{cell}
-use Rattle.placing.specs.Valid.{clockIn}
-use Rattle.placing.specs.State.{State, withClock, withOrder}
-use Rattle.placing.specs.Outcomes.{Cost, costOf, frameCauses, callCauses, CallAnswer, calledState}
+use Rattle.placing.specs.Valid.{clock_in}
+use Rattle.placing.specs.State.{State, with_clock, with_order}
+use Rattle.placing.specs.Outcomes.{Cost, cost_of, frame_causes, call_causes, CallAnswer, called_state}
 
 -- "events of every kind (here clocks and calls)", ties since 2026-02, ".. and faulty lines": a line of whatever bytes, its end included, or a clock or a call handed over.
 pub data Event : Type 0 where
@@ -18,8 +18,8 @@ pub data Event : Type 0 where
 
 -- the new clock; the new order of ties; what a call costs; or the refusal
 pub data Answer : Type 0 where
-  clockNow : ℕ → Answer
-  tieNow : Bool → Answer
+  clock_now : ℕ → Answer
+  tie_now : Bool → Answer
   taken : Cost → Answer
   refused : ℕ → Refusal → Answer
 
@@ -34,63 +34,63 @@ pub record Outcome : Type 0 where
 
 -- what an event asks for, or the fault of its line
 pub data Asked : Type 0 where
-  setClock : ℕ → Asked
-  setTie : Bool → Asked
-  placeJobs : List Job → Asked
+  set_clock : ℕ → Asked
+  set_tie : Bool → Asked
+  place_jobs : List Job → Asked
   fault : Refusal → Asked
 
 -- "a line that is not one of the five forms, or lacks its end", which are six since 2026-02 and seven since 2026-03; "A head line after an event is out of place."
-abbrev pub askedByForm : Option Form → Asked
-askedByForm none = fault noForm
-askedByForm (some (frameLine s b)) = fault outOfPlace
-askedByForm (some (busyLine b p)) = fault outOfPlace
-askedByForm (some (presetLine p)) = fault outOfPlace
-askedByForm (some (clockLine t)) = setClock t
-askedByForm (some (callLine p)) = placeJobs (jobsOf p)
-askedByForm (some (tieLine hold)) = setTie hold
-askedByForm (some (supplyLine k)) = fault outOfPlace
+abbrev pub asked_by_form : Option Form → Asked
+asked_by_form none = fault no_form
+asked_by_form (some (frame_line s b)) = fault out_of_place
+asked_by_form (some (busy_line b p)) = fault out_of_place
+asked_by_form (some (preset_line p)) = fault out_of_place
+asked_by_form (some (clock_line t)) = set_clock t
+asked_by_form (some (call_line p)) = place_jobs (jobs_of p)
+asked_by_form (some (tie_line hold)) = set_tie hold
+asked_by_form (some (supply_line k)) = fault out_of_place
 
 abbrev pub asked : Event → Asked
-asked (line l) = askedByForm (form l)
-asked (clock t) = setClock t
-asked (call jobs) = placeJobs jobs
+asked (line l) = asked_by_form (form l)
+asked (clock t) = set_clock t
+asked (call jobs) = place_jobs jobs
 
 -- What an event is tried for after 8, a head record's 2, and 11: its line's 1 or 3, a t outside 0 to S + 1 (2026-05) and "a clock below the present one",
 -- or the causes of a call; a tie has none of its own.
-unfoldable pub ownCauses : Head → State → Asked → List (Option Refusal)
-ownCauses h st (setClock t) = try outOfLimits (not (clockIn h.slots t)) ∷ try clockBack (ltb t st.clock) ∷ []
-ownCauses h st (setTie hold) = []
-ownCauses h st (placeJobs jobs) = callCauses h st.clock jobs (cell h st.table)
-ownCauses h st (fault r) = some r ∷ []
+unfoldable pub own_causes : Head → State → Asked → List (Option Refusal)
+own_causes h st (set_clock t) = try out_of_limits (not (clock_in h.slots t)) ∷ try clock_back (ltb t st.clock) ∷ []
+own_causes h st (set_tie hold) = []
+own_causes h st (place_jobs jobs) = call_causes h st.clock jobs (cell h st.table)
+own_causes h st (fault r) = some r ∷ []
 
 -- the causes of what is asked, in the listed order
-abbrev pub askedCauses : Head → State → Asked → List (Option Refusal)
-askedCauses h st a = frameCauses h st ++ ownCauses h st a
+abbrev pub asked_causes : Head → State → Asked → List (Option Refusal)
+asked_causes h st a = frame_causes h st ++ own_causes h st a
 
-abbrev pub eventCauses : Head → State → Event → List (Option Refusal)
-eventCauses h st e = askedCauses h st (asked e)
+abbrev pub event_causes : Head → State → Event → List (Option Refusal)
+event_causes h st e = asked_causes h st (asked e)
 
 -- what a clock leaves that is set: the new clock, and the table as it was
-abbrev pub clockState : Head → ℕ → State → State
-clockState h t st = withClock t st
+abbrev pub clock_state : Head → ℕ → State → State
+clock_state h t st = with_clock t st
 
 -- what a tie leaves that is set: "As an event either holds for later calls, and the frame runs on with all cells as they were"
-abbrev pub tieState : Head → Bool → State → State
-tieState h hold st = withOrder hold st
+abbrev pub tie_state : Head → Bool → State → State
+tie_state h hold st = with_order hold st
 
 -- An event for which no cause holds: a clock changes the clock alone, a tie the order of ties alone, a call the table alone.
-unfoldable pub carriedOut : Head → State → Asked → Outcome
-carriedOut h st (setClock t) = record { answer = clockNow t; after = clockState h t st }
-carriedOut h st (setTie hold) = record { answer = tieNow hold; after = tieState h hold st }
-carriedOut h st (placeJobs jobs) = record { answer = taken (costOf h jobs st); after = calledState h jobs st }
-carriedOut h st (fault r) = record { answer = refused 0 r; after = st }
+unfoldable pub carried_out : Head → State → Asked → Outcome
+carried_out h st (set_clock t) = record { answer = clock_now t; after = clock_state h t st }
+carried_out h st (set_tie hold) = record { answer = tie_now hold; after = tie_state h hold st }
+carried_out h st (place_jobs jobs) = record { answer = taken (cost_of h jobs st); after = called_state h jobs st }
+carried_out h st (fault r) = record { answer = refused 0 r; after = st }
 
 -- One event: refused by the first cause that holds, which changes nothing, or carried out.
-unfoldable pub comesTo : Head → State → Asked → Outcome
-comesTo h st a = elim (first_of (askedCauses h st a)) [ none ↦ carriedOut h st a | some r ↦ record { answer = refused 0 r; after = st } ]
+unfoldable pub comes_to : Head → State → Asked → Outcome
+comes_to h st a = elim (first_of (asked_causes h st a)) [ none ↦ carried_out h st a | some r ↦ record { answer = refused 0 r; after = st } ]
 
-abbrev pub eventOf : Head → State → Event → Outcome
-eventOf h st e = comesTo h st (asked e)
+abbrev pub event_of : Head → State → Event → Outcome
+event_of h st e = comes_to h st (asked e)
 
 -- A list of events: "Each event gets the table and clock that the last one left", and the order of ties.
 pub record Run : Type 0 where
@@ -102,4 +102,4 @@ more a r = record { answers = a ∷ r.answers; after = r.after }
 
 unfoldable pub run_of : Head → State → List Event → Run
 run_of h st [] = record { answers = []; after = st }
-run_of h st (e ∷ es) = more (eventOf h st e).answer (run_of h (eventOf h st e).after es)
+run_of h st (e ∷ es) = more (event_of h st e).answer (run_of h (event_of h st e).after es)

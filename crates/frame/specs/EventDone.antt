@@ -4,21 +4,21 @@
 use Rattle.std.specs.Prelude.{ℕ, ◌≡◌, List}
 use Rattle.std.proofs.Math.Option.{none, some}
 use Rattle.station.specs.Refusal.{first_of}
-use Rattle.station.specs.Types.{headIn}
+use Rattle.station.specs.Types.{head_in}
 use Rattle.station.specs.declared.types.Preset as record-of-preset
 use Rattle.station.specs.declared.types.Head as record-of-head
 use Rattle.placing.specs.State.{State}
-use Rattle.placing.specs.Causes.{causesOf}
+use Rattle.placing.specs.Causes.{causes_of}
 use Rattle.frame.specs.declared.types.Outcome as result
-use Rattle.frame.specs.Event.{Event, refused, Outcome, eventOf}
+use Rattle.frame.specs.Event.{Event, refused, Outcome, event_of}
 use Rattle.frame.specs.Types.{answer_in}
 
 -- One event for a head record and its preset records: where no cause of the record alone holds, that of the head they stand for. "A lent head record is
 -- tried by 2 before a table is held against it by 11", and a refusal changes nothing.
-unfoldable pub eventMeant : record-of-head.Head → List record-of-preset.Preset → State → Event → Outcome
-eventMeant head ps st e =
-    elim (first_of (causesOf head ps st.table)) [
-      | none ↦ eventOf (headIn head ps) st e
+unfoldable pub event_meant : record-of-head.Head → List record-of-preset.Preset → State → Event → Outcome
+event_meant head ps st e =
+    elim (first_of (causes_of head ps st.table)) [
+      | none ↦ event_of (head_in head ps) st e
       | some r ↦ record { answer = refused 0 r; after = st }
     ]
 
@@ -31,4 +31,4 @@ pub record Yields (o : Outcome) (u : List ℕ) (r : result.Outcome) : Type 0 whe
 
 -- What an entry answers and leaves for an event.
 abbrev pub EventDone : record-of-head.Head → List record-of-preset.Preset → State → Event → List ℕ → result.Outcome → Type 0
-EventDone head ps st e u r = Yields (eventMeant head ps st e) u r
+EventDone head ps st e u r = Yields (event_meant head ps st e) u r

@@ -2,19 +2,19 @@
 -- Assumes nothing.
 use Rattle.std.specs.Prelude.{ℕ, ◌-◌, ◌≡◌, not, List, [], ◌∷◌, ◌++◌, length, ltb}
 use Rattle.std.proofs.Math.Option.{Option}
-use Rattle.station.specs.Limits.{leastOutput, leastRecords}
+use Rattle.station.specs.Limits.{least_output, least_records}
 use Rattle.station.specs.Head.{within}
-use Rattle.station.specs.Refusal.{Refusal, outOfLimits, tooShort, try, first_of}
-use Rattle.station.specs.Types.{headIn}
-use Rattle.station.specs.WriteHead.{Answer, answer_of, outputOf, answer_in}
+use Rattle.station.specs.Refusal.{Refusal, out_of_limits, too_short, try, first_of}
+use Rattle.station.specs.Types.{head_in}
+use Rattle.station.specs.WriteHead.{Answer, answer_of, output_of, answer_in}
 use Rattle.station.specs.declared.types.Preset as record-of-preset
 use Rattle.station.specs.declared.types.Head as record-of-head
 use Rattle.station.specs.declared.write.Writing as writing
-use Rattle.placing.specs.Causes.{frameCausesOf}
+use Rattle.placing.specs.Causes.{frame_causes_of}
 use Rattle.frame.specs.declared.types.Answer as reply
 use Rattle.frame.specs.Types as types
 use Rattle.frame.specs.Text.{start_of}
-use Rattle.frame.specs.Listing.{answerLine, grantedLine, slotLine}
+use Rattle.frame.specs.Listing.{answer_line, granted_line, slot_line}
 
 -- the length of what was written, or the refusal; and the output afterwards
 pub record WriteOutcome : Type 0 where
@@ -22,29 +22,29 @@ pub record WriteOutcome : Type 0 where
   pub output : List ℕ
 
 -- A line is written at the start of the output, the bytes past it as they were; where a cause holds, nothing is written.
-unfoldable pub lineWritten : List (Option Refusal) → List ℕ → List ℕ → WriteOutcome
-lineWritten causes line out = record { answer = answer_of (first_of causes) (length line); output = outputOf (first_of causes) line out }
+unfoldable pub line_written : List (Option Refusal) → List ℕ → List ℕ → WriteOutcome
+line_written causes line out = record { answer = answer_of (first_of causes) (length line); output = output_of (first_of causes) line out }
 
 -- "output below 8,192 bytes, the frame's size regardless"
-abbrev pub outputShort : List ℕ → Option Refusal
-outputShort out = try tooShort (ltb (length out) leastOutput)
+abbrev pub output_short : List ℕ → Option Refusal
+output_short out = try too_short (ltb (length out) least_output)
 
 -- the line of an answer: "Now: the clock. Taken: refinement cells lost. Refused: line and number."
-abbrev pub answerWritten : ℕ → reply.Answer → List ℕ → WriteOutcome
-answerWritten n a out = lineWritten (outputShort out ∷ []) (answerLine n (types.answer_in a)) out
+abbrev pub answer_written : ℕ → reply.Answer → List ℕ → WriteOutcome
+answer_written n a out = line_written (output_short out ∷ []) (answer_line n (types.answer_in a)) out
 
 -- the line of a grant: "preset number and slots"
-abbrev pub grantWritten : ℕ → ℕ → List ℕ → WriteOutcome
-grantWritten n g out = lineWritten (outputShort out ∷ []) (grantedLine n g) out
+abbrev pub grant_written : ℕ → ℕ → List ℕ → WriteOutcome
+grant_written n g out = line_written (output_short out ∷ []) (granted_line n g) out
 
 -- The causes of a slot's line where the list has n records: 8 for the output, for the list and for the table, 2 for the head record, 11 for the table, and 2 for "a value ..
 -- outside its limits", the slot's number. A slot's line asks for no clock and no order of ties: 11 is tried with those of the start, which every frame passes.
-abbrev pub slotCauses : ℕ → record-of-head.Head → List record-of-preset.Preset → List ℕ → ℕ → List ℕ → List (Option Refusal)
-slotCauses n head ps t s out = outputShort out ∷ try tooShort (ltb n leastRecords) ∷ (frameCausesOf head ps (start_of (headIn head ps) t) ++ (try outOfLimits (not (within 1 head.slots s)) ∷ []))
+abbrev pub slot_causes : ℕ → record-of-head.Head → List record-of-preset.Preset → List ℕ → ℕ → List ℕ → List (Option Refusal)
+slot_causes n head ps t s out = output_short out ∷ try too_short (ltb n least_records) ∷ (frame_causes_of head ps (start_of (head_in head ps) t) ++ (try out_of_limits (not (within 1 head.slots s)) ∷ []))
 
 -- the line of a slot, its number being the paper's, from 1 on: "Slot: its number, then the bridges"
-abbrev pub slotWritten : ℕ → record-of-head.Head → List record-of-preset.Preset → List ℕ → ℕ → List ℕ → WriteOutcome
-slotWritten n head ps t s out = lineWritten (slotCauses n head ps t s out) (slotLine (headIn head ps) t (s - 1)) out
+abbrev pub slot_written : ℕ → record-of-head.Head → List record-of-preset.Preset → List ℕ → ℕ → List ℕ → WriteOutcome
+slot_written n head ps t s out = line_written (slot_causes n head ps t s out) (slot_line (head_in head ps) t (s - 1)) out
 
 -- What such an entry promises: its answer r and the output afterwards are those of the outcome.
 pub record WroteLine (o : WriteOutcome) (r : writing.Writing) (after : List ℕ) : Type 0 where

@@ -8,7 +8,7 @@ ghost use Rattle.frame.specs.Event.{Event};
 ghost use Rattle.frame.specs.EventEntry.{EventEntry};
 ghost use Rattle.frame.specs.EventDone.{EventDone};
 ghost use Rattle.std.specs.Prelude.{[], ◌∷◌};
-ghost use Rattle.station.specs.Types.{headIn};
+ghost use Rattle.station.specs.Types.{head_in};
 ghost use Rattle.placing.specs.Claims.{Running};
 ghost use Rattle.frame.specs.Demands.{Demand3};
 
@@ -68,8 +68,8 @@ pub fn set_clock_by_value(
     t: usize,
 ) -> Outcome
     ensures done { EventDone head presets (state_of table.now clock hold) (Event.clock t) table.now result }
-    ensures kept { Running (headIn head presets) (state_of table.now clock hold) → Running (headIn head presets) (state_of table.now result.clock result.hold) }
-    ensures claim { Running (headIn head presets) (state_of table.now clock hold) → Demand3 (headIn head presets) (state_of table.now clock hold) (Event.clock t ∷ []) }
+    ensures kept { Running (head_in head presets) (state_of table.now clock hold) → Running (head_in head presets) (state_of table.now result.clock result.hold) }
+    ensures claim { Running (head_in head presets) (state_of table.now clock hold) → Demand3 (head_in head presets) (state_of table.now clock hold) (Event.clock t ∷ []) }
 {
     if let Cause::Met(r) = frame_cause(head, presets, table, clock) {
         return Outcome {
@@ -93,8 +93,8 @@ pub fn event_by_value(
     line: &[u8],
 ) -> Outcome
     ensures done { EventDone head presets (state_of table.old clock hold) (Event.line line.now) table.new result }
-    ensures kept { Running (headIn head presets) (state_of table.old clock hold) → Running (headIn head presets) (state_of table.new result.clock result.hold) }
-    ensures claim { Running (headIn head presets) (state_of table.old clock hold) → Demand3 (headIn head presets) (state_of table.old clock hold) (Event.line line.now ∷ []) }
+    ensures kept { Running (head_in head presets) (state_of table.old clock hold) → Running (head_in head presets) (state_of table.new result.clock result.hold) }
+    ensures claim { Running (head_in head presets) (state_of table.old clock hold) → Demand3 (head_in head presets) (state_of table.old clock hold) (Event.line line.now ∷ []) }
 {
     if let Cause::Met(r) = frame_cause(head, presets, table, clock) {
         return Outcome {

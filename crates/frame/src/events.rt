@@ -2,9 +2,9 @@
 // of records, `run_events_by_value` by value.
 ghost use Rattle.std.specs.Prelude.{◌≡◌};
 ghost use Rattle.placing.specs.State.{state_of};
-ghost use Rattle.frame.specs.EventsDone.{eventsMeant, EventsLeft, EventsClaim, EventsEntry};
-ghost use Rattle.frame.specs.method.EventsParts.{refusedEvents};
-ghost use Rattle.station.specs.Limits.{leastRecords};
+ghost use Rattle.frame.specs.EventsDone.{events_meant, EventsLeft, EventsClaim, EventsEntry};
+ghost use Rattle.frame.specs.method.EventsParts.{refused_events};
+ghost use Rattle.station.specs.Limits.{least_records};
 
 use crate::text::Ended;
 use crate::text::lines::run_lines;
@@ -44,7 +44,7 @@ pub fn run_events(
 
 // A refusal at line 0, which leaves the clock and the order of ties as they were handed in.
 fn refused(cause: Refusal, clock: usize, hold: bool) -> EventsAnswer
-    ensures { result ≡ refusedEvents cause clock hold }
+    ensures { result ≡ refused_events cause clock hold }
 {
     EventsAnswer {
         ended: Ended::Refused(0, cause),
@@ -64,7 +64,7 @@ fn events_counted(
     text: &[u8],
     out: &mut [u8],
 ) -> EventsAnswer
-    ensures { EventsLeft (eventsMeant records head copied (state_of table.old clock hold) text.now out.old) table.new out.new result }
+    ensures { EventsLeft (events_meant records head copied (state_of table.old clock hold) text.now out.old) table.new out.new result }
 {
     if MOST_BYTES < text.len() {
         return refused(Refusal::TextTooLong, clock, hold);
@@ -87,8 +87,8 @@ pub fn run_events_by_value(
     text: &[u8],
     out: &mut [u8],
 ) -> EventsAnswer
-    ensures done { EventsLeft (eventsMeant leastRecords head presets (state_of table.old clock hold) text.now out.old) table.new out.new result }
-    ensures claim { EventsClaim leastRecords head presets (state_of table.old clock hold) text.now out.old table.new result }
+    ensures done { EventsLeft (events_meant least_records head presets (state_of table.old clock hold) text.now out.old) table.new out.new result }
+    ensures claim { EventsClaim least_records head presets (state_of table.old clock hold) text.now out.old table.new result }
 {
     if MOST_BYTES < text.len() {
         return refused(Refusal::TextTooLong, clock, hold);

@@ -1,7 +1,7 @@
 // The entries that write the listing of a text, or one line of it, at the start of an output. `write_slot` has its presets in a borrowed slice of records.
 pub(crate) mod bytes; // bytes.rt: the lines of the listing, as bytes
 
-ghost use Rattle.frame.specs.WroteLine.{answerWritten, grantWritten, slotWritten, WroteLine};
+ghost use Rattle.frame.specs.WroteLine.{answer_written, grant_written, slot_written, WroteLine};
 ghost use Rattle.std.specs.Prelude.{◌≤◌, length};
 ghost use Rattle.frame.specs.WriteListing.{Listed, ListedWhole};
 ghost use Rattle.frame.specs.method.ListingParts.{ListsBeside};
@@ -18,7 +18,7 @@ use station::write::Writing;
 
 // Writes the line of an answer to the event of line `line`; the bytes past it stay.
 pub fn write_answer(out: &mut [u8], line: usize, answer: Answer) -> Writing
-    ensures { WroteLine (answerWritten line answer out.old) result out.new }
+    ensures { WroteLine (answer_written line answer out.old) result out.new }
 {
     if out.len() < LEAST_OUTPUT {
         return Writing::Refused(0, Refusal::TooShort);
@@ -28,7 +28,7 @@ pub fn write_answer(out: &mut [u8], line: usize, answer: Answer) -> Writing
 
 // Writes the granted line of the preset with this number; the bytes past it stay.
 pub fn write_grant(number: u8, slots: u8, out: &mut [u8]) -> Writing
-    ensures { WroteLine (grantWritten number slots out.old) result out.new }
+    ensures { WroteLine (grant_written number slots out.old) result out.new }
 {
     if out.len() < LEAST_OUTPUT {
         return Writing::Refused(0, Refusal::TooShort);
@@ -45,7 +45,7 @@ pub fn write_slot(
     slot: usize,
     out: &mut [u8],
 ) -> Writing
-    ensures { WroteLine (slotWritten (length presets.now) head presets.now table.now slot out.old) result out.new }
+    ensures { WroteLine (slot_written (length presets.now) head presets.now table.now slot out.old) result out.new }
 {
     let records = record_count(presets);
     let copied = load(presets);
@@ -61,7 +61,7 @@ fn slot_counted(
     slot: usize,
     out: &mut [u8],
 ) -> Writing
-    ensures { WroteLine (slotWritten records head copied table.now slot out.old) result out.new }
+    ensures { WroteLine (slot_written records head copied table.now slot out.old) result out.new }
 {
     let slots = head.slots;
     let bridges = head.bridges;

@@ -7,7 +7,7 @@ ghost use Rattle.frame.specs.TextEntry.{TextEntry};
 ghost use Rattle.std.specs.Prelude.{◌≡◌};
 ghost use Rattle.frame.specs.Text.{whole_of};
 ghost use Rattle.frame.specs.TextDone.{Leaves, TextDone, TextClaim};
-ghost use Rattle.frame.specs.method.TextParts.{refusedRun, HeadStart};
+ghost use Rattle.frame.specs.method.TextParts.{refused_run, HeadStart};
 
 use crate::listing::bytes::{granted_lines, slot_lines};
 use crate::text::counted::{answer_of, presets_of, text_counted};
@@ -76,7 +76,7 @@ fn refused(
     clock: usize,
     hold: bool,
 ) -> TextRun
-    ensures { result ≡ refusedRun line cause head presets clock hold }
+    ensures { result ≡ refused_run line cause head presets clock hold }
 {
     TextRun {
         ended: Ended::Refused(line, cause),

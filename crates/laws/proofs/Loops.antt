@@ -12,36 +12,36 @@ use lib.Dec.{ltb}
 use Rattle.laws.specs.Sums.{bit, sum, count, greatest, every}
 use Rattle.laws.specs.method.Least.{lowest}
 use Rattle.laws.proofs.Tests.{Is, is, is_true, is_false, both}
-use Rattle.laws.proofs.Comparisons.{lt_of, ge-of, ltb_yes}
+use Rattle.laws.proofs.Comparisons.{lt_of, ge_of, ltb_yes}
 
-pub sum-none : (f : ℕ → ℕ) → sum 0 f ≡ 0
+pub sum_none : (f : ℕ → ℕ) → sum 0 f ≡ 0
 unfolding sum
-sum-none f = refl
+sum_none f = refl
 
 pub sum_more : (n : ℕ) (f : ℕ → ℕ) → sum (n + 1) f ≡ sum n f + f n
 unfolding sum
 sum_more n f = rw (add-one n) refl
 
-pub count-more : (n : ℕ) (p : ℕ → Bool) → count (n + 1) p ≡ count n p + bit (p n)
-count-more n p = sum_more n (λ i. bit (p i))
+pub count_more : (n : ℕ) (p : ℕ → Bool) → count (n + 1) p ≡ count n p + bit (p n)
+count_more n p = sum_more n (λ i. bit (p i))
 
 -- and where only the first n count, of one number more among them, and past them
-pub count-here : (n b : ℕ) (p : ℕ → Bool) → b < n → count (min (b + 1) n) p ≡ count (min b n) p + bit (p b)
-count-here n b p l =
+pub count_here : (n b : ℕ) (p : ℕ → Bool) → b < n → count (min (b + 1) n) p ≡ count (min b n) p + bit (p b)
+count_here n b p l =
     let next : min (b + 1) n ≡ b + 1 = omega arith in
     let now : min b n ≡ b = omega arith in
-    omega (arith, ap (λ (k : ℕ). count k p) next, ap (λ (k : ℕ). count k p) now, count-more b p)
+    omega (arith, ap (λ (k : ℕ). count k p) next, ap (λ (k : ℕ). count k p) now, count_more b p)
 
 pub count_past : (n b : ℕ) (p : ℕ → Bool) → n ≤ b → count (min (b + 1) n) p ≡ count (min b n) p
 count_past n b p l = ap (λ (k : ℕ). count k p) (let same : min (b + 1) n ≡ min b n = omega arith in same)
 
 -- whether some number below n passes a test
-pub some-none : (p : ℕ → Bool) → ltb 0 (count 0 p) ≡ false
+pub some_none : (p : ℕ → Bool) → ltb 0 (count 0 p) ≡ false
 unfolding sum
-some-none p = refl
+some_none p = refl
 
 pub some_more : (n : ℕ) (p : ℕ → Bool) → ltb 0 (count (n + 1) p) ≡ (ltb 0 (count n p) || p n)
-some_more n p = ap (λ (k : ℕ). ltb 0 k) (count-more n p) ∙ go (is (ltb 0 (count n p)))
+some_more n p = ap (λ (k : ℕ). ltb 0 k) (count_more n p) ∙ go (is (ltb 0 (count n p)))
   where
     last : (m : ℕ) (b : Bool) → m ≡ 0 → ltb 0 (m + bit b) ≡ b
     last m true z = ltb_yes 0 (m + 1) (omega arith)
@@ -49,28 +49,28 @@ some_more n p = ap (λ (k : ℕ). ltb 0 k) (count-more n p) ∙ go (is (ltb 0 (c
 
     go : Is (ltb 0 (count n p)) → ltb 0 (count n p + bit (p n)) ≡ (ltb 0 (count n p) || p n)
     go (is_true e) = rw e (ltb_yes 0 (count n p + bit (p n)) (omega (arith, lt_of 0 (count n p) e)))
-    go (is_false e) = rw e (last (count n p) (p n) (omega (arith, ge-of 0 (count n p) e)))
+    go (is_false e) = rw e (last (count n p) (p n) (omega (arith, ge_of 0 (count n p) e)))
 
-pub every-none : (p : ℕ → Bool) → every 0 p ≡ true
+pub every_none : (p : ℕ → Bool) → every 0 p ≡ true
 unfolding every
-every-none p = refl
+every_none p = refl
 
 pub every_more : (n : ℕ) (p : ℕ → Bool) → every n p ≡ true → p n ≡ true → every (n + 1) p ≡ true
 unfolding every
 every_more n p e q = rw (add-one n) (both (every n p) (p n) e q)
 
-pub lowest-none : (f : ℕ → ℕ) (m : ℕ) → lowest 0 f m ≡ m
+pub lowest_none : (f : ℕ → ℕ) (m : ℕ) → lowest 0 f m ≡ m
 unfolding lowest
-lowest-none f m = refl
+lowest_none f m = refl
 
-pub lowest-more : (n : ℕ) (f : ℕ → ℕ) (m : ℕ) → lowest (n + 1) f m ≡ min (lowest n f m) (f n)
+pub lowest_more : (n : ℕ) (f : ℕ → ℕ) (m : ℕ) → lowest (n + 1) f m ≡ min (lowest n f m) (f n)
 unfolding lowest
-lowest-more n f m = rw (add-one n) refl
+lowest_more n f m = rw (add-one n) refl
 
-pub greatest-none : (f : ℕ → ℕ) → greatest 0 f ≡ f 0
+pub greatest_none : (f : ℕ → ℕ) → greatest 0 f ≡ f 0
 unfolding greatest
-greatest-none f = refl
+greatest_none f = refl
 
-pub greatest-more : (n : ℕ) (f : ℕ → ℕ) → greatest (n + 1) f ≡ max (greatest n f) (f (n + 1))
+pub greatest_more : (n : ℕ) (f : ℕ → ℕ) → greatest (n + 1) f ≡ max (greatest n f) (f (n + 1))
 unfolding greatest
-greatest-more n f = rw (add-one n) refl
+greatest_more n f = rw (add-one n) refl

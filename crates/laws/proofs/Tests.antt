@@ -1,7 +1,7 @@
 -- Laws of tests, that is, of Bools.
 --
 -- In order: a test as two cases (`Is`), values that are not equal, equal tests; negation; conjunction: both parts, one that fails, one that excludes or implies the other;
--- alternatives; `not a || b` as an implication; a conjunction of several tests, both ways (`conjunction-at`, `all-conjunction`).
+-- alternatives; `not a || b` as an implication; a conjunction of several tests, both ways (`conjunction_at`, `all_conjunction`).
 -- What a comparison of numbers says is in Comparisons, a test of every number in Every, how many numbers pass one in Counts.
 -- Assumes nothing.
 use Prim.Native.Nat.{ℕ, zero, suc}
@@ -30,36 +30,36 @@ is false = is_false refl
 pub clash : true ≡ false → ⊥
 clash p = subst T p tt
 
-pub none-some : {A : Type 0} {a : A} → none ≡ some a → ⊥
-none-some e = let z : ◌≡◌ {A = ℕ} 0 1 = cc in omega arith
+pub none_some : {A : Type 0} {a : A} → none ≡ some a → ⊥
+none_some e = let z : ◌≡◌ {A = ℕ} 0 1 = cc in omega arith
 
 pub not-true : (b : Bool) → (b ≡ true → ⊥) → b ≡ false
 not-true true h = absurd (h refl)
 not-true false h = refl
 
 -- two tests that imply each other are equal
-pub test-ext : (a b : Bool) → (a ≡ true → b ≡ true) → (b ≡ true → a ≡ true) → a ≡ b
-test-ext true b f g = sym (f refl)
-test-ext false b f g = sym (not-true b (λ e. clash (sym (g e))))
+pub test_ext : (a b : Bool) → (a ≡ true → b ≡ true) → (b ≡ true → a ≡ true) → a ≡ b
+test_ext true b f g = sym (f refl)
+test_ext false b f g = sym (not-true b (λ e. clash (sym (g e))))
 
 -- the test of equality, both ways
-pub beq-eq : (a b : Bool) → beq a b ≡ true → a ≡ b
-beq-eq true true e = refl
-beq-eq true false e = sym e
-beq-eq false true e = e
-beq-eq false false e = refl
+pub beq_eq : (a b : Bool) → beq a b ≡ true → a ≡ b
+beq_eq true true e = refl
+beq_eq true false e = sym e
+beq_eq false true e = e
+beq_eq false false e = refl
 
-pub eq-beq : (a b : Bool) → a ≡ b → beq a b ≡ true
-eq-beq true true e = refl
-eq-beq true false e = sym e
-eq-beq false true e = e
-eq-beq false false e = refl
+pub eq_beq : (a b : Bool) → a ≡ b → beq a b ≡ true
+eq_beq true true e = refl
+eq_beq true false e = sym e
+eq_beq false true e = e
+eq_beq false false e = refl
 
 -- ---- negation
 
-pub not-is-true : (b : Bool) → b ≡ false → not b ≡ true
-not-is-true true e = sym e
-not-is-true false e = refl
+pub not_is_true : (b : Bool) → b ≡ false → not b ≡ true
+not_is_true true e = sym e
+not_is_true false e = refl
 
 pub false_of_not : (b : Bool) → not b ≡ true → b ≡ false
 false_of_not true e = sym e
@@ -70,8 +70,8 @@ pub true_of_not : (b : Bool) → not b ≡ false → b ≡ true
 true_of_not true e = refl
 true_of_not false e = sym e
 
-pub not-is-false : (b : Bool) → b ≡ true → not b ≡ false
-not-is-false b e = rw e
+pub not_is_false : (b : Bool) → b ≡ true → not b ≡ false
+not_is_false b e = rw e
 
 -- ---- conjunction
 
@@ -80,21 +80,21 @@ pub both : (a b : Bool) → a ≡ true → b ≡ true → (a && b) ≡ true
 both true b p q = q
 both false b p q = p
 
-pub left-of : (a b : Bool) → (a && b) ≡ true → a ≡ true
-left-of true b p = refl
-left-of false b p = p
+pub left_of : (a b : Bool) → (a && b) ≡ true → a ≡ true
+left_of true b p = refl
+left_of false b p = p
 
 pub right_of : (a b : Bool) → (a && b) ≡ true → b ≡ true
 right_of true b p = p
 right_of false b p = absurd (subst T (sym p) tt)
 
 -- a conjunction that fails by one side
-pub fails-left : (a b : Bool) → a ≡ false → (a && b) ≡ false
-fails-left a b e = rw e
+pub fails_left : (a b : Bool) → a ≡ false → (a && b) ≡ false
+fails_left a b e = rw e
 
-pub fails-right : (a b : Bool) → b ≡ false → (a && b) ≡ false
-fails-right true b e = e
-fails-right false b e = refl
+pub fails_right : (a b : Bool) → b ≡ false → (a && b) ≡ false
+fails_right true b e = e
+fails_right false b e = refl
 
 -- one test excludes the other
 pub never_both : (a b : Bool) → (a ≡ true → b ≡ false) → (a && b) ≡ false
@@ -102,10 +102,10 @@ never_both true b h = h refl
 never_both false b h = refl
 
 -- a test that is implied adds nothing
-pub and-implied : (a b : Bool) → (b ≡ true → a ≡ true) → (a && b) ≡ b
-and-implied true b f = refl
-and-implied false true f = f refl
-and-implied false false f = refl
+pub and_implied : (a b : Bool) → (b ≡ true → a ≡ true) → (a && b) ≡ b
+and_implied true b f = refl
+and_implied false true f = f refl
+and_implied false false f = refl
 
 -- nor does one that holds
 pub and-true : (a b : Bool) → b ≡ true → (a && b) ≡ a
@@ -163,30 +163,30 @@ pub data AllTrue : List Bool → Type 0 where
   end : AllTrue []
   ◌and◌ : {b : Bool} {l : List Bool} → b ≡ true → AllTrue l → AllTrue (b ∷ l)
 
-chain-all : (a : Bool) (l : List Bool) → chain a l ≡ true → AllTrue (a ∷ l)
-chain-all a [] e = e and end
-chain-all a (b ∷ l) e = go (chain-all (a && b) l e)
+chain_all : (a : Bool) (l : List Bool) → chain a l ≡ true → AllTrue (a ∷ l)
+chain_all a [] e = e and end
+chain_all a (b ∷ l) e = go (chain_all (a && b) l e)
   where
     go : AllTrue ((a && b) ∷ l) → AllTrue (a ∷ b ∷ l)
-    go (p and w) = left-of a b p and right_of a b p and w
+    go (p and w) = left_of a b p and right_of a b p and w
 
-conjunction-all : (l : List Bool) → conjunction l ≡ true → AllTrue l
-conjunction-all [] e = end
-conjunction-all (a ∷ l) e = chain-all a l e
+conjunction_all : (l : List Bool) → conjunction l ≡ true → AllTrue l
+conjunction_all [] e = end
+conjunction_all (a ∷ l) e = chain_all a l e
 
-all-at : (l : List Bool) → AllTrue l → (i : ℕ) → get_or l i true ≡ true
-all-at [] end i = refl
-all-at (b ∷ l) (e and w) zero = e
-all-at (b ∷ l) (e and w) (suc i) = all-at l w i
+all_at : (l : List Bool) → AllTrue l → (i : ℕ) → get_or l i true ≡ true
+all_at [] end i = refl
+all_at (b ∷ l) (e and w) zero = e
+all_at (b ∷ l) (e and w) (suc i) = all_at l w i
 
 -- a conjunction holds exactly if each of its tests does: from the conjunction the test at place i, from the tests the conjunction
-pub conjunction-at : (l : List Bool) → conjunction l ≡ true → (i : ℕ) → get_or l i true ≡ true
-conjunction-at l e i = all-at l (conjunction-all l e) i
+pub conjunction_at : (l : List Bool) → conjunction l ≡ true → (i : ℕ) → get_or l i true ≡ true
+conjunction_at l e i = all_at l (conjunction_all l e) i
 
-all-chain : (a : Bool) (l : List Bool) → a ≡ true → AllTrue l → chain a l ≡ true
-all-chain a [] e end = e
-all-chain a (b ∷ l) e (p and w) = all-chain (a && b) l (both a b e p) w
+all_chain : (a : Bool) (l : List Bool) → a ≡ true → AllTrue l → chain a l ≡ true
+all_chain a [] e end = e
+all_chain a (b ∷ l) e (p and w) = all_chain (a && b) l (both a b e p) w
 
-pub all-conjunction : (l : List Bool) → AllTrue l → conjunction l ≡ true
-all-conjunction [] end = refl
-all-conjunction (a ∷ l) (e and w) = all-chain a l e w
+pub all_conjunction : (l : List Bool) → AllTrue l → conjunction l ≡ true
+all_conjunction [] end = refl
+all_conjunction (a ∷ l) (e and w) = all_chain a l e w

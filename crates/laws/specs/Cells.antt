@@ -11,5 +11,5 @@ takes a f i b = f b && a i && eqb (count i a) (count b f)
 
 -- What cell b of the slot then holds: a free cell what the job writes that takes it, `v i`, or 0 if
 -- none does; any other cell what it held.
-abbrev pub slotCell : ℕ → (ℕ → Bool) → (ℕ → Bool) → (ℕ → ℕ) → (ℕ → ℕ) → ℕ → ℕ
-slotCell k a f v t b = cond (f b) (sum k (λ i. only (takes a f i b) (v i))) (t b)
+abbrev pub slot_cell : ℕ → (ℕ → Bool) → (ℕ → Bool) → (ℕ → ℕ) → (ℕ → ℕ) → ℕ → ℕ
+slot_cell k a f v t b = cond (f b) (sum k (λ i. only (takes a f i b) (v i))) (t b)

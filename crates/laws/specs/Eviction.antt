@@ -21,10 +21,10 @@ ones [] = 0
 ones (b ∷ e) = bit b + ones e
 
 -- how many of the set's cells stand in slot s
-unfoldable pub evictedIn : List ℕ → List Bool → ℕ → ℕ
-evictedIn [] e s = 0
-evictedIn (z ∷ zs) [] s = 0
-evictedIn (z ∷ zs) (b ∷ e) s = only b (bit (eqb s z)) + evictedIn zs e s
+unfoldable pub evicted_in : List ℕ → List Bool → ℕ → ℕ
+evicted_in [] e s = 0
+evicted_in (z ∷ zs) [] s = 0
+evicted_in (z ∷ zs) (b ∷ e) s = only b (bit (eqb s z)) + evicted_in zs e s
 
 -- the evicted cells of priority p or better: how many places are true in both, w the cells of that
 -- priority

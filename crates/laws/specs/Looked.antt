@@ -1,5 +1,5 @@
 -- How deep a search for cells to evict has cut: the place of the last cell it took, and the number
--- of cells it looked at (request 2026-10). The meaning is `lastTrue` of the set found; `looked` is
+-- of cells it looked at (request 2026-10). The meaning is `last_true` of the set found; `looked` is
 -- what a search counts that stops when nothing is short. proofs/ shows that they agree. Assumes
 -- nothing.
 use Rattle.std.specs.Prelude.{ℕ, zero, suc, Bool, true, false, List, [], ◌∷◌, ltb}
@@ -13,9 +13,9 @@ further b (suc m) = suc (suc m)
 
 -- The place of the last true, counted from 1, or 0 if none is true. Request 2026-10: "the place of
 -- the last lost cell .. counted from 1, or 0 when none is lost".
-unfoldable pub lastTrue : List Bool → ℕ
-lastTrue [] = 0
-lastTrue (b ∷ d) = further b (lastTrue d)
+unfoldable pub last_true : List Bool → ℕ
+last_true [] = 0
+last_true (b ∷ d) = further b (last_true d)
 
 -- How many cells a search tries: it walks the cells in order, takes each one that lowers the
 -- shortage, and stops where nothing is short.

@@ -44,12 +44,12 @@ abbrev pub TotalTies : Ties → Type 0
 TotalTies ties = (s : ℕ) (p : ℕ → Bool) → Total (ties s p)
 
 -- "`(tie place)` brings back the old order": "Equal ones: the earlier line first"
-abbrev pub tiePlace : Ties
-tiePlace s p j i = ltb j i
+abbrev pub tie_place : Ties
+tie_place s p j i = ltb j i
 
 -- "those with a cell in the slot just before come first, then file or call order"
-abbrev pub tieHold : Ties
-tieHold s p j i = ltb (bit (p i)) (bit (p j) + bit (ltb j i))
+abbrev pub tie_hold : Ties
+tie_hold s p j i = ltb (bit (p i)) (bit (p j) + bit (ltb j i))
 
 -- those of the first k jobs with a cell in the slot just before slot s, where `a i s` says that job
 -- i has one in slot s: in slot s - 1 exactly, and before the first slot nobody
@@ -65,13 +65,13 @@ nobody i s = false
 
 -- Job j goes first, before job i: it needs more, or as much and the order of ties r puts it first.
 -- Document 01: "those with the most slots still to get".
-abbrev pub goesFirst : (ℕ → ℕ → Bool) → (ℕ → ℕ) → ℕ → ℕ → Bool
-goesFirst r c j i = ltb (c i) (c j + bit (r j i))
+abbrev pub goes_first : (ℕ → ℕ → Bool) → (ℕ → ℕ) → ℕ → ℕ → Bool
+goes_first r c j i = ltb (c i) (c j + bit (r j i))
 
 -- One slot with d free cells: job i gets a cell in it. Document 01: "as many presets as there are
 -- free bridges, those with the most slots still to get, never one with none left".
 abbrev pub chosen : (ℕ → ℕ → Bool) → ℕ → (ℕ → ℕ) → ℕ → ℕ → Bool
-chosen r k c d i = ltb 0 (c i) && ltb (position k (goesFirst r c) i) d
+chosen r k c d i = ltb 0 (c i) && ltb (position k (goes_first r c) i) d
 
 -- The same as the papers word it, for a slot with d free cells, needs c, the order of ties r and
 -- the set D of those that get a cell.
@@ -94,31 +94,31 @@ abbrev pub holds : AtSlot → ℕ → Bool
 holds r i = ltb 0 (at r.held i)
 
 -- whom the rule chooses in slot s with d free cells
-abbrev pub chosenAt : Ties → ℕ → ℕ → AtSlot → ℕ → Bool
-chosenAt ties d s r i = chosen (ties s (holds r)) (length r.needs) (at r.needs) d i
+abbrev pub chosen_at : Ties → ℕ → ℕ → AtSlot → ℕ → Bool
+chosen_at ties d s r i = chosen (ties s (holds r)) (length r.needs) (at r.needs) d i
 
 -- Slot s went by: each chosen job needs one slot less; those chosen, or standing there already,
 -- have a cell in it.
 unfoldable pub served : Ties → (ℕ → ℕ → Bool) → ℕ → ℕ → AtSlot → AtSlot
 served ties standing d s r = record {
-  needs = tabulate (length r.needs) (λ i. at r.needs i - bit (chosenAt ties d s r i));
-  held = tabulate (length r.needs) (λ i. bit (standing i s || chosenAt ties d s r i));
+  needs = tabulate (length r.needs) (λ i. at r.needs i - bit (chosen_at ties d s r i));
+  held = tabulate (length r.needs) (λ i. bit (standing i s || chosen_at ties d s r i));
 }
 
 -- What the rule has before slot s where each slot before it went by the rule (largest remaining
 -- time first, LRTF), for jobs with the needs c, x s free cells in slot s, and those of whom
 -- `standing i s` says that they have a cell in slot s already.
-unfoldable pub atSlot : Ties → (ℕ → ℕ → Bool) → List ℕ → (ℕ → ℕ) → ℕ → AtSlot
-atSlot ties standing c x zero = record { needs = c; held = [] }
-atSlot ties standing c x (suc s) = served ties standing (x s) s (atSlot ties standing c x s)
+unfoldable pub at_slot : Ties → (ℕ → ℕ → Bool) → List ℕ → (ℕ → ℕ) → ℕ → AtSlot
+at_slot ties standing c x zero = record { needs = c; held = [] }
+at_slot ties standing c x (suc s) = served ties standing (x s) s (at_slot ties standing c x s)
 
 -- the needs that are left before slot s
 abbrev pub left : Ties → (ℕ → ℕ → Bool) → List ℕ → (ℕ → ℕ) → ℕ → List ℕ
-left ties standing c x s = (atSlot ties standing c x s).needs
+left ties standing c x s = (at_slot ties standing c x s).needs
 
 -- the placement that LRTF makes
 abbrev pub lrtf : Ties → (ℕ → ℕ → Bool) → List ℕ → (ℕ → ℕ) → ℕ → ℕ → Bool
-lrtf ties standing c x i s = chosenAt ties (x s) s (atSlot ties standing c x s) i
+lrtf ties standing c x i s = chosen_at ties (x s) s (at_slot ties standing c x s) i
 
 -- ---- the r largest needs
 

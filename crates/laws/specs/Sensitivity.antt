@@ -11,5 +11,5 @@ OneMore n x z y = (s : ℕ) → s < n → y s ≡ put x z s
 -- Of the first k numbers none falls and at most one rises, by 1: m has those of n, or those of n
 -- with one higher by 1.
 pub data OneRaised (k : ℕ) (n m : ℕ → ℕ) : Type 0 where
-  none-rises : ((i : ℕ) → i < k → m i ≡ n i) → OneRaised k n m
-  one-rises : (j : ℕ) → j < k → m j ≡ suc (n j) → ((i : ℕ) → i < k → (i ≡ j → ⊥) → m i ≡ n i) → OneRaised k n m
+  none_rises : ((i : ℕ) → i < k → m i ≡ n i) → OneRaised k n m
+  one_rises : (j : ℕ) → j < k → m j ≡ suc (n j) → ((i : ℕ) → i < k → (i ≡ j → ⊥) → m i ≡ n i) → OneRaised k n m

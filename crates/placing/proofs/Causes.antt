@@ -1,7 +1,7 @@
 -- The causes tried on a running frame and on a call, read off as facts: what holds where none of them does, and back.
 --
--- In order: a cause that holds (`met`); 8 and the head record's 2 (`long-and-valid`, `no-record-cause`); with 11 (`running-of`, `of-running`); 2, 4 and 9 of a call
--- (`jobs-inside`, `good_of`).
+-- In order: a cause that holds (`met`); 8 and the head record's 2 (`long_and_valid`, `no_record_cause`); with 11 (`running_of`, `of_running`); 2, 4 and 9 of a call
+-- (`jobs_inside`, `good_of`).
 -- Assumes nothing.
 use Prim.Native.Nat.{ℕ, ◌+◌, ◌≤◌, ◌<◌}
 use mathlib.Core.Path.{◌≡◌, ◌∙◌, sym}
@@ -11,19 +11,19 @@ use mathlib.Core.List.{List, [], ◌∷◌}
 use lib.ListN.{length}
 use lib.Dec.{ltb, eqb}
 use Rattle.laws.specs.Sums.{every}
-use Rattle.laws.proofs.Tests.{left-of, right_of, false_of_not, true_of_not, not-is-false}
-use Rattle.laws.proofs.Comparisons.{ge-of, ne_of, ltb_no}
-use Rattle.laws.proofs.Every.{every-all}
+use Rattle.laws.proofs.Tests.{left_of, right_of, false_of_not, true_of_not, not_is_false}
+use Rattle.laws.proofs.Comparisons.{ge_of, ne_of, ltb_no}
+use Rattle.laws.proofs.Every.{every_all}
 use Rattle.station.specs.Head.{Head, Job, valid, within, Valid}
-use Rattle.station.specs.Refusal.{tooShort, outOfLimits, notWellFormed, numberUsed, tooMany, first_of, Refusal, try}
-use Rattle.station.proofs.Theorems.{first-of-none, passed, first-none, append-none, append-left-none}
-use Rattle.station.proofs.Theorems.{within_low, within-high, valid-of, of-valid}
-use Rattle.placing.specs.Table.{Cells, isUsed, jobCount}
-use Rattle.placing.specs.State.{State, wellFormedFrame}
-use Rattle.placing.specs.Valid.{jobAt}
-use Rattle.placing.specs.Outcomes.{frameCauses, jobCauses, jobsOutside, jobsUsed, jobsTooMany}
+use Rattle.station.specs.Refusal.{too_short, out_of_limits, not_well_formed, number_used, too_many, first_of, Refusal, try}
+use Rattle.station.proofs.Theorems.{first_of_none, passed, first_none, append_none, append_left_none}
+use Rattle.station.proofs.Theorems.{within_low, within_high, valid_of, of_valid}
+use Rattle.placing.specs.Table.{Cells, is_used, job_count}
+use Rattle.placing.specs.State.{State, well_formed_frame}
+use Rattle.placing.specs.Valid.{job_at}
+use Rattle.placing.specs.Outcomes.{frame_causes, job_causes, jobs_outside, jobs_used, jobs_too_many}
 use Rattle.placing.specs.Claims.{Running}
-use Rattle.placing.proofs.WellFormedFrame.{frame-test}
+use Rattle.placing.proofs.WellFormedFrame.{frame_test}
 use Rattle.placing.proofs.NewJobs.{Good}
 
 -- a cause that holds is the first
@@ -33,76 +33,76 @@ met r b cs e = rw e
 
 -- ---- 8 and the head record's 2
 
-abbrev pub recordCauses : Head → List ℕ → List (Option Refusal)
-recordCauses h t = try tooShort (ltb (length t) 512) ∷ try outOfLimits (not (valid h)) ∷ []
+abbrev pub record_causes : Head → List ℕ → List (Option Refusal)
+record_causes h t = try too_short (ltb (length t) 512) ∷ try out_of_limits (not (valid h)) ∷ []
 
-pub long-and-valid : (h : Head) (t : List ℕ) → first_of (recordCauses h t) ≡ none → (512 ≤ length t) × Valid h
-long-and-valid h t e =
-    let eight = first-none tooShort (ltb (length t) 512) _ e in
-    let two = first-none outOfLimits (not (valid h)) [] eight.1 in
-    (ge-of (length t) 512 eight.0, valid-of h (true_of_not _ two.0))
+pub long_and_valid : (h : Head) (t : List ℕ) → first_of (record_causes h t) ≡ none → (512 ≤ length t) × Valid h
+long_and_valid h t e =
+    let eight = first_none too_short (ltb (length t) 512) _ e in
+    let two = first_none out_of_limits (not (valid h)) [] eight.1 in
+    (ge_of (length t) 512 eight.0, valid_of h (true_of_not _ two.0))
 
-pub no-record-cause : (h : Head) (t : List ℕ) → 512 ≤ length t → Valid h → first_of (recordCauses h t) ≡ none
-no-record-cause h t long ok =
-    passed tooShort (ltb (length t) 512) _ (ltb_no (length t) 512 long)
-    ∙ passed outOfLimits (not (valid h)) [] (not-is-false _ (of-valid h ok))
-    ∙ first-of-none
+pub no_record_cause : (h : Head) (t : List ℕ) → 512 ≤ length t → Valid h → first_of (record_causes h t) ≡ none
+no_record_cause h t long ok =
+    passed too_short (ltb (length t) 512) _ (ltb_no (length t) 512 long)
+    ∙ passed out_of_limits (not (valid h)) [] (not_is_false _ (of_valid h ok))
+    ∙ first_of_none
 
 -- ---- and 11
 
-abbrev tryEleven : Head → State → List (Option Refusal)
-tryEleven h st = try notWellFormed (not (wellFormedFrame h st)) ∷ []
+abbrev try_eleven : Head → State → List (Option Refusal)
+try_eleven h st = try not_well_formed (not (well_formed_frame h st)) ∷ []
 
-pub running-of : (h : Head) (st : State) → first_of (frameCauses h st) ≡ none → Running h st
-running-of h st e =
-    let before = append-left-none (recordCauses h st.table) (tryEleven h st) e in
-    let passes = long-and-valid h st.table before in
-    let eleven = first-none notWellFormed (not (wellFormedFrame h st)) [] (sym (append-none (recordCauses h st.table) (tryEleven h st) before) ∙ e) in
-    record { long = passes.0; valid = passes.1; wellFormed = (frame-test h st).0 (true_of_not _ eleven.0) }
+pub running_of : (h : Head) (st : State) → first_of (frame_causes h st) ≡ none → Running h st
+running_of h st e =
+    let before = append_left_none (record_causes h st.table) (try_eleven h st) e in
+    let passes = long_and_valid h st.table before in
+    let eleven = first_none not_well_formed (not (well_formed_frame h st)) [] (sym (append_none (record_causes h st.table) (try_eleven h st) before) ∙ e) in
+    record { long = passes.0; valid = passes.1; well_formed = (frame_test h st).0 (true_of_not _ eleven.0) }
 
-pub of-running : (h : Head) (st : State) → Running h st → first_of (frameCauses h st) ≡ none
-of-running h st r =
-    append-none (recordCauses h st.table) (tryEleven h st) (no-record-cause h st.table r.long r.valid)
-    ∙ passed notWellFormed (not (wellFormedFrame h st)) [] (not-is-false _ ((frame-test h st).1 r.wellFormed))
-    ∙ first-of-none
+pub of_running : (h : Head) (st : State) → Running h st → first_of (frame_causes h st) ≡ none
+of_running h st r =
+    append_none (record_causes h st.table) (try_eleven h st) (no_record_cause h st.table r.long r.valid)
+    ∙ passed not_well_formed (not (well_formed_frame h st)) [] (not_is_false _ ((frame_test h st).1 r.well_formed))
+    ∙ first_of_none
 
 -- ---- 2, 4 and 9 of a call
 
 -- each job within its limits
-pub jobs-inside : (jobs : List Job) → jobsOutside jobs ≡ false
+pub jobs_inside : (jobs : List Job) → jobs_outside jobs ≡ false
     → (1 ≤ length jobs)
     × (length jobs ≤ 8)
-    × ((i : ℕ) → i < length jobs → (within 1 255 (jobAt jobs i).number ≡ true) × (within 1 64 (jobAt jobs i).slots ≡ true))
-jobs-inside jobs e =
+    × ((i : ℕ) → i < length jobs → (within 1 255 (job_at jobs i).number ≡ true) × (within 1 64 (job_at jobs i).slots ≡ true))
+jobs_inside jobs e =
     let p : Bool = within 1 8 (length jobs) in
-    let q : ℕ → Bool = λ i. within 1 255 (jobAt jobs i).number && within 1 64 (jobAt jobs i).slots in
+    let q : ℕ → Bool = λ i. within 1 255 (job_at jobs i).number && within 1 64 (job_at jobs i).slots in
     let ok : (p && every (length jobs) q) ≡ true = true_of_not _ e in
-    let number = left-of p (every (length jobs) q) ok in
-    let each = every-all (length jobs) q (right_of p (every (length jobs) q) ok) in (
+    let number = left_of p (every (length jobs) q) ok in
+    let each = every_all (length jobs) q (right_of p (every (length jobs) q) ok) in (
       within_low 1 8 (length jobs) number,
-      within-high 1 8 (length jobs) number,
+      within_high 1 8 (length jobs) number,
       λ i l. (
-        left-of (within 1 255 (jobAt jobs i).number) (within 1 64 (jobAt jobs i).slots) (each i l),
-        right_of (within 1 255 (jobAt jobs i).number) (within 1 64 (jobAt jobs i).slots) (each i l),
+        left_of (within 1 255 (job_at jobs i).number) (within 1 64 (job_at jobs i).slots) (each i l),
+        right_of (within 1 255 (job_at jobs i).number) (within 1 64 (job_at jobs i).slots) (each i l),
       ),
     )
 
-pub good_of : (h : Head) (jobs : List Job) (t : Cells) → first_of (jobCauses h jobs t) ≡ none → Good h t jobs
+pub good_of : (h : Head) (jobs : List Job) (t : Cells) → first_of (job_causes h jobs t) ≡ none → Good h t jobs
 good_of h jobs t e =
-    let two = first-none outOfLimits (jobsOutside jobs) _ e in
-    let four = first-none numberUsed (jobsUsed h t jobs) _ two.1 in
-    let nine = first-none tooMany (jobsTooMany h t jobs) [] four.1 in
-    let inside = jobs-inside jobs two.0 in
-    let fresh : ℕ → Bool = λ i. not (isUsed h t (jobAt jobs i).number) in
-    let other : ℕ → ℕ → Bool = λ i j. not (eqb (jobAt jobs j).number (jobAt jobs i).number) in
-    let each = every-all (length jobs) (λ i. fresh i && every i (other i)) (true_of_not _ four.0) in
+    let two = first_none out_of_limits (jobs_outside jobs) _ e in
+    let four = first_none number_used (jobs_used h t jobs) _ two.1 in
+    let nine = first_none too_many (jobs_too_many h t jobs) [] four.1 in
+    let inside = jobs_inside jobs two.0 in
+    let fresh : ℕ → Bool = λ i. not (is_used h t (job_at jobs i).number) in
+    let other : ℕ → ℕ → Bool = λ i j. not (eqb (job_at jobs j).number (job_at jobs i).number) in
+    let each = every_all (length jobs) (λ i. fresh i && every i (other i)) (true_of_not _ four.0) in
     record {
-      low = λ i l. within_low 1 255 (jobAt jobs i).number (inside.2 i l).0;
-      high = λ i l. within-high 1 255 (jobAt jobs i).number (inside.2 i l).0;
-      fresh = λ i l. false_of_not (isUsed h t (jobAt jobs i).number) (left-of (fresh i) (every i (other i)) (each i l));
+      low = λ i l. within_low 1 255 (job_at jobs i).number (inside.2 i l).0;
+      high = λ i l. within_high 1 255 (job_at jobs i).number (inside.2 i l).0;
+      fresh = λ i l. false_of_not (is_used h t (job_at jobs i).number) (left_of (fresh i) (every i (other i)) (each i l));
       distinct = λ i j m l.
-          ne_of (jobAt jobs j).number (jobAt jobs i).number
-          (false_of_not (eqb (jobAt jobs j).number (jobAt jobs i).number)
-          (every-all i (other i) (right_of (fresh i) (every i (other i)) (each i l)) j m));
-      few = ge-of 64 (jobCount h t + length jobs) nine.0;
+          ne_of (job_at jobs j).number (job_at jobs i).number
+          (false_of_not (eqb (job_at jobs j).number (job_at jobs i).number)
+          (every_all i (other i) (right_of (fresh i) (every i (other i)) (each i l)) j m));
+      few = ge_of 64 (job_count h t + length jobs) nine.0;
     }

@@ -1,12 +1,12 @@
 -- Small frames computed and proved: what the definitions of this layer say of them, and of the frame with free 3, 1, 1, 1 what holds of every
 -- placement.
 --
--- In order: what computes; a plan's ties and bridges (`three-planned`); the two orders of ties (`held-..`, `calls-by-order`); the clock: the slots above it, its range, its own slot (`clock-..`); the worst priority is evicted
--- (`worst-evicted`); what every valid placement of a call that is taken loses (`must-go`, `goes`); free 3, 1, 1, 1: no placement in the empty cells
--- (`no-empty-placement`), one cell must go and one goes (`one-must-go`, `one-goes`); the room for r at both edges (`capacity-3111`, `capacity-clock`, `longest-first`,
--- `plan-capacity`, `no-plan-3111`, `plan-3121`). Then what holds the definitions to document 01 from two sides, each a list of cases and one fact: each clause of a sound table broken
--- alone (`sound-broken`); the limits of a call and of the lent table and clock at both edges, and the causes of plan and call two at a time in the listed order (`plans-answered`,
--- `calls-answered`); the records of a head and of a list at their edges (`records-answered`, `plan-list`, `call-list`); the order of loss (`losses`). (The starred frames of document
+-- In order: what computes; a plan's ties and bridges (`three_planned`); the two orders of ties (`held-..`, `calls_by_order`); the clock: the slots above it, its range, its own slot (`clock-..`); the worst priority is evicted
+-- (`worst_evicted`); what every valid placement of a call that is taken loses (`must_go`, `goes`); free 3, 1, 1, 1: no placement in the empty cells
+-- (`no_empty_placement`), one cell must go and one goes (`one_must_go`, `one_goes`); the room for r at both edges (`capacity_3111`, `capacity_clock`, `longest_first`,
+-- `plan_capacity_lem`, `no_plan_3111`, `plan_3121`). Then what holds the definitions to document 01 from two sides, each a list of cases and one fact: each clause of a sound table broken
+-- alone (`sound_broken`); the limits of a call and of the lent table and clock at both edges, and the causes of plan and call two at a time in the listed order (`plans_answered`,
+-- `calls_answered`); the records of a head and of a list at their edges (`records_answered`, `plan_list`, `call_list`); the order of loss (`losses`). (The starred frames of document
 -- 01, as texts, are in the frame crate's proofs/Starred.antt.)
 -- Assumes nothing.
 use Prim.Native.Nat.{ℕ, zero, suc, ◌+◌, ◌≤◌}
@@ -17,53 +17,53 @@ use mathlib.Core.List.{List, [], ◌∷◌, ◌++◌, map}
 use lib.ListN.{take, replicate}
 use Rattle.laws.specs.Sums.{sum, greatest, every}
 use Rattle.laws.specs.Lists.{at, tabulate}
-use Rattle.laws.specs.Placement.{Ties, tiePlace, tieHold, served, atSlot, Placed, everywhere, excess}
+use Rattle.laws.specs.Placement.{Ties, tie_place, tie_hold, served, at_slot, Placed, everywhere, excess}
 use Rattle.laws.specs.Grants.{granted, turn, most}
 use Rattle.laws.specs.Eviction.{added, searched, ones}
-use Rattle.laws.proofs.Placement.{placed-fits}
-use Rattle.laws.proofs.Excess.{excess-none}
-use Rattle.station.specs.Head.{Head, Preset, Job, withSupply, withTie, valid, hasNumber, allInLimits, allDistinct, masksIn}
-use Rattle.station.specs.Refusal.{Refusal, first_of, outOfLimits, numberUsed, mandatoryNotFeasible, callNotFeasible, tooShort, tooMany, notWellFormed}
-use Rattle.station.proofs.Theorems.{valid-of}
+use Rattle.laws.proofs.Placement.{placed_fits}
+use Rattle.laws.proofs.Excess.{excess_none}
+use Rattle.station.specs.Head.{Head, Preset, Job, with_supply, with_tie, valid, has_number, all_in_limits, all_distinct, masks_in}
+use Rattle.station.specs.Refusal.{Refusal, first_of, out_of_limits, number_used, mandatory_not_feasible, call_not_feasible, too_short, too_many, not_well_formed}
+use Rattle.station.proofs.Theorems.{valid_of}
 use Rattle.station.specs.declared.types.Preset as record-of-preset
 use Rattle.station.specs.declared.types.Head as record-of-head
 use Rattle.station.specs.declared.types.Job as record-of-job
 use Rattle.station.specs.declared.types.Refusal.TheVariants.{TooShort}
-use Rattle.placing.specs.Table.{cell, cells, laidOut, wellFormed}
+use Rattle.placing.specs.Table.{cell, cells, laid_out, well_formed}
 use Rattle.placing.specs.State.{State, state_of}
-use Rattle.placing.specs.Valid.{ValidPlan, firstClock, clockIn, usable, ValidCall, lost}
-use Rattle.placing.specs.Plan.{planFreeCount, grants, planned, placing, needsFrom}
-use Rattle.placing.specs.Call.{freeNumberFrom, called, evictedSet, evictionOrder, downward, in_set, callFits}
-use Rattle.placing.specs.Capacity.{longestJobs, freeCapacity, callCapacity, largestMandatory, planCapacity}
+use Rattle.placing.specs.Valid.{ValidPlan, first_clock, clock_in, usable, ValidCall, lost}
+use Rattle.placing.specs.Plan.{plan_free_count, grants, planned, placing, needs_from}
+use Rattle.placing.specs.Call.{free_number_from, called, evicted_set, eviction_order, downward, in_set, call_fits}
+use Rattle.placing.specs.Capacity.{longest_jobs, free_capacity, call_capacity, largest_mandatory, plan_capacity}
 use Rattle.placing.specs.Outcomes.{cost, written, plan_of, CallAnswer, CallOutcome, PlanAnswer, PlanOutcome, call_of}
-use Rattle.placing.specs.Causes.{callJobs}
-use Rattle.placing.specs.PlanDone.{PlanDone, planMeant}
-use Rattle.placing.specs.CallDone.{CallDone, callMeant}
-use Rattle.placing.specs.Entries.{planTooShort, PlanEntered, CallEntered}
+use Rattle.placing.specs.Causes.{call_jobs}
+use Rattle.placing.specs.PlanDone.{PlanDone, plan_meant}
+use Rattle.placing.specs.CallDone.{CallDone, call_meant}
+use Rattle.placing.specs.Entries.{plan_too_short, PlanEntered, CallEntered}
 use Rattle.placing.specs.declared.plan.Planned.{Planned}
 use Rattle.placing.specs.declared.call.CallAnswer as reply
-use Rattle.placing.specs.declared.call.CallAnswer.TheVariants as call-answer
-use Rattle.placing.proofs.ByCapacity.{plan-by-capacity}
-use Rattle.placing.proofs.ClaimsHold.{call-claim}
+use Rattle.placing.specs.declared.call.CallAnswer.TheVariants as call_answer
+use Rattle.placing.proofs.ByCapacity.{plan_by_capacity}
+use Rattle.placing.proofs.ClaimsHold.{call_claim_lem}
 
 -- ---- what computes: `unfolding plans` opens all that a plan needs, `unfolding calls` all that a call needs
 
 unfoldable pub plans : Head → List ℕ → PlanOutcome
 unfolding
-    sum greatest tabulate served atSlot granted turn most valid hasNumber allInLimits allDistinct masksIn first_of
-    needsFrom grants planned placing written plan_of
+    sum greatest tabulate served at_slot granted turn most valid has_number all_in_limits all_distinct masks_in first_of
+    needs_from grants planned placing written plan_of
 plans h t = plan_of h t
 
 unfoldable pub calls : Head → List Job → State → CallOutcome
 unfolding
-    sum greatest every tabulate served atSlot added searched ones valid hasNumber allInLimits allDistinct masksIn first_of
-    laidOut wellFormed placing called evictedSet evictionOrder downward in_set callFits written call_of
+    sum greatest every tabulate served at_slot added searched ones valid has_number all_in_limits all_distinct masks_in first_of
+    laid_out well_formed placing called evicted_set eviction_order downward in_set call_fits written call_of
 calls h jobs st = call_of h jobs st
 
 -- ---- presets and jobs
 
-abbrev pub noBusy : List ℕ
-noBusy = replicate 8 0
+abbrev pub no_busy : List ℕ
+no_busy = replicate 8 0
 
 abbrev pub preset : ℕ → ℕ → ℕ → ℕ → Preset
 preset n p m o = record { number = n; priority = p; mandatory = m; optional = o }
@@ -77,122 +77,122 @@ head_of s b busy presets = record { slots = s; bridges = b; supply = 0; hold = f
 
 -- ---- the plan's ties and bridges: S 3, B 2, three presets of m 2
 
-abbrev threePresets : Head
-threePresets = head_of 3 2 noBusy (preset 1 0 2 0 ∷ preset 2 0 2 0 ∷ preset 3 0 2 0 ∷ [])
+abbrev three_presets : Head
+three_presets = head_of 3 2 no_busy (preset 1 0 2 0 ∷ preset 2 0 2 0 ∷ preset 3 0 2 0 ∷ [])
 
 -- slot 1 holds presets 1 2, slot 2 holds 1 3, slot 3 holds 2 3
-pub three-planned : take 6 (plan_of threePresets (replicate 512 0)).table ≡ 513 ∷ 514 ∷ 513 ∷ 515 ∷ 514 ∷ 515 ∷ []
+pub three_planned : take 6 (plan_of three_presets (replicate 512 0)).table ≡ 513 ∷ 514 ∷ 513 ∷ 515 ∷ 514 ∷ 515 ∷ []
 unfolding plans
-three-planned = refl
+three_planned = refl
 
 -- ---- the orders of ties
 
 -- the cells of the frame that the rule leaves with an order of ties
-abbrev plannedBy : Ties → Head → List ℕ
-plannedBy ties h = written h (planned ties h) []
+abbrev planned_by : Ties → Head → List ℕ
+planned_by ties h = written h (planned ties h) []
 
 -- m 1 in the first line and m 2 in the second
-abbrev oneAndTwo : List Preset
-oneAndTwo = preset 1 0 1 0 ∷ preset 2 0 2 0 ∷ []
+abbrev one_and_two : List Preset
+one_and_two = preset 1 0 1 0 ∷ preset 2 0 2 0 ∷ []
 
 -- "those with a cell in the slot just before come first": the second line stays in slot 2; by place the first line goes first
-pub held_on : (plannedBy tieHold (head_of 3 1 noBusy oneAndTwo) ≡ 514 ∷ 514 ∷ 513 ∷ []) × (plannedBy tiePlace (head_of 3 1 noBusy oneAndTwo) ≡ 514 ∷ 513 ∷ 514 ∷ [])
+pub held_on : (planned_by tie_hold (head_of 3 1 no_busy one_and_two) ≡ 514 ∷ 514 ∷ 513 ∷ []) × (planned_by tie_place (head_of 3 1 no_busy one_and_two) ≡ 514 ∷ 513 ∷ 514 ∷ [])
 unfolding plans
 held_on = (refl, refl)
 
 -- a plan goes by the order of its head
-pub held-by-head : (take 3 (plan_of (withTie (head_of 3 1 noBusy oneAndTwo) true) (replicate 512 0)).table ≡ 514 ∷ 514 ∷ 513 ∷ [])
-    × (take 3 (plan_of (withTie (head_of 3 1 noBusy oneAndTwo) false) (replicate 512 0)).table ≡ 514 ∷ 513 ∷ 514 ∷ [])
+pub held_by_head : (take 3 (plan_of (with_tie (head_of 3 1 no_busy one_and_two) true) (replicate 512 0)).table ≡ 514 ∷ 514 ∷ 513 ∷ [])
+    × (take 3 (plan_of (with_tie (head_of 3 1 no_busy one_and_two) false) (replicate 512 0)).table ≡ 514 ∷ 513 ∷ 514 ∷ [])
 unfolding plans
-held-by-head = (refl, refl)
+held_by_head = (refl, refl)
 
 -- in the slot just before, and in no earlier one: where slot 2 is busy, nobody has a cell just before slot 3
-pub held-just-before : plannedBy tieHold (head_of 4 1 (2 ∷ replicate 7 0) oneAndTwo) ≡ 514 ∷ 256 ∷ 513 ∷ 514 ∷ []
+pub held_just_before : planned_by tie_hold (head_of 4 1 (2 ∷ replicate 7 0) one_and_two) ≡ 514 ∷ 256 ∷ 513 ∷ 514 ∷ []
 unfolding plans
-held-just-before = refl
+held_just_before = refl
 
 -- on any bridge: four presets of m 2 on two bridges, where the third and the fourth stay
-pub held-in-pairs : plannedBy tieHold (head_of 4 2 noBusy (preset 1 0 2 0 ∷ preset 2 0 2 0 ∷ preset 3 0 2 0 ∷ preset 4 0 2 0 ∷ []))
+pub held_in_pairs : planned_by tie_hold (head_of 4 2 no_busy (preset 1 0 2 0 ∷ preset 2 0 2 0 ∷ preset 3 0 2 0 ∷ preset 4 0 2 0 ∷ []))
     ≡ 513 ∷ 514 ∷ 515 ∷ 516 ∷ 515 ∷ 516 ∷ 513 ∷ 514 ∷ []
 unfolding plans
-held-in-pairs = refl
+held_in_pairs = refl
 
 -- the order of ties says who is chosen, and not on which bridge: "The chosen, in file order, take the free bridges in ascending order."
-pub held-bridges : plannedBy tieHold (head_of 2 2 (0 ∷ 1 ∷ replicate 6 0) oneAndTwo) ≡ 514 ∷ 256 ∷ 513 ∷ 514 ∷ []
+pub held_bridges : planned_by tie_hold (head_of 2 2 (0 ∷ 1 ∷ replicate 6 0) one_and_two) ≡ 514 ∷ 256 ∷ 513 ∷ 514 ∷ []
 unfolding plans
-held-bridges = refl
+held_bridges = refl
 
 -- The order that is in force where a call comes: by hold c2 c2 c1, and a later call by place leaves those and places c4 c3 c4.
-abbrev calledByHold : List ℕ
-calledByHold = (call_of (head_of 6 1 noBusy []) (job 1 1 ∷ job 2 2 ∷ []) (state_of (replicate 512 0) firstClock true)).after.table
+abbrev called_by_hold : List ℕ
+called_by_hold = (call_of (head_of 6 1 no_busy []) (job 1 1 ∷ job 2 2 ∷ []) (state_of (replicate 512 0) first_clock true)).after.table
 
-pub calls-by-order : (take 6 calledByHold ≡ 1026 ∷ 1026 ∷ 1025 ∷ 0 ∷ 0 ∷ 0 ∷ [])
-    × (take 6 (call_of (head_of 6 1 noBusy []) (job 3 1 ∷ job 4 2 ∷ []) (state_of calledByHold firstClock false)).after.table ≡ 1026 ∷ 1026 ∷ 1025 ∷ 1028 ∷ 1027 ∷ 1028 ∷ [])
+pub calls_by_order : (take 6 called_by_hold ≡ 1026 ∷ 1026 ∷ 1025 ∷ 0 ∷ 0 ∷ 0 ∷ [])
+    × (take 6 (call_of (head_of 6 1 no_busy []) (job 3 1 ∷ job 4 2 ∷ []) (state_of called_by_hold first_clock false)).after.table ≡ 1026 ∷ 1026 ∷ 1025 ∷ 1028 ∷ 1027 ∷ 1028 ∷ [])
 unfolding calls
-calls-by-order = (refl, refl)
+calls_by_order = (refl, refl)
 
 -- ---- the clock (document 02, 2026-05): "A call uses slots above the clock"
 
 -- slots 1 to 4 at the clocks 0 to 5: at 0 all may be used, at 3 slot 4 alone, at 4 and 5 none
-pub clock-usable : map (λ clock. map (usable clock) (0 ∷ 1 ∷ 2 ∷ 3 ∷ [])) (0 ∷ 1 ∷ 3 ∷ 4 ∷ 5 ∷ [])
+pub clock_usable : map (λ clock. map (usable clock) (0 ∷ 1 ∷ 2 ∷ 3 ∷ [])) (0 ∷ 1 ∷ 3 ∷ 4 ∷ 5 ∷ [])
     ≡ (true ∷ true ∷ true ∷ true ∷ []) ∷ (false ∷ true ∷ true ∷ true ∷ []) ∷ (false ∷ false ∷ false ∷ true ∷ []) ∷ replicate 4 false ∷ replicate 4 false ∷ []
-clock-usable = refl
+clock_usable = refl
 
 -- "2 and 11 take 0 to S + 1 as the clock's range"
-pub clock-range : map (clockIn 4) (0 ∷ 1 ∷ 4 ∷ 5 ∷ 6 ∷ []) ≡ true ∷ true ∷ true ∷ true ∷ false ∷ []
-clock-range = refl
+pub clock_range : map (clock_in 4) (0 ∷ 1 ∷ 4 ∷ 5 ∷ 6 ∷ []) ≡ true ∷ true ∷ true ∷ true ∷ false ∷ []
+clock_range = refl
 
 -- A frame of two slots and one bridge: a job of two slots at 0, and none at 1; there a job of one slot has slot 2, and at 2 and 3 none has a place.
-abbrev twoSlots : Head
-twoSlots = head_of 2 1 noBusy []
+abbrev two_slots : Head
+two_slots = head_of 2 1 no_busy []
 
-abbrev clockCall : ℕ → ℕ → CallAnswer
-clockCall clock c = (call_of twoSlots (job 5 c ∷ []) (state_of (replicate 512 0) clock false)).answer
+abbrev clock_call : ℕ → ℕ → CallAnswer
+clock_call clock c = (call_of two_slots (job 5 c ∷ []) (state_of (replicate 512 0) clock false)).answer
 
-pub clock-slots : (map (λ clock. clockCall clock 2) (0 ∷ 1 ∷ []) ≡ CallAnswer.taken (cost 0) ∷ CallAnswer.refused 0 callNotFeasible ∷ [])
-    × (map (λ clock. clockCall clock 1) (1 ∷ 2 ∷ 3 ∷ 4 ∷ [])
-    ≡ CallAnswer.taken (cost 0) ∷ CallAnswer.refused 0 callNotFeasible ∷ CallAnswer.refused 0 callNotFeasible ∷ CallAnswer.refused 0 notWellFormed ∷ [])
-    × (take 2 (call_of twoSlots (job 5 1 ∷ []) (state_of (replicate 512 0) 1 false)).after.table ≡ 0 ∷ 1029 ∷ [])
+pub clock_slots : (map (λ clock. clock_call clock 2) (0 ∷ 1 ∷ []) ≡ CallAnswer.taken (cost 0) ∷ CallAnswer.refused 0 call_not_feasible ∷ [])
+    × (map (λ clock. clock_call clock 1) (1 ∷ 2 ∷ 3 ∷ 4 ∷ [])
+    ≡ CallAnswer.taken (cost 0) ∷ CallAnswer.refused 0 call_not_feasible ∷ CallAnswer.refused 0 call_not_feasible ∷ CallAnswer.refused 0 not_well_formed ∷ [])
+    × (take 2 (call_of two_slots (job 5 1 ∷ []) (state_of (replicate 512 0) 1 false)).after.table ≡ 0 ∷ 1029 ∷ [])
 unfolding calls
-clock-slots = (refl, refl, refl)
+clock_slots = (refl, refl, refl)
 
 -- `o1 0 | o1 -` at clock 1: the empty cell stands in the clock's own slot, so the refinement above it goes; at clock 0 nothing is lost.
-abbrev ownSlot : Head
-ownSlot = head_of 2 2 (0 ∷ 2 ∷ replicate 6 0) (preset 1 0 0 2 ∷ [])
+abbrev own_slot : Head
+own_slot = head_of 2 2 (0 ∷ 2 ∷ replicate 6 0) (preset 1 0 0 2 ∷ [])
 
-abbrev ownTable : List ℕ
-ownTable = 769 ∷ 0 ∷ 769 ∷ 256 ∷ replicate 508 0
+abbrev own_table : List ℕ
+own_table = 769 ∷ 0 ∷ 769 ∷ 256 ∷ replicate 508 0
 
-pub clock-costs : (map (λ clock. (call_of ownSlot (job 9 1 ∷ []) (state_of ownTable clock false)).answer) (0 ∷ 1 ∷ []) ≡ CallAnswer.taken (cost 0) ∷ CallAnswer.taken (cost 1) ∷ [])
-    × (take 4 (call_of ownSlot (job 9 1 ∷ []) (state_of ownTable 1 false)).after.table ≡ 769 ∷ 0 ∷ 1033 ∷ 256 ∷ [])
+pub clock_costs : (map (λ clock. (call_of own_slot (job 9 1 ∷ []) (state_of own_table clock false)).answer) (0 ∷ 1 ∷ []) ≡ CallAnswer.taken (cost 0) ∷ CallAnswer.taken (cost 1) ∷ [])
+    × (take 4 (call_of own_slot (job 9 1 ∷ []) (state_of own_table 1 false)).after.table ≡ 769 ∷ 0 ∷ 1033 ∷ 256 ∷ [])
 unfolding calls
-clock-costs = (refl, refl)
+clock_costs = (refl, refl)
 
 -- A call cell in the clock's own slot or below it is no fault of soundness, and its number is used: `c5 | c6 | 0` at the clocks 0 to 2.
-abbrev threeSlots : Head
-threeSlots = head_of 3 1 noBusy []
+abbrev three_slots : Head
+three_slots = head_of 3 1 no_busy []
 
-pub clock-gone : (map (λ clock. (call_of threeSlots (job 7 1 ∷ []) (state_of (1029 ∷ 1030 ∷ replicate 510 0) clock false)).answer) (0 ∷ 1 ∷ 2 ∷ []) ≡ replicate 3 (CallAnswer.taken (cost 0)))
-    × ((call_of threeSlots (job 5 1 ∷ []) (state_of (1029 ∷ 1030 ∷ replicate 510 0) 2 false)).answer ≡ CallAnswer.refused 0 numberUsed)
+pub clock_gone : (map (λ clock. (call_of three_slots (job 7 1 ∷ []) (state_of (1029 ∷ 1030 ∷ replicate 510 0) clock false)).answer) (0 ∷ 1 ∷ 2 ∷ []) ≡ replicate 3 (CallAnswer.taken (cost 0)))
+    × ((call_of three_slots (job 5 1 ∷ []) (state_of (1029 ∷ 1030 ∷ replicate 510 0) 2 false)).answer ≡ CallAnswer.refused 0 number_used)
 unfolding calls
-clock-gone = (refl, refl)
+clock_gone = (refl, refl)
 
 -- ---- priorities 0 and 9 hold the last slot, all else being busy: a one-slot call takes the 9's
 
-abbrev lastSlot : Head
-lastSlot = head_of 2 2 (1 ∷ 1 ∷ replicate 6 0) (preset 1 0 0 1 ∷ preset 2 9 0 1 ∷ [])
+abbrev last_slot : Head
+last_slot = head_of 2 2 (1 ∷ 1 ∷ replicate 6 0) (preset 1 0 0 1 ∷ preset 2 9 0 1 ∷ [])
 
-pub worst-evicted : take 4 (call_of lastSlot (job 7 1 ∷ []) (state_of (256 ∷ 256 ∷ 769 ∷ 770 ∷ replicate 508 0) firstClock false)).after.table ≡ 256 ∷ 256 ∷ 769 ∷ 1031 ∷ []
+pub worst_evicted : take 4 (call_of last_slot (job 7 1 ∷ []) (state_of (256 ∷ 256 ∷ 769 ∷ 770 ∷ replicate 508 0) first_clock false)).after.table ≡ 256 ∷ 256 ∷ 769 ∷ 1031 ∷ []
 unfolding calls
-worst-evicted = refl
+worst_evicted = refl
 
 -- ---- a call that is taken, with n cells lost
 
 module _ (h : Head) (clock : ℕ) (hold : Bool) (jobs : List Job) (t : List ℕ) (n : ℕ) (taken : (call_of h jobs (state_of t clock hold)).answer ≡ CallAnswer.taken (cost n)) where
   -- every valid placement loses n cells or more
-  pub must-go : (u : List ℕ) → ValidCall h clock jobs (cell h t) (cell h u) → n ≤ cells h (λ s b. lost (cell h t) (cell h u) s b)
-  must-go u v =
-      let c = call-claim h jobs (state_of t clock hold) in
+  pub must_go : (u : List ℕ) → ValidCall h clock jobs (cell h t) (cell h u) → n ≤ cells h (λ s b. lost (cell h t) (cell h u) s b)
+  must_go u v =
+      let c = call_claim_lem h jobs (state_of t clock hold) in
       omega (
         arith,
         c.reported (cost n) taken,
@@ -203,7 +203,7 @@ module _ (h : Head) (clock : ℕ) (hold : Bool) (jobs : List Job) (t : List ℕ)
 
   -- and there is one that loses n
   pub goes : (u : List ℕ) × ValidCall h clock jobs (cell h t) (cell h u) × (cells h (λ s b. lost (cell h t) (cell h u) s b) ≡ n)
-  goes = let c = call-claim h jobs (state_of t clock hold) in ((call_of h jobs (state_of t clock hold)).after.table, c.valid (cost n) taken, sym (c.reported (cost n) taken))
+  goes = let c = call_claim_lem h jobs (state_of t clock hold) in ((call_of h jobs (state_of t clock hold)).after.table, c.valid (cost n) taken, sym (c.reported (cost n) taken))
 
 -- ---- free 3, 1, 1, 1 and one optional cell in slot 2, a call of 3 and 3
 
@@ -214,56 +214,56 @@ frame3111 = head_of 4 4 (0 ∷ 12 ∷ 14 ∷ 14 ∷ replicate 4 0) (preset 1 0 1
 abbrev table3111 : List ℕ
 table3111 = 513 ∷ 0 ∷ 0 ∷ 0 ∷ 769 ∷ 0 ∷ 256 ∷ 256 ∷ 0 ∷ 256 ∷ 256 ∷ 256 ∷ 0 ∷ 256 ∷ 256 ∷ 256 ∷ replicate 496 0
 
-abbrev threeAndThree : List Job
-threeAndThree = job 5 3 ∷ job 6 3 ∷ []
+abbrev three_and_three : List Job
+three_and_three = job 5 3 ∷ job 6 3 ∷ []
 
-pub planned-3111 : (plan_of frame3111 (replicate 512 0)).table ≡ table3111
+pub planned_3111 : (plan_of frame3111 (replicate 512 0)).table ≡ table3111
 unfolding plans
-planned-3111 = refl
+planned_3111 = refl
 
 -- the empty cells are 3, 1, 1, 1
-pub free-3111 : tabulate 4 (freeNumberFrom frame3111 firstClock (cell frame3111 table3111)) ≡ 3 ∷ 1 ∷ 1 ∷ 1 ∷ []
+pub free_3111 : tabulate 4 (free_number_from frame3111 first_clock (cell frame3111 table3111)) ≡ 3 ∷ 1 ∷ 1 ∷ 1 ∷ []
 unfolding tabulate sum
-free-3111 = refl
+free_3111 = refl
 
 -- No placement in the empty cells alone exists.
-pub no-empty-placement : (a : ℕ → ℕ → Bool) → Placed everywhere 2 (at (3 ∷ 3 ∷ [])) 4 (freeNumberFrom frame3111 firstClock (cell frame3111 table3111)) a → ⊥
+pub no_empty_placement : (a : ℕ → ℕ → Bool) → Placed everywhere 2 (at (3 ∷ 3 ∷ [])) 4 (free_number_from frame3111 first_clock (cell frame3111 table3111)) a → ⊥
 unfolding sum greatest
-no-empty-placement a p =
-    let z : excess 2 (at (3 ∷ 3 ∷ [])) 4 (freeNumberFrom frame3111 firstClock (cell frame3111 table3111)) ≡ 0 = placed-fits p in
+no_empty_placement a p =
+    let z : excess 2 (at (3 ∷ 3 ∷ [])) 4 (free_number_from frame3111 first_clock (cell frame3111 table3111)) ≡ 0 = placed_fits p in
     omega arith
 
-takes_one : (call_of frame3111 threeAndThree (state_of table3111 firstClock false)).answer ≡ CallAnswer.taken (cost 1)
+takes_one : (call_of frame3111 three_and_three (state_of table3111 first_clock false)).answer ≡ CallAnswer.taken (cost 1)
 unfolding calls
 takes_one = refl
 
 -- Exactly one cell must go: every valid placement loses one or more, and the one that the call leaves loses one.
-pub one-must-go : (u : List ℕ) → ValidCall frame3111 firstClock threeAndThree (cell frame3111 table3111) (cell frame3111 u)
+pub one_must_go : (u : List ℕ) → ValidCall frame3111 first_clock three_and_three (cell frame3111 table3111) (cell frame3111 u)
     → 1 ≤ cells frame3111 (λ s b. lost (cell frame3111 table3111) (cell frame3111 u) s b)
-one-must-go = must-go frame3111 firstClock false threeAndThree table3111 1 takes_one
+one_must_go = must_go frame3111 first_clock false three_and_three table3111 1 takes_one
 
-pub one-goes : (u : List ℕ) × ValidCall frame3111 firstClock threeAndThree (cell frame3111 table3111) (cell frame3111 u)
+pub one_goes : (u : List ℕ) × ValidCall frame3111 first_clock three_and_three (cell frame3111 table3111) (cell frame3111 u)
     × (cells frame3111 (λ s b. lost (cell frame3111 table3111) (cell frame3111 u) s b) ≡ 1)
-one-goes = goes frame3111 firstClock false threeAndThree table3111 1 takes_one
+one_goes = goes frame3111 first_clock false three_and_three table3111 1 takes_one
 
 -- ---- the room for r, and the r largest needs, for r = 0 to 3
 
 -- docs/CALLS.md, the worked frame: of its empty cells, and with the optional cell; the two jobs exceed the first at 2, and nowhere the other
-pub capacity-3111 : (tabulate 4 (longestJobs threeAndThree) ≡ 0 ∷ 3 ∷ 6 ∷ 6 ∷ [])
-    × (tabulate 4 (freeCapacity frame3111 firstClock (cell frame3111 table3111)) ≡ 0 ∷ 4 ∷ 5 ∷ 6 ∷ [])
-    × (tabulate 4 (callCapacity frame3111 firstClock (cell frame3111 table3111)) ≡ 0 ∷ 4 ∷ 6 ∷ 7 ∷ [])
+pub capacity_3111 : (tabulate 4 (longest_jobs three_and_three) ≡ 0 ∷ 3 ∷ 6 ∷ 6 ∷ [])
+    × (tabulate 4 (free_capacity frame3111 first_clock (cell frame3111 table3111)) ≡ 0 ∷ 4 ∷ 5 ∷ 6 ∷ [])
+    × (tabulate 4 (call_capacity frame3111 first_clock (cell frame3111 table3111)) ≡ 0 ∷ 4 ∷ 6 ∷ 7 ∷ [])
 unfolding tabulate sum
-capacity-3111 = (refl, refl, refl)
+capacity_3111 = (refl, refl, refl)
 
 -- slot 1 has no room where the clock is in it, slot 2 has; the longest job first, wherever it stands in the call
-pub capacity-clock : (tabulate 4 (callCapacity frame3111 1 (cell frame3111 table3111)) ≡ 0 ∷ 3 ∷ 4 ∷ 4 ∷ [])
-    × (tabulate 4 (freeCapacity frame3111 1 (cell frame3111 table3111)) ≡ 0 ∷ 3 ∷ 3 ∷ 3 ∷ [])
+pub capacity_clock : (tabulate 4 (call_capacity frame3111 1 (cell frame3111 table3111)) ≡ 0 ∷ 3 ∷ 4 ∷ 4 ∷ [])
+    × (tabulate 4 (free_capacity frame3111 1 (cell frame3111 table3111)) ≡ 0 ∷ 3 ∷ 3 ∷ 3 ∷ [])
 unfolding tabulate sum
-capacity-clock = (refl, refl)
+capacity_clock = (refl, refl)
 
-pub longest-first : tabulate 4 (longestJobs (job 5 1 ∷ job 6 3 ∷ job 7 2 ∷ [])) ≡ 0 ∷ 3 ∷ 5 ∷ 6 ∷ []
+pub longest_first : tabulate 4 (longest_jobs (job 5 1 ∷ job 6 3 ∷ job 7 2 ∷ [])) ≡ 0 ∷ 3 ∷ 5 ∷ 6 ∷ []
 unfolding tabulate sum
-longest-first = refl
+longest_first = refl
 
 -- Free 3, 1, 1, 1, and 3, 1, 2, 1, with m 3 and 3: the first has no valid plan, since the room for 2 is 5; the other has one.
 abbrev plan3111 : Head
@@ -272,21 +272,21 @@ plan3111 = head_of 4 3 (0 ∷ 14 ∷ 14 ∷ replicate 5 0) (preset 1 0 3 0 ∷ p
 abbrev plan3121 : Head
 plan3121 = head_of 4 3 (0 ∷ 10 ∷ 14 ∷ replicate 5 0) (preset 1 0 3 0 ∷ preset 2 0 3 0 ∷ [])
 
-pub plan-capacity : (tabulate 4 (largestMandatory plan3111) ≡ 0 ∷ 3 ∷ 6 ∷ 6 ∷ [])
-    × (tabulate 4 (planCapacity plan3111) ≡ 0 ∷ 4 ∷ 5 ∷ 6 ∷ [])
-    × (tabulate 4 (planCapacity plan3121) ≡ 0 ∷ 4 ∷ 6 ∷ 7 ∷ [])
+pub plan_capacity_lem : (tabulate 4 (largest_mandatory plan3111) ≡ 0 ∷ 3 ∷ 6 ∷ 6 ∷ [])
+    × (tabulate 4 (plan_capacity plan3111) ≡ 0 ∷ 4 ∷ 5 ∷ 6 ∷ [])
+    × (tabulate 4 (plan_capacity plan3121) ≡ 0 ∷ 4 ∷ 6 ∷ 7 ∷ [])
 unfolding tabulate sum
-plan-capacity = (refl, refl, refl)
+plan_capacity_lem = (refl, refl, refl)
 
-pub no-plan-3111 : (u : List ℕ) → ValidPlan plan3111 (cell plan3111 u) → ⊥
+pub no_plan_3111 : (u : List ℕ) → ValidPlan plan3111 (cell plan3111 u) → ⊥
 unfolding plans
-no-plan-3111 u v =
-    let six : largestMandatory plan3111 2 ≤ planCapacity plan3111 2 = (plan-by-capacity plan3111 (valid-of plan3111 refl)).fits.0 (u, v) 2 in
+no_plan_3111 u v =
+    let six : largest_mandatory plan3111 2 ≤ plan_capacity plan3111 2 = (plan_by_capacity plan3111 (valid_of plan3111 refl)).fits.0 (u, v) 2 in
     omega arith
 
-pub plan-3121 : (u : List ℕ) × ValidPlan plan3121 (cell plan3121 u)
+pub plan_3121 : (u : List ℕ) × ValidPlan plan3121 (cell plan3121 u)
 unfolding plans
-plan-3121 = (plan-by-capacity plan3121 (valid-of plan3121 refl)).fits.1 ((excess-none 2 (at (3 ∷ 3 ∷ [])) 4 (planFreeCount plan3121)).0 refl)
+plan_3121 = (plan_by_capacity plan3121 (valid_of plan3121 refl)).fits.1 ((excess_none 2 (at (3 ∷ 3 ∷ [])) 4 (plan_free_count plan3121)).0 refl)
 
 -- ---- held from two sides: the tables, heads and jobs of the cases below
 
@@ -295,56 +295,56 @@ abbrev pub lent : List ℕ → List ℕ
 lent l = take 512 (l ++ replicate 512 0)
 
 -- k call cells, numbered n + 1 to n + k
-unfoldable pub jobCells : ℕ → ℕ → List ℕ
-jobCells zero n = []
-jobCells (suc k) n = (1025 + n) ∷ jobCells k (suc n)
+unfoldable pub job_cells : ℕ → ℕ → List ℕ
+job_cells zero n = []
+job_cells (suc k) n = (1025 + n) ∷ job_cells k (suc n)
 
 -- k jobs of one slot, numbered n + 1 to n + k
-unfoldable pub jobsFrom : ℕ → ℕ → List Job
-jobsFrom zero n = []
-jobsFrom (suc k) n = job (suc n) 1 ∷ jobsFrom k (suc n)
+unfoldable pub jobs_from : ℕ → ℕ → List Job
+jobs_from zero n = []
+jobs_from (suc k) n = job (suc n) 1 ∷ jobs_from k (suc n)
 
 -- a frame with nothing busy and no presets; the same with one slot and one bridge, and presets
 abbrev bare : ℕ → ℕ → Head
-bare s b = head_of s b noBusy []
+bare s b = head_of s b no_busy []
 
 abbrev holds : List Preset → Head
-holds ps = head_of 1 1 noBusy ps
+holds ps = head_of 1 1 no_busy ps
 
 -- ---- "A sound table has only the five kinds, ..": each clause broken alone
 
 -- Bridge 2 is busy in slot 2; preset 1 has m 1 and o 2, preset 2 has m 0 and o 1.
-abbrev fourSlots : Head
-fourSlots = head_of 4 2 (0 ∷ 2 ∷ replicate 6 0) (preset 1 0 1 2 ∷ preset 2 0 0 1 ∷ [])
+abbrev four_slots : Head
+four_slots = head_of 4 2 (0 ∷ 2 ∷ replicate 6 0) (preset 1 0 1 2 ∷ preset 2 0 0 1 ∷ [])
 
 -- slot 1: m1 o2; slot 2: o1 -; slot 3: o1 c9; slot 4: c9 0
-abbrev soundTable : List ℕ
-soundTable = 513 ∷ 770 ∷ 769 ∷ 256 ∷ 769 ∷ 1033 ∷ 1033 ∷ 0 ∷ []
+abbrev sound_table : List ℕ
+sound_table = 513 ∷ 770 ∷ 769 ∷ 256 ∷ 769 ∷ 1033 ∷ 1033 ∷ 0 ∷ []
 
 -- the same with v in the last cell
-abbrev endsIn : ℕ → List ℕ
-endsIn v = 513 ∷ 770 ∷ 769 ∷ 256 ∷ 769 ∷ 1033 ∷ 1033 ∷ v ∷ []
+abbrev ends_in : ℕ → List ℕ
+ends_in v = 513 ∷ 770 ∷ 769 ∷ 256 ∷ 769 ∷ 1033 ∷ 1033 ∷ v ∷ []
 
-abbrev brokenTables : List (List ℕ)
-brokenTables =
+abbrev broken_tables : List (List ℕ)
+broken_tables =
     -- "only the five kinds": kind 5
-    endsIn 1280
-    ∷ endsIn 1287
+    ends_in 1280
+    ∷ ends_in 1287
     -- "0 empty, 1 busy (both with number 0)"
-    ∷ endsIn 7
-    ∷ endsIn 263
+    ∷ ends_in 7
+    ∷ ends_in 263
     -- "busy cells just as the head says": one too many; one that lacks
-    ∷ endsIn 256
+    ∷ ends_in 256
     ∷ (513 ∷ 770 ∷ 769 ∷ 0 ∷ 769 ∷ 1033 ∷ 1033 ∷ 0 ∷ [])
     -- "in required and refinement cells only numbers of the head's presets"
-    ∷ endsIn 519
-    ∷ endsIn 775
-    ∷ endsIn 512
-    ∷ endsIn 768
+    ∷ ends_in 519
+    ∷ ends_in 775
+    ∷ ends_in 512
+    ∷ ends_in 768
     -- "in call cells only 1 to 255"
-    ∷ endsIn 1024
+    ∷ ends_in 1024
     -- "no number twice in a slot": a job's; a preset's
-    ∷ endsIn 1033
+    ∷ ends_in 1033
     ∷ (513 ∷ 770 ∷ 0 ∷ 256 ∷ 769 ∷ 769 ∷ 1033 ∷ 0 ∷ [])
     -- "exactly m required cells of each preset": too few; too many
     ∷ (0 ∷ 770 ∷ 0 ∷ 256 ∷ 0 ∷ 1033 ∷ 1033 ∷ 0 ∷ [])
@@ -352,68 +352,68 @@ brokenTables =
     -- "all in slots before its refinement cells"
     ∷ (0 ∷ 770 ∷ 769 ∷ 256 ∷ 513 ∷ 1033 ∷ 1033 ∷ 0 ∷ [])
     -- "at most o refinement cells of each preset"
-    ∷ endsIn 770
+    ∷ ends_in 770
     -- "none of them a preset's"
-    ∷ endsIn 1025
+    ∷ ends_in 1025
     ∷ []
 
--- A call on a sound table is taken, and on each of the others refused for 11; "at most 64 job numbers" is in `calls-answered`.
-pub sound-broken : map (λ t. (call_of fourSlots (job 20 1 ∷ []) (state_of (lent t) 1 false)).answer) (soundTable ∷ brokenTables)
-    ≡ CallAnswer.taken (cost 0) ∷ replicate 18 (CallAnswer.refused 0 notWellFormed)
+-- A call on a sound table is taken, and on each of the others refused for 11; "at most 64 job numbers" is in `calls_answered`.
+pub sound_broken : map (λ t. (call_of four_slots (job 20 1 ∷ []) (state_of (lent t) 1 false)).answer) (sound_table ∷ broken_tables)
+    ≡ CallAnswer.taken (cost 0) ∷ replicate 18 (CallAnswer.refused 0 not_well_formed)
 unfolding calls
-sound-broken = refl
+sound_broken = refl
 
 -- ---- a plan: the limits of a head record and of the lent table, and the causes two at a time, in the order 8, 2, 5
 
 record PlanCase : Type 0 where
   head : Head
-  cellsLent : ℕ
+  cells_lent : ℕ
   said : PlanAnswer
 
-abbrev grants-all : Head → ℕ → List ℕ → PlanCase
-grants-all h n g = record { head = h; cellsLent = n; said = PlanAnswer.granted g }
+abbrev grants_all : Head → ℕ → List ℕ → PlanCase
+grants_all h n g = record { head = h; cells_lent = n; said = PlanAnswer.granted g }
 
-abbrev stops-plan : Head → ℕ → Refusal → PlanCase
-stops-plan h n r = record { head = h; cellsLent = n; said = PlanAnswer.refused 0 r }
+abbrev stops_plan : Head → ℕ → Refusal → PlanCase
+stops_plan h n r = record { head = h; cells_lent = n; said = PlanAnswer.refused 0 r }
 
-abbrev planCases : List PlanCase
-planCases =
+abbrev plan_cases : List PlanCase
+plan_cases =
     -- "lent table below 512 cells .. the frame's size regardless"
-    grants-all (bare 1 1) 512 []
-    ∷ stops-plan (bare 1 1) 511 tooShort
+    grants_all (bare 1 1) 512 []
+    ∷ stops_plan (bare 1 1) 511 too_short
     -- S from 1 to 64, B from 1 to 8
-    ∷ stops-plan (bare 0 1) 512 outOfLimits
-    ∷ grants-all (bare 64 1) 512 []
-    ∷ stops-plan (bare 65 1) 512 outOfLimits
-    ∷ stops-plan (bare 1 0) 512 outOfLimits
-    ∷ grants-all (bare 1 8) 512 []
-    ∷ stops-plan (bare 1 9) 512 outOfLimits
+    ∷ stops_plan (bare 0 1) 512 out_of_limits
+    ∷ grants_all (bare 64 1) 512 []
+    ∷ stops_plan (bare 65 1) 512 out_of_limits
+    ∷ stops_plan (bare 1 0) 512 out_of_limits
+    ∷ grants_all (bare 1 8) 512 []
+    ∷ stops_plan (bare 1 9) 512 out_of_limits
     -- "`(supply k)`, k from 1 to 8", above B too
-    ∷ grants-all (withSupply (bare 1 1) 8) 512 []
-    ∷ stops-plan (withSupply (bare 1 1) 9) 512 outOfLimits
+    ∷ grants_all (with_supply (bare 1 1) 8) 512 []
+    ∷ stops_plan (with_supply (bare 1 1) 9) 512 out_of_limits
     -- busy cells inside the frame only
-    ∷ grants-all (head_of 1 1 (1 ∷ replicate 7 0) []) 512 []
-    ∷ stops-plan (head_of 1 1 (2 ∷ replicate 7 0) []) 512 outOfLimits
-    ∷ stops-plan (head_of 1 1 (0 ∷ 1 ∷ replicate 6 0) []) 512 outOfLimits
+    ∷ grants_all (head_of 1 1 (1 ∷ replicate 7 0) []) 512 []
+    ∷ stops_plan (head_of 1 1 (2 ∷ replicate 7 0) []) 512 out_of_limits
+    ∷ stops_plan (head_of 1 1 (0 ∷ 1 ∷ replicate 6 0) []) 512 out_of_limits
     -- a preset's number from 1 to 255, its priority from 0 to 9, m and o from 0 to 64, and no number twice
-    ∷ stops-plan (holds (preset 0 0 0 0 ∷ [])) 512 outOfLimits
-    ∷ grants-all (holds (preset 1 0 0 0 ∷ [])) 512 (0 ∷ [])
-    ∷ grants-all (holds (preset 255 9 0 64 ∷ [])) 512 (1 ∷ [])
-    ∷ stops-plan (holds (preset 256 0 0 0 ∷ [])) 512 outOfLimits
-    ∷ stops-plan (holds (preset 1 10 0 0 ∷ [])) 512 outOfLimits
-    ∷ stops-plan (holds (preset 1 0 64 0 ∷ [])) 512 mandatoryNotFeasible
-    ∷ stops-plan (holds (preset 1 0 65 0 ∷ [])) 512 outOfLimits
-    ∷ stops-plan (holds (preset 1 0 0 65 ∷ [])) 512 outOfLimits
-    ∷ stops-plan (holds (preset 1 0 0 0 ∷ preset 1 0 0 0 ∷ [])) 512 outOfLimits
+    ∷ stops_plan (holds (preset 0 0 0 0 ∷ [])) 512 out_of_limits
+    ∷ grants_all (holds (preset 1 0 0 0 ∷ [])) 512 (0 ∷ [])
+    ∷ grants_all (holds (preset 255 9 0 64 ∷ [])) 512 (1 ∷ [])
+    ∷ stops_plan (holds (preset 256 0 0 0 ∷ [])) 512 out_of_limits
+    ∷ stops_plan (holds (preset 1 10 0 0 ∷ [])) 512 out_of_limits
+    ∷ stops_plan (holds (preset 1 0 64 0 ∷ [])) 512 mandatory_not_feasible
+    ∷ stops_plan (holds (preset 1 0 65 0 ∷ [])) 512 out_of_limits
+    ∷ stops_plan (holds (preset 1 0 0 65 ∷ [])) 512 out_of_limits
+    ∷ stops_plan (holds (preset 1 0 0 0 ∷ preset 1 0 0 0 ∷ [])) 512 out_of_limits
     -- 8 before 2 and before 5, 2 before 5
-    ∷ stops-plan (bare 0 1) 511 tooShort
-    ∷ stops-plan (holds (preset 1 0 2 0 ∷ [])) 511 tooShort
-    ∷ stops-plan (holds (preset 1 0 2 0 ∷ preset 1 0 0 0 ∷ [])) 512 outOfLimits
+    ∷ stops_plan (bare 0 1) 511 too_short
+    ∷ stops_plan (holds (preset 1 0 2 0 ∷ [])) 511 too_short
+    ∷ stops_plan (holds (preset 1 0 2 0 ∷ preset 1 0 0 0 ∷ [])) 512 out_of_limits
     ∷ []
 
-pub plans-answered : map (λ c. (plan_of c.head (replicate c.cellsLent 0)).answer) planCases ≡ map (λ c. c.said) planCases
+pub plans_answered : map (λ c. (plan_of c.head (replicate c.cells_lent 0)).answer) plan_cases ≡ map (λ c. c.said) plan_cases
 unfolding plans
-plans-answered = refl
+plans_answered = refl
 
 -- ---- a call: its limits, those of the lent table and clock, and the causes two at a time, in the order 8, 2 of the head record, 11, 2, 4, 9, 7
 
@@ -430,94 +430,94 @@ takes h clock jobs t = record { head = h; clock = clock; jobs = jobs; table = t;
 abbrev stops : Refusal → Head → ℕ → List Job → List ℕ → CallCase
 stops r h clock jobs t = record { head = h; clock = clock; jobs = jobs; table = t; said = CallAnswer.refused 0 r }
 
-abbrev callCases : List CallCase
-callCases =
+abbrev call_cases : List CallCase
+call_cases =
     -- "lent table below 512 cells"
-    takes (bare 1 1) firstClock (job 5 1 ∷ []) (replicate 512 0)
-    ∷ stops tooShort (bare 1 1) firstClock (job 5 1 ∷ []) (replicate 511 0)
+    takes (bare 1 1) first_clock (job 5 1 ∷ []) (replicate 512 0)
+    ∷ stops too_short (bare 1 1) first_clock (job 5 1 ∷ []) (replicate 511 0)
     -- the clock "0 to S + 1"; from S on no slot is left
     ∷ takes (bare 1 1) 0 (job 5 1 ∷ []) (lent [])
-    ∷ stops callNotFeasible (bare 1 1) 1 (job 5 1 ∷ []) (lent [])
-    ∷ stops callNotFeasible (bare 1 1) 2 (job 5 1 ∷ []) (lent [])
-    ∷ stops notWellFormed (bare 1 1) 3 (job 5 1 ∷ []) (lent [])
+    ∷ stops call_not_feasible (bare 1 1) 1 (job 5 1 ∷ []) (lent [])
+    ∷ stops call_not_feasible (bare 1 1) 2 (job 5 1 ∷ []) (lent [])
+    ∷ stops not_well_formed (bare 1 1) 3 (job 5 1 ∷ []) (lent [])
     -- "jobs in a call" from 1 to 8: "a ninth job in a call, or no job outside a text"
-    ∷ stops outOfLimits (bare 1 8) firstClock [] (lent [])
-    ∷ takes (bare 1 8) firstClock (jobsFrom 8 0) (lent [])
-    ∷ stops outOfLimits (bare 1 8) firstClock (jobsFrom 9 0) (lent [])
+    ∷ stops out_of_limits (bare 1 8) first_clock [] (lent [])
+    ∷ takes (bare 1 8) first_clock (jobs_from 8 0) (lent [])
+    ∷ stops out_of_limits (bare 1 8) first_clock (jobs_from 9 0) (lent [])
     -- a job's number from 1 to 255
-    ∷ stops outOfLimits (bare 1 1) firstClock (job 0 1 ∷ []) (lent [])
-    ∷ takes (bare 1 1) firstClock (job 1 1 ∷ []) (lent [])
-    ∷ takes (bare 1 1) firstClock (job 255 1 ∷ []) (lent [])
-    ∷ stops outOfLimits (bare 1 1) firstClock (job 256 1 ∷ []) (lent [])
+    ∷ stops out_of_limits (bare 1 1) first_clock (job 0 1 ∷ []) (lent [])
+    ∷ takes (bare 1 1) first_clock (job 1 1 ∷ []) (lent [])
+    ∷ takes (bare 1 1) first_clock (job 255 1 ∷ []) (lent [])
+    ∷ stops out_of_limits (bare 1 1) first_clock (job 256 1 ∷ []) (lent [])
     -- c from 1 to 64; it may exceed S
-    ∷ stops outOfLimits (bare 1 1) firstClock (job 5 0 ∷ []) (lent [])
-    ∷ stops callNotFeasible (bare 1 1) firstClock (job 5 64 ∷ []) (lent [])
-    ∷ stops outOfLimits (bare 1 1) firstClock (job 5 65 ∷ []) (lent [])
+    ∷ stops out_of_limits (bare 1 1) first_clock (job 5 0 ∷ []) (lent [])
+    ∷ stops call_not_feasible (bare 1 1) first_clock (job 5 64 ∷ []) (lent [])
+    ∷ stops out_of_limits (bare 1 1) first_clock (job 5 65 ∷ []) (lent [])
     -- "a number already used, or twice in a call": a preset's, a job's, a job's of the same call
-    ∷ stops numberUsed fourSlots firstClock (job 1 1 ∷ []) (lent soundTable)
-    ∷ stops numberUsed fourSlots firstClock (job 9 1 ∷ []) (lent soundTable)
-    ∷ stops numberUsed (bare 2 1) firstClock (job 5 1 ∷ job 5 1 ∷ []) (lent [])
+    ∷ stops number_used four_slots first_clock (job 1 1 ∷ []) (lent sound_table)
+    ∷ stops number_used four_slots first_clock (job 9 1 ∷ []) (lent sound_table)
+    ∷ stops number_used (bare 2 1) first_clock (job 5 1 ∷ job 5 1 ∷ []) (lent [])
     -- "jobs in a frame" from 0 to 64: the 64th job is taken, the 65th is 9; a table with 65 job numbers is not sound
-    ∷ takes (bare 8 8) firstClock (job 64 1 ∷ []) (lent (jobCells 63 0))
-    ∷ stops tooMany (bare 8 8) firstClock (job 64 1 ∷ job 65 1 ∷ []) (lent (jobCells 63 0))
-    ∷ stops notWellFormed (bare 13 5) firstClock (job 200 1 ∷ []) (lent (jobCells 65 0))
+    ∷ takes (bare 8 8) first_clock (job 64 1 ∷ []) (lent (job_cells 63 0))
+    ∷ stops too_many (bare 8 8) first_clock (job 64 1 ∷ job 65 1 ∷ []) (lent (job_cells 63 0))
+    ∷ stops not_well_formed (bare 13 5) first_clock (job 200 1 ∷ []) (lent (job_cells 65 0))
     -- 8 before the head record's 2 and before 11, that 2 before 11, both before the call's own
-    ∷ stops tooShort (bare 0 1) firstClock (job 5 1 ∷ []) (replicate 511 0)
-    ∷ stops tooShort (bare 1 1) 3 (job 5 1 ∷ []) (replicate 511 0)
-    ∷ stops outOfLimits (bare 1 9) 12 (job 5 1 ∷ []) (lent (7 ∷ []))
-    ∷ stops outOfLimits (bare 0 1) firstClock [] (lent [])
-    ∷ stops notWellFormed (bare 1 1) 3 [] (lent [])
-    ∷ stops notWellFormed (bare 1 1) firstClock (job 5 1 ∷ job 5 1 ∷ []) (lent (7 ∷ []))
+    ∷ stops too_short (bare 0 1) first_clock (job 5 1 ∷ []) (replicate 511 0)
+    ∷ stops too_short (bare 1 1) 3 (job 5 1 ∷ []) (replicate 511 0)
+    ∷ stops out_of_limits (bare 1 9) 12 (job 5 1 ∷ []) (lent (7 ∷ []))
+    ∷ stops out_of_limits (bare 0 1) first_clock [] (lent [])
+    ∷ stops not_well_formed (bare 1 1) 3 [] (lent [])
+    ∷ stops not_well_formed (bare 1 1) first_clock (job 5 1 ∷ job 5 1 ∷ []) (lent (7 ∷ []))
     -- 2 before 4, before 9 and before 7
-    ∷ stops outOfLimits (bare 1 1) firstClock (job 5 1 ∷ job 5 65 ∷ []) (lent [])
-    ∷ stops outOfLimits (bare 8 8) firstClock (job 65 0 ∷ []) (lent (jobCells 64 0))
-    ∷ stops outOfLimits (bare 1 1) firstClock (job 5 64 ∷ job 6 0 ∷ []) (lent [])
+    ∷ stops out_of_limits (bare 1 1) first_clock (job 5 1 ∷ job 5 65 ∷ []) (lent [])
+    ∷ stops out_of_limits (bare 8 8) first_clock (job 65 0 ∷ []) (lent (job_cells 64 0))
+    ∷ stops out_of_limits (bare 1 1) first_clock (job 5 64 ∷ job 6 0 ∷ []) (lent [])
     -- 4 before 9 and before 7
-    ∷ stops numberUsed (bare 8 8) firstClock (job 64 1 ∷ []) (lent (jobCells 64 0))
-    ∷ stops numberUsed (bare 1 1) firstClock (job 5 64 ∷ job 5 64 ∷ []) (lent [])
+    ∷ stops number_used (bare 8 8) first_clock (job 64 1 ∷ []) (lent (job_cells 64 0))
+    ∷ stops number_used (bare 1 1) first_clock (job 5 64 ∷ job 5 64 ∷ []) (lent [])
     -- 9 before 7: no cell is left
-    ∷ stops tooMany (bare 8 8) firstClock (job 65 1 ∷ []) (lent (jobCells 64 0))
+    ∷ stops too_many (bare 8 8) first_clock (job 65 1 ∷ []) (lent (job_cells 64 0))
     ∷ []
 
-pub calls-answered : map (λ c. (call_of c.head c.jobs (state_of c.table c.clock false)).answer) callCases ≡ map (λ c. c.said) callCases
-unfolding calls jobCells jobsFrom
-calls-answered = refl
+pub calls_answered : map (λ c. (call_of c.head c.jobs (state_of c.table c.clock false)).answer) call_cases ≡ map (λ c. c.said) call_cases
+unfolding calls job_cells jobs_from
+calls_answered = refl
 
 -- ---- the head record and the list: "presets" from 0 to 32, and "preset list below 32 records"
 
 -- a head record that counts so many presets, and n records with the numbers n down to 1
 abbrev counting : ℕ → record-of-head.Head
-counting n = record { slots = 1; bridges = 1; supply = 0; hold = false; busy = noBusy; count = n }
+counting n = record { slots = 1; bridges = 1; supply = 0; hold = false; busy = no_busy; count = n }
 
-unfoldable pub recordsTo : ℕ → List record-of-preset.Preset
-recordsTo zero = []
-recordsTo (suc n) = record { number = suc n; priority = 0; mandatory = 0; optional = 0 } ∷ recordsTo n
+unfoldable pub records_to : ℕ → List record-of-preset.Preset
+records_to zero = []
+records_to (suc n) = record { number = suc n; priority = 0; mandatory = 0; optional = 0 } ∷ records_to n
 
 -- nine job records with the numbers 9 down to 1
-unfoldable pub jobRecordsTo : ℕ → List record-of-job.Job
-jobRecordsTo zero = []
-jobRecordsTo (suc n) = record { number = 100 + n; slots = 1 } ∷ jobRecordsTo n
+unfoldable pub job_records_to : ℕ → List record-of-job.Job
+job_records_to zero = []
+job_records_to (suc n) = record { number = 100 + n; slots = 1 } ∷ job_records_to n
 
 -- A record that counts 32 presets has a plan; one that counts 33 is one "that no text yields", after 8 and before a call's own 2, 4 and 7; a ninth job record is no job.
-pub records-answered : ((planMeant (counting 32) (recordsTo 32) (lent [])).answer ≡ PlanAnswer.granted (replicate 32 0))
-    × ((planMeant (counting 33) (recordsTo 33) (lent [])).answer ≡ PlanAnswer.refused 0 outOfLimits)
-    × ((planMeant (counting 33) (recordsTo 33) (replicate 511 0)).answer ≡ PlanAnswer.refused 0 tooShort)
-    × ((callMeant (counting 33) (recordsTo 33) (job 40 2 ∷ []) (state_of (lent (7 ∷ [])) 3 false)).answer ≡ CallAnswer.refused 0 outOfLimits)
-    × ((callMeant (counting 33) (recordsTo 33) [] (state_of (replicate 511 0) firstClock false)).answer ≡ CallAnswer.refused 0 tooShort)
-    × ((callMeant (counting 0) [] (callJobs 8 (jobRecordsTo 8)) (state_of (lent []) firstClock false)).answer ≡ CallAnswer.refused 0 callNotFeasible)
-    × ((callMeant (counting 0) [] (callJobs 9 (jobRecordsTo 8)) (state_of (lent []) firstClock false)).answer ≡ CallAnswer.refused 0 outOfLimits)
-unfolding planMeant callMeant plans calls recordsTo jobRecordsTo callJobs
-records-answered = (refl, refl, refl, refl, refl, refl, refl)
+pub records_answered : ((plan_meant (counting 32) (records_to 32) (lent [])).answer ≡ PlanAnswer.granted (replicate 32 0))
+    × ((plan_meant (counting 33) (records_to 33) (lent [])).answer ≡ PlanAnswer.refused 0 out_of_limits)
+    × ((plan_meant (counting 33) (records_to 33) (replicate 511 0)).answer ≡ PlanAnswer.refused 0 too_short)
+    × ((call_meant (counting 33) (records_to 33) (job 40 2 ∷ []) (state_of (lent (7 ∷ [])) 3 false)).answer ≡ CallAnswer.refused 0 out_of_limits)
+    × ((call_meant (counting 33) (records_to 33) [] (state_of (replicate 511 0) first_clock false)).answer ≡ CallAnswer.refused 0 too_short)
+    × ((call_meant (counting 0) [] (call_jobs 8 (job_records_to 8)) (state_of (lent []) first_clock false)).answer ≡ CallAnswer.refused 0 call_not_feasible)
+    × ((call_meant (counting 0) [] (call_jobs 9 (job_records_to 8)) (state_of (lent []) first_clock false)).answer ≡ CallAnswer.refused 0 out_of_limits)
+unfolding plan_meant call_meant plans calls records_to job_records_to call_jobs
+records_answered = (refl, refl, refl, refl, refl, refl, refl)
 
 -- A list of 31 records is 8, whatever else is at fault; one of 32 is as the records say.
-pub plan-list : (head : record-of-head.Head) (ps : List record-of-preset.Preset) (t u : List ℕ) (r : Planned)
-    → (PlanEntered 31 head ps t u r → (r ≡ planTooShort) × (u ≡ t)) × (PlanEntered 32 head ps t u r → PlanDone head ps t u r)
-plan-list head ps t u r = (λ e. e.short (omega arith), λ e. e.done (omega arith))
+pub plan_list : (head : record-of-head.Head) (ps : List record-of-preset.Preset) (t u : List ℕ) (r : Planned)
+    → (PlanEntered 31 head ps t u r → (r ≡ plan_too_short) × (u ≡ t)) × (PlanEntered 32 head ps t u r → PlanDone head ps t u r)
+plan_list head ps t u r = (λ e. e.short (omega arith), λ e. e.done (omega arith))
 
-pub call-list : (head : record-of-head.Head) (ps : List record-of-preset.Preset) (jobs : List Job) (st : State) (u : List ℕ) (r : reply.CallAnswer)
-    → (CallEntered 31 head ps jobs st u r → (r ≡ call-answer.Refused 0 TooShort) × (u ≡ st.table))
+pub call_list : (head : record-of-head.Head) (ps : List record-of-preset.Preset) (jobs : List Job) (st : State) (u : List ℕ) (r : reply.CallAnswer)
+    → (CallEntered 31 head ps jobs st u r → (r ≡ call_answer.Refused 0 TooShort) × (u ≡ st.table))
     × (CallEntered 32 head ps jobs st u r → CallDone head ps jobs st u r)
-call-list head ps jobs st u r = (λ e. e.short (omega arith), λ e. e.done (omega arith))
+call_list head ps jobs st u r = (λ e. e.short (omega arith), λ e. e.done (omega arith))
 
 -- ---- "The order of loss: worst rank first; for one preset the latest slot first."
 
@@ -529,21 +529,21 @@ record LossCase : Type 0 where
 abbrev leaves : Head → List ℕ → List ℕ → LossCase
 leaves h t u = record { head = h; before = t; after = u }
 
-abbrev lossCases : List LossCase
-lossCases =
+abbrev loss_cases : List LossCase
+loss_cases =
     -- one preset in two slots: the latest slot goes
-    leaves (head_of 2 1 noBusy (preset 1 0 0 2 ∷ [])) (769 ∷ 769 ∷ []) (769 ∷ 1029 ∷ [])
+    leaves (head_of 2 1 no_busy (preset 1 0 0 2 ∷ [])) (769 ∷ 769 ∷ []) (769 ∷ 1029 ∷ [])
     -- two presets of one priority: the later line is the worse one, though its cell stands in the earlier slot, and on either bridge
-    ∷ leaves (head_of 2 1 noBusy (preset 1 0 0 1 ∷ preset 2 0 0 1 ∷ [])) (770 ∷ 769 ∷ []) (1029 ∷ 769 ∷ [])
-    ∷ leaves (head_of 1 2 noBusy (preset 1 0 0 1 ∷ preset 2 0 0 1 ∷ [])) (769 ∷ 770 ∷ []) (769 ∷ 1029 ∷ [])
-    ∷ leaves (head_of 1 2 noBusy (preset 1 0 0 1 ∷ preset 2 0 0 1 ∷ [])) (770 ∷ 769 ∷ []) (1029 ∷ 769 ∷ [])
+    ∷ leaves (head_of 2 1 no_busy (preset 1 0 0 1 ∷ preset 2 0 0 1 ∷ [])) (770 ∷ 769 ∷ []) (1029 ∷ 769 ∷ [])
+    ∷ leaves (head_of 1 2 no_busy (preset 1 0 0 1 ∷ preset 2 0 0 1 ∷ [])) (769 ∷ 770 ∷ []) (769 ∷ 1029 ∷ [])
+    ∷ leaves (head_of 1 2 no_busy (preset 1 0 0 1 ∷ preset 2 0 0 1 ∷ [])) (770 ∷ 769 ∷ []) (1029 ∷ 769 ∷ [])
     -- not by the number: the later line has the smaller one
-    ∷ leaves (head_of 2 1 noBusy (preset 2 0 0 1 ∷ preset 1 0 0 1 ∷ [])) (769 ∷ 770 ∷ []) (1029 ∷ 770 ∷ [])
+    ∷ leaves (head_of 2 1 no_busy (preset 2 0 0 1 ∷ preset 1 0 0 1 ∷ [])) (769 ∷ 770 ∷ []) (1029 ∷ 770 ∷ [])
     -- the worse priority goes before the later line and before the later slot
-    ∷ leaves (head_of 2 1 noBusy (preset 1 1 0 1 ∷ preset 2 0 0 1 ∷ [])) (769 ∷ 770 ∷ []) (1029 ∷ 770 ∷ [])
+    ∷ leaves (head_of 2 1 no_busy (preset 1 1 0 1 ∷ preset 2 0 0 1 ∷ [])) (769 ∷ 770 ∷ []) (1029 ∷ 770 ∷ [])
     ∷ []
 
 -- A one-slot call takes the cell that document 01 says.
-pub losses : map (λ c. (call_of c.head (job 5 1 ∷ []) (state_of (lent c.before) firstClock false)).after.table) lossCases ≡ map (λ c. lent c.after) lossCases
+pub losses : map (λ c. (call_of c.head (job 5 1 ∷ []) (state_of (lent c.before) first_clock false)).after.table) loss_cases ≡ map (λ c. lent c.after) loss_cases
 unfolding calls
 losses = refl

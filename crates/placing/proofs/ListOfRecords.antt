@@ -1,7 +1,7 @@
 -- From the copied to the list of records: what a plan or a call does over the first 32 records by value, it does over the list.
 --
--- In order: the first 32 records settle the outcome (`same-plan`, `same-call`); a refusal leaves what there was (`meant-refused`); the copied that is loaded from a list agrees with
--- it in them; the contract of each entry from that of its counted part (`plan-entered`, `call-entered`, `call-entry`).
+-- In order: the first 32 records settle the outcome (`same_plan`, `same_call`); a refusal leaves what there was (`meant_refused`); the copied that is loaded from a list agrees with
+-- it in them; the contract of each entry from that of its counted part (`plan_entered`, `call_entered`, `call_entry`).
 -- Assumes nothing.
 use Prim.Native.Nat.{ℕ, ◌≤◌}
 use native.Mathlib.Omega.{arith}
@@ -12,27 +12,27 @@ use mathlib.Core.List.{List, [], ◌∷◌, ◌++◌, map}
 use lib.ListN.{length, take, replicate}
 use lib.Seq.{take-append-le, take-take}
 use lib.Dec.{ltb, leb}
-use Rattle.laws.proofs.Comparisons.{le_of, lt_of, ge-of}
+use Rattle.laws.proofs.Comparisons.{le_of, lt_of, ge_of}
 use Rattle.laws.proofs.Tests.{Is, is, is_true, is_false}
 use Rattle.laws.specs.Lists.{at}
 use Rattle.station.specs.Head as spec
 use Rattle.station.specs.Head.{Job, valid}
-use Rattle.station.specs.Refusal.{Refusal, outOfLimits, tooShort, try, first_of}
-use Rattle.station.specs.Types.{presetIn, headIn, noRecord}
+use Rattle.station.specs.Refusal.{Refusal, out_of_limits, too_short, try, first_of}
+use Rattle.station.specs.Types.{preset_in, head_in, no_record}
 use Rattle.station.specs.declared.types.Preset.{Preset}
 use Rattle.station.specs.declared.types.Head.{Head}
 use Rattle.station.specs.Records.{loaded}
 use Rattle.placing.specs.State.{State, state_of}
 use Rattle.placing.specs.Outcomes.{PlanAnswer, PlanOutcome, plan_of, CallAnswer, CallOutcome, call_of}
 use Rattle.placing.specs.declared.plan.Planned as result
-use Rattle.placing.specs.PlanDone.{planMeant, grantsIn}
+use Rattle.placing.specs.PlanDone.{plan_meant, grants_in}
 use Rattle.placing.specs.declared.call.CallAnswer as reply
-use Rattle.placing.specs.CallDone.{callAnswerIn, callMeant}
+use Rattle.placing.specs.CallDone.{call_answer_in, call_meant}
 use Rattle.placing.specs.Entries.{PlanEntered, CallEntered, CallEntry}
-use Rattle.placing.specs.Causes.{causesOf}
+use Rattle.placing.specs.Causes.{causes_of}
 use Rattle.placing.specs.Claims.{Running}
-use Rattle.placing.proofs.ClaimsHold.{call-refused, call-claim}
-use Rattle.placing.proofs.call.CallAnswers.{done-running}
+use Rattle.placing.proofs.ClaimsHold.{call_refused, call_claim_lem}
+use Rattle.placing.proofs.call.CallAnswers.{done_running}
 use Rattle.placing.specs.Types.{filled}
 
 -- ---- the first 32 records settle the outcome
@@ -40,7 +40,7 @@ use Rattle.placing.specs.Types.{filled}
 -- an outcome by a table too short or not, a count within 32 or not, and the head that the records stand for
 module _ {O : Type 0} (f : spec.Head → O) (g : Refusal → O) where
   abbrev outcome : Bool → Bool → spec.Head → O
-  outcome short few h = elim (first_of (try tooShort short ∷ try outOfLimits (not (few && valid h)) ∷ [])) [ none ↦ f h | some r ↦ g r ]
+  outcome short few h = elim (first_of (try too_short short ∷ try out_of_limits (not (few && valid h)) ∷ [])) [ none ↦ f h | some r ↦ g r ]
 
   same_outcome : (short few : Bool) (h k : spec.Head) → (few ≡ true → h ≡ k) → outcome short few h ≡ outcome short few k
   unfolding first_of
@@ -50,63 +50,63 @@ module _ {O : Type 0} (f : spec.Head → O) (g : Refusal → O) where
 
 module _ (head : Head) (ps qs : List Preset) (agree : take 32 ps ≡ take 32 qs) where
   -- where the head record counts no more than 32 presets, they are among the first 32 records
-  same_head : leb head.count 32 ≡ true → headIn head ps ≡ headIn head qs
+  same_head : leb head.count 32 ≡ true → head_in head ps ≡ head_in head qs
   same_head e =
       let few : head.count ≤ 32 = le_of head.count 32 e in
-      ap (λ (l : List Preset). record { slots = head.slots; bridges = head.bridges; supply = head.supply; hold = head.hold; busy = head.busy; presets = map presetIn l })
+      ap (λ (l : List Preset). record { slots = head.slots; bridges = head.bridges; supply = head.supply; hold = head.hold; busy = head.busy; presets = map preset_in l })
       (sym (take-take head.count 32 ps few) ∙ ap (take head.count) agree ∙ take-take head.count 32 qs few)
 
-  same-plan : (t : List ℕ) → planMeant head ps t ≡ planMeant head qs t
-  unfolding planMeant
-  same-plan t = same_outcome (λ h. plan_of h t) (λ r. record { answer = PlanAnswer.refused 0 r; table = t }) (ltb (length t) 512) (leb head.count 32) (headIn head ps) (headIn head qs) same_head
+  same_plan : (t : List ℕ) → plan_meant head ps t ≡ plan_meant head qs t
+  unfolding plan_meant
+  same_plan t = same_outcome (λ h. plan_of h t) (λ r. record { answer = PlanAnswer.refused 0 r; table = t }) (ltb (length t) 512) (leb head.count 32) (head_in head ps) (head_in head qs) same_head
 
-  same-call : (jobs : List Job) (st : State) → callMeant head ps jobs st ≡ callMeant head qs jobs st
-  unfolding callMeant
-  same-call jobs st =
-      same_outcome (λ h. call_of h jobs st) (λ r. record { answer = CallAnswer.refused 0 r; after = st }) (ltb (length st.table) 512) (leb head.count 32) (headIn head ps) (headIn head qs) same_head
+  same_call : (jobs : List Job) (st : State) → call_meant head ps jobs st ≡ call_meant head qs jobs st
+  unfolding call_meant
+  same_call jobs st =
+      same_outcome (λ h. call_of h jobs st) (λ r. record { answer = CallAnswer.refused 0 r; after = st }) (ltb (length st.table) 512) (leb head.count 32) (head_in head ps) (head_in head qs) same_head
 
 -- a refusal of the head record, or of the call, leaves what there was
-meant-refused : (head : Head) (ps : List Preset) (jobs : List Job) (st : State) (k : ℕ) (c : Refusal) → (callMeant head ps jobs st).answer ≡ CallAnswer.refused k c
-    → (callMeant head ps jobs st).after ≡ st
-unfolding callMeant
-meant-refused head ps jobs st k c = go (first_of (causesOf head ps st.table)) refl
+meant_refused : (head : Head) (ps : List Preset) (jobs : List Job) (st : State) (k : ℕ) (c : Refusal) → (call_meant head ps jobs st).answer ≡ CallAnswer.refused k c
+    → (call_meant head ps jobs st).after ≡ st
+unfolding call_meant
+meant_refused head ps jobs st k c = go (first_of (causes_of head ps st.table)) refl
   where
-    go : (o : Option Refusal) → first_of (causesOf head ps st.table) ≡ o → (callMeant head ps jobs st).answer ≡ CallAnswer.refused k c → (callMeant head ps jobs st).after ≡ st
-    go none q = rw (q, callMeant) (call-refused (headIn head ps) jobs st k c)
-    go (some x) q = rw (q, callMeant) (λ p. refl)
+    go : (o : Option Refusal) → first_of (causes_of head ps st.table) ≡ o → (call_meant head ps jobs st).answer ≡ CallAnswer.refused k c → (call_meant head ps jobs st).after ≡ st
+    go none q = rw (q, call_meant) (call_refused (head_in head ps) jobs st k c)
+    go (some x) q = rw (q, call_meant) (λ p. refl)
 
 -- ---- the copied that is loaded from a list
 
-copied-agrees : (ps : List Preset) → 32 ≤ length ps → take 32 (loaded ps) ≡ take 32 ps
-copied-agrees ps long = take-take 32 32 (ps ++ replicate 32 noRecord) (omega arith) ∙ take-append-le 32 ps (replicate 32 noRecord) long
+copied_agrees : (ps : List Preset) → 32 ≤ length ps → take 32 (loaded ps) ≡ take 32 ps
+copied_agrees ps long = take-take 32 32 (ps ++ replicate 32 no_record) (omega arith) ∙ take-append-le 32 ps (replicate 32 no_record) long
 
 -- ---- the contract of each entry
 
 module _ {n : ℕ} (head : Head) (ps : List Preset) {copied : List Preset} (counts : n ≡ length ps) (loads : copied ≡ loaded ps) where
-  copied-same : 32 ≤ length ps → take 32 copied ≡ take 32 ps
-  copied-same long = ap (take 32) loads ∙ copied-agrees ps long
+  copied_same : 32 ≤ length ps → take 32 copied ≡ take 32 ps
+  copied_same long = ap (take 32) loads ∙ copied_agrees ps long
 
-  pub plan-entered : {t u : List ℕ} {r : result.Planned} → PlanEntered n head copied t u r → PlanEntered (length ps) head ps t u r
-  plan-entered {t} e =
+  pub plan_entered : {t u : List ℕ} {r : result.Planned} → PlanEntered n head copied t u r → PlanEntered (length ps) head ps t u r
+  plan_entered {t} e =
       record {
         short = λ l. e.short (omega (arith, counts, l));
         done = λ l.
             let d = e.done (omega (arith, counts, l)) in
-            let o = same-plan head copied ps (copied-same l) t in
+            let o = same_plan head copied ps (copied_same l) t in
             record {
               answer = d.answer ∙ ap (λ (p : PlanOutcome). p.answer) o;
-              grants = d.grants ∙ ap (λ (p : PlanOutcome). filled 32 (length (grantsIn p.answer)) (at (grantsIn p.answer))) o;
+              grants = d.grants ∙ ap (λ (p : PlanOutcome). filled 32 (length (grants_in p.answer)) (at (grants_in p.answer))) o;
               table = d.table ∙ ap (λ (p : PlanOutcome). p.table) o;
             };
       }
 
-  call-entered : (jobs : List Job) (st : State) {u : List ℕ} {r : reply.CallAnswer} → CallEntered n head copied jobs st u r → CallEntered (length ps) head ps jobs st u r
-  call-entered jobs st e =
+  call_entered : (jobs : List Job) (st : State) {u : List ℕ} {r : reply.CallAnswer} → CallEntered n head copied jobs st u r → CallEntered (length ps) head ps jobs st u r
+  call_entered jobs st e =
       record {
         short = λ l. e.short (omega (arith, counts, l));
         done = λ l.
             let d = e.done (omega (arith, counts, l)) in
-            let o = same-call head copied ps (copied-same l) jobs st in
+            let o = same_call head copied ps (copied_same l) jobs st in
             record {
               answer = d.answer ∙ ap (λ (p : CallOutcome). p.answer) o;
               table = d.table ∙ ap (λ (p : CallOutcome). p.after.table) o;
@@ -115,22 +115,22 @@ module _ {n : ℕ} (head : Head) (ps : List Preset) {copied : List Preset} (coun
 
   module _ (jobs : List Job) (st : State) {u : List ℕ} {r : reply.CallAnswer} where
     -- a frame that 11 lets pass is one afterwards
-    entered-running : CallEntered (length ps) head ps jobs st u r → Running (headIn head ps) st → Running (headIn head ps) (state_of u st.clock st.hold)
-    entered-running e run = go (is (ltb (length ps) 32))
+    entered_running : CallEntered (length ps) head ps jobs st u r → Running (head_in head ps) st → Running (head_in head ps) (state_of u st.clock st.hold)
+    entered_running e run = go (is (ltb (length ps) 32))
       where
-        go : Is (ltb (length ps) 32) → Running (headIn head ps) (state_of u st.clock st.hold)
-        go (is_true l) = subst (λ (t : List ℕ). Running (headIn head ps) (state_of t st.clock st.hold)) (sym (e.short (lt_of (length ps) 32 l)).1) run
-        go (is_false l) = done-running head ps jobs st (e.done (ge-of (length ps) 32 l)) run
+        go : Is (ltb (length ps) 32) → Running (head_in head ps) (state_of u st.clock st.hold)
+        go (is_true l) = subst (λ (t : List ℕ). Running (head_in head ps) (state_of t st.clock st.hold)) (sym (e.short (lt_of (length ps) 32 l)).1) run
+        go (is_false l) = done_running head ps jobs st (e.done (ge_of (length ps) 32 l)) run
 
     -- and a refusal leaves the table
-    entered-unchanged : CallEntered (length ps) head ps jobs st u r → (k : ℕ) (c : Refusal) → callAnswerIn r ≡ CallAnswer.refused k c → u ≡ st.table
-    entered-unchanged e k c q = go (is (ltb (length ps) 32))
+    entered_unchanged : CallEntered (length ps) head ps jobs st u r → (k : ℕ) (c : Refusal) → call_answer_in r ≡ CallAnswer.refused k c → u ≡ st.table
+    entered_unchanged e k c q = go (is (ltb (length ps) 32))
       where
         go : Is (ltb (length ps) 32) → u ≡ st.table
         go (is_true l) = (e.short (lt_of (length ps) 32 l)).1
-        go (is_false l) = let d = e.done (ge-of (length ps) 32 l) in d.table ∙ ap (λ (x : State). x.table) (meant-refused head ps jobs st k c (sym d.answer ∙ q))
+        go (is_false l) = let d = e.done (ge_of (length ps) 32 l) in d.table ∙ ap (λ (x : State). x.table) (meant_refused head ps jobs st k c (sym d.answer ∙ q))
 
-    pub call-entry : CallEntered n head copied jobs st u r → CallEntry head ps jobs st u r
-    call-entry e =
-        let done = call-entered jobs st e in
-        record { done = done; unchanged = entered-unchanged done; kept = entered-running done; claim = call-claim (headIn head ps) jobs st }
+    pub call_entry : CallEntered n head copied jobs st u r → CallEntry head ps jobs st u r
+    call_entry e =
+        let done = call_entered jobs st e in
+        record { done = done; unchanged = entered_unchanged done; kept = entered_running done; claim = call_claim_lem (head_in head ps) jobs st }

@@ -1,7 +1,7 @@
 -- Laws of a slot's mask of free bridges.
 --
 -- In order: the bits of a number, lowest first (`taken-..`); the bits of the mask of a test
--- (`hasBit-mask`); the lowest bit that is set (`lowest`, `none-below-lowest`, `some-lowest`), and what is left without it
+-- (`has_bit_mask`); the lowest bit that is set (`lowest`, `none_below_lowest`, `some_lowest`), and what is left without it
 -- (`cleared`).
 -- Assumes nothing.
 use Prim.Native.Nat.{ℕ, zero, suc, ◌+◌, ◌-◌, ◌*◌, ◌/◌, ◌%◌, ◌^◌, ◌<◌}
@@ -18,31 +18,31 @@ use lib.Pow.{shr-shr}
 use Rattle.laws.specs.Sums.{bit}
 use Rattle.laws.proofs.Tests.{Is, is_true, is_false, is}
 use Rattle.laws.proofs.Comparisons.{eq_of, ne_of, eqb_yes, eqb_no}
-use Rattle.station.specs.Head.{hasBit}
-use Rattle.placing.specs.method.Mask.{bridgeMask}
+use Rattle.station.specs.Head.{has_bit}
+use Rattle.placing.specs.method.Mask.{bridge_mask}
 use Rattle.placing.proofs.BridgeMask.{mask_first}
 
 -- ---- the bits of a number
 
-pub hasBit-half : (m b : ℕ) → hasBit m (suc b) ≡ hasBit (m / 2) b
-hasBit-half m b =
+pub has_bit_half : (m b : ℕ) → has_bit m (suc b) ≡ has_bit (m / 2) b
+has_bit_half m b =
     ap (λ (n : ℕ). eqb (n % 2) 1) (ap (λ (k : ℕ). m / 2 ^ k) (sym (one-add b)) ∙ sym (shr-shr m 1 b))
 
 -- ---- the mask of a test
 
-pub hasBit-mask : (n : ℕ) (f : ℕ → Bool) (b : ℕ) → b < n → hasBit (bridgeMask n f) b ≡ f b
-hasBit-mask zero f b h = absurd (omega arith)
-hasBit-mask (suc n) f zero h = go (f 0) (mask_first n f)
+pub has_bit_mask : (n : ℕ) (f : ℕ → Bool) (b : ℕ) → b < n → has_bit (bridge_mask n f) b ≡ f b
+has_bit_mask zero f b h = absurd (omega arith)
+has_bit_mask (suc n) f zero h = go (f 0) (mask_first n f)
   where
-    go : (a : Bool) → bridgeMask (suc n) f ≡ bit a + 2 * bridgeMask n (λ b. f (suc b)) → hasBit (bridgeMask (suc n) f) 0 ≡ a
-    go true e = eqb_yes (bridgeMask (suc n) f / 2 ^ 0 % 2) 1 (omega (arith, e))
-    go false e = eqb_no (bridgeMask (suc n) f / 2 ^ 0 % 2) 1 (λ q. omega (arith, e))
-hasBit-mask (suc n) f (suc b) h =
-    hasBit-half (bridgeMask (suc n) f) b
-    ∙ ap (λ (m : ℕ). hasBit m b) (half (f 0) (mask_first n f))
-    ∙ hasBit-mask n (λ a. f (suc a)) b (omega arith)
+    go : (a : Bool) → bridge_mask (suc n) f ≡ bit a + 2 * bridge_mask n (λ b. f (suc b)) → has_bit (bridge_mask (suc n) f) 0 ≡ a
+    go true e = eqb_yes (bridge_mask (suc n) f / 2 ^ 0 % 2) 1 (omega (arith, e))
+    go false e = eqb_no (bridge_mask (suc n) f / 2 ^ 0 % 2) 1 (λ q. omega (arith, e))
+has_bit_mask (suc n) f (suc b) h =
+    has_bit_half (bridge_mask (suc n) f) b
+    ∙ ap (λ (m : ℕ). has_bit m b) (half (f 0) (mask_first n f))
+    ∙ has_bit_mask n (λ a. f (suc a)) b (omega arith)
   where
-    half : (a : Bool) → bridgeMask (suc n) f ≡ bit a + 2 * bridgeMask n (λ b. f (suc b)) → bridgeMask (suc n) f / 2 ≡ bridgeMask n (λ b. f (suc b))
+    half : (a : Bool) → bridge_mask (suc n) f ≡ bit a + 2 * bridge_mask n (λ b. f (suc b)) → bridge_mask (suc n) f / 2 ≡ bridge_mask n (λ b. f (suc b))
     half true e = omega (arith, e)
     half false e = omega (arith, e)
 
@@ -52,17 +52,17 @@ pub parity : (m : ℕ) → Is (eqb (m % 2) 1) → (m % 2 ≡ 1) ⊎ (m % 2 ≡ 0
 parity m (is_true e) = inl (eq_of (m % 2) 1 e)
 parity m (is_false e) = inr (let ne : m % 2 ≡ 1 → ⊥ = ne_of (m % 2) 1 e in omega arith)
 
-taken-odd : (m : ℕ) → m % 2 ≡ 1 → hasBit m 0 ≡ true
-taken-odd m e = eqb_yes (m / 2 ^ 0 % 2) 1 (omega (arith, e))
+taken_odd : (m : ℕ) → m % 2 ≡ 1 → has_bit m 0 ≡ true
+taken_odd m e = eqb_yes (m / 2 ^ 0 % 2) 1 (omega (arith, e))
 
-pub taken-even : (m : ℕ) → m % 2 ≡ 0 → hasBit m 0 ≡ false
-taken-even m e = eqb_no (m / 2 ^ 0 % 2) 1 (λ q. omega (arith, e))
+pub taken_even : (m : ℕ) → m % 2 ≡ 0 → has_bit m 0 ≡ false
+taken_even m e = eqb_no (m / 2 ^ 0 % 2) 1 (λ q. omega (arith, e))
 
 -- of a number of n bits that is not 0: the bit at `count_trailing_zeros` is set, and none below it
 pub record Lowest (n m : ℕ) : Type 0 where
   pub within : count_trailing_zeros n m < n
-  pub set : hasBit m (count_trailing_zeros n m) ≡ true
-  pub none_below : (b : ℕ) → b < count_trailing_zeros n m → hasBit m b ≡ false
+  pub set : has_bit m (count_trailing_zeros n m) ≡ true
+  pub none_below : (b : ℕ) → b < count_trailing_zeros n m → has_bit m b ≡ false
 
 pub lowest : (n m : ℕ) → 0 < m → m < 2 ^ n → Lowest n m
 unfolding count_trailing_zeros
@@ -71,34 +71,34 @@ lowest (suc n) m p h = go (λ q. lowest n (m / 2) q (omega (arith, pow-suc 2 n))
   where
     go : (0 < m / 2 → Lowest n (m / 2)) → (m % 2 ≡ 1) ⊎ (m % 2 ≡ 0) → Lowest (suc n) m
     go ih (inl e) =
-        record { within = rw e (omega arith); set = rw e (taken-odd m e); none_below = rw e (λ b l. absurd (omega arith)) }
+        record { within = rw e (omega arith); set = rw e (taken_odd m e); none_below = rw e (λ b l. absurd (omega arith)) }
     go ih (inr e) =
         let i = ih (omega (arith, e)) in
         record {
           within = rw e (omega (arith, i.within));
-          set = rw e (hasBit-half m (count_trailing_zeros n (m / 2)) ∙ i.set);
+          set = rw e (has_bit_half m (count_trailing_zeros n (m / 2)) ∙ i.set);
           none_below = rw e (λ b. below i b);
         }
       where
-        below : Lowest n (m / 2) → (b : ℕ) → b < suc (count_trailing_zeros n (m / 2)) → hasBit m b ≡ false
-        below i zero l = taken-even m e
-        below i (suc b) l = hasBit-half m b ∙ i.none_below b (omega arith)
+        below : Lowest n (m / 2) → (b : ℕ) → b < suc (count_trailing_zeros n (m / 2)) → has_bit m b ≡ false
+        below i zero l = taken_even m e
+        below i (suc b) l = has_bit_half m b ∙ i.none_below b (omega arith)
 
-pub hasBit-zero : (b : ℕ) → hasBit 0 b ≡ false
-hasBit-zero zero = refl
-hasBit-zero (suc b) = hasBit-half 0 b ∙ hasBit-zero b
+pub has_bit_zero : (b : ℕ) → has_bit 0 b ≡ false
+has_bit_zero zero = refl
+has_bit_zero (suc b) = has_bit_half 0 b ∙ has_bit_zero b
 
 -- Of any number of n bits, 0 included, where `count_trailing_zeros` is n: no bit below it is set, and one is if it is below n.
-pub none-below-lowest : (n m : ℕ) → m < 2 ^ n → (b : ℕ) → b < count_trailing_zeros n m → hasBit m b ≡ false
-none-below-lowest n zero h b l = hasBit-zero b
-none-below-lowest n (suc m) h b l = (lowest n (suc m) (omega arith) h).none_below b l
+pub none_below_lowest : (n m : ℕ) → m < 2 ^ n → (b : ℕ) → b < count_trailing_zeros n m → has_bit m b ≡ false
+none_below_lowest n zero h b l = has_bit_zero b
+none_below_lowest n (suc m) h b l = (lowest n (suc m) (omega arith) h).none_below b l
 
-pub some-lowest : (n m : ℕ) → count_trailing_zeros n m < n → 0 < m
-some-lowest n zero h = absurd (omega (arith, trailing_of_zero n))
-some-lowest n (suc m) h = omega arith
+pub some_lowest : (n m : ℕ) → count_trailing_zeros n m < n → 0 < m
+some_lowest n zero h = absurd (omega (arith, trailing_of_zero n))
+some_lowest n (suc m) h = omega arith
 
 -- m & (m - 1) has the bits of m but the lowest one
-pub cleared : (n m : ℕ) → 0 < m → m < 2 ^ n → (b : ℕ) → hasBit (bit_and m (m - 1)) b ≡ (hasBit m b && not (eqb b (count_trailing_zeros n m)))
+pub cleared : (n m : ℕ) → 0 < m → m < 2 ^ n → (b : ℕ) → has_bit (bit_and m (m - 1)) b ≡ (has_bit m b && not (eqb b (count_trailing_zeros n m)))
 unfolding count_trailing_zeros
 cleared zero m p h b = absurd (omega arith)
 cleared (suc n) m p h b = go b (λ q a. cleared n (m / 2) q (omega (arith, pow-suc 2 n)) a) (parity m (is (eqb (m % 2) 1)))
@@ -115,21 +115,21 @@ cleared (suc n) m p h b = go b (λ q a. cleared n (m / 2) q (omega (arith, pow-s
         let low : (m - 1) % 2 ≡ 1 = omega (arith, e) in
         and_step m (m - 1) ∙ (rw (half, low, e) (omega arith))
 
-    go : (b : ℕ) → (0 < m / 2 → (a : ℕ) → hasBit (bit_and (m / 2) (m / 2 - 1)) a ≡ (hasBit (m / 2) a && not (eqb a (count_trailing_zeros n (m / 2)))))
-        → (m % 2 ≡ 1) ⊎ (m % 2 ≡ 0) → hasBit (bit_and m (m - 1)) b ≡ (hasBit m b && not (eqb b (count_trailing_zeros (suc n) m)))
-    go zero ih (inl e) = rw (odd e, taken-odd m e, e) (taken-even (m - 1) (omega (arith, e)))
+    go : (b : ℕ) → (0 < m / 2 → (a : ℕ) → has_bit (bit_and (m / 2) (m / 2 - 1)) a ≡ (has_bit (m / 2) a && not (eqb a (count_trailing_zeros n (m / 2)))))
+        → (m % 2 ≡ 1) ⊎ (m % 2 ≡ 0) → has_bit (bit_and m (m - 1)) b ≡ (has_bit m b && not (eqb b (count_trailing_zeros (suc n) m)))
+    go zero ih (inl e) = rw (odd e, taken_odd m e, e) (taken_even (m - 1) (omega (arith, e)))
     go (suc b) ih (inl e) =
         let half : (m - 1) / 2 ≡ m / 2 = omega (arith, e) in
-        ap (λ (k : ℕ). hasBit k (suc b)) (odd e)
-        ∙ hasBit-half (m - 1) b
-        ∙ ap (λ (k : ℕ). hasBit k b) half
-        ∙ sym (hasBit-half m b)
-        ∙ (rw (e, eqb-suc-zero b) (sym (and-true (hasBit m (suc b)))))
-    go zero ih (inr e) = rw (even e, taken-even m e) (taken-even (bit_and (m / 2) (m / 2 - 1) * 2) (omega arith))
+        ap (λ (k : ℕ). has_bit k (suc b)) (odd e)
+        ∙ has_bit_half (m - 1) b
+        ∙ ap (λ (k : ℕ). has_bit k b) half
+        ∙ sym (has_bit_half m b)
+        ∙ (rw (e, eqb-suc-zero b) (sym (and-true (has_bit m (suc b)))))
+    go zero ih (inr e) = rw (even e, taken_even m e) (taken_even (bit_and (m / 2) (m / 2 - 1) * 2) (omega arith))
     go (suc b) ih (inr e) =
         let half : bit_and (m / 2) (m / 2 - 1) * 2 / 2 ≡ bit_and (m / 2) (m / 2 - 1) = omega arith in
-        ap (λ (k : ℕ). hasBit k (suc b)) (even e)
-        ∙ hasBit-half (bit_and (m / 2) (m / 2 - 1) * 2) b
-        ∙ ap (λ (k : ℕ). hasBit k b) half
+        ap (λ (k : ℕ). has_bit k (suc b)) (even e)
+        ∙ has_bit_half (bit_and (m / 2) (m / 2 - 1) * 2) b
+        ∙ ap (λ (k : ℕ). has_bit k b) half
         ∙ ih (omega (arith, e)) b
-        ∙ (rw (e, eqb-suc-suc b (count_trailing_zeros n (m / 2)), hasBit-half m b) refl)
+        ∙ (rw (e, eqb-suc-suc b (count_trailing_zeros n (m / 2)), has_bit_half m b) refl)

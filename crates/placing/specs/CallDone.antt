@@ -6,27 +6,27 @@ use Rattle.station.specs.Head.{Head, Job}
 use Rattle.station.specs.Refusal.{first_of}
 use Rattle.station.specs.declared.types.Preset as record-of-preset
 use Rattle.station.specs.declared.types.Head as record-of-head
-use Rattle.station.specs.Types.{headIn, refusalIn}
+use Rattle.station.specs.Types.{head_in, refusal_in}
 use Rattle.placing.specs.declared.call.CallAnswer as reply
 use Rattle.placing.specs.declared.call.CallAnswer.TheVariants.{Taken, Refused}
 use Rattle.placing.specs.State.{State}
 use Rattle.placing.specs.Outcomes.{cost, CallAnswer, taken, refused, CallOutcome, call_of}
-use Rattle.placing.specs.Causes.{causesOf}
+use Rattle.placing.specs.Causes.{causes_of}
 
 -- what an answer of the code stands for
-abbrev pub callAnswerIn : reply.CallAnswer → CallAnswer
-callAnswerIn (Taken n) = taken (cost n)
-callAnswerIn (Refused n r) = refused n (refusalIn r)
+abbrev pub call_answer_in : reply.CallAnswer → CallAnswer
+call_answer_in (Taken n) = taken (cost n)
+call_answer_in (Refused n r) = refused n (refusal_in r)
 
 -- The outcome of a call for a head record and its preset records: where no cause of the record alone holds, that of the head they stand for.
-unfoldable pub callMeant : record-of-head.Head → List record-of-preset.Preset → List Job → State → CallOutcome
-callMeant head ps jobs st =
-    elim (first_of (causesOf head ps st.table)) [
-      | none ↦ call_of (headIn head ps) jobs st
+unfoldable pub call_meant : record-of-head.Head → List record-of-preset.Preset → List Job → State → CallOutcome
+call_meant head ps jobs st =
+    elim (first_of (causes_of head ps st.table)) [
+      | none ↦ call_of (head_in head ps) jobs st
       | some r ↦ record { answer = refused 0 r; after = st }
     ]
 
 -- What `call_by_value` answers and leaves: the answer and the table are those of the outcome.
 pub record CallDone (head : record-of-head.Head) (ps : List record-of-preset.Preset) (jobs : List Job) (st : State) (u : List ℕ) (r : reply.CallAnswer) : Type 0 where
-  pub answer : callAnswerIn r ≡ (callMeant head ps jobs st).answer
-  pub table : u ≡ (callMeant head ps jobs st).after.table
+  pub answer : call_answer_in r ≡ (call_meant head ps jobs st).answer
+  pub table : u ≡ (call_meant head ps jobs st).after.table

@@ -8,26 +8,26 @@ use Rattle.laws.specs.Placement.{capacity, largest}
 use Rattle.station.specs.Head.{Head, Job}
 use Rattle.placing.specs.Table.{Cells, cell, cells}
 use Rattle.placing.specs.Valid.{ValidPlan, ValidCall, lost}
-use Rattle.placing.specs.Plan.{mandatories, planFreeCount}
-use Rattle.placing.specs.Call.{lengths, freeNumberFrom, usableCount}
+use Rattle.placing.specs.Plan.{mandatories, plan_free_count}
+use Rattle.placing.specs.Call.{lengths, free_number_from, usable_count}
 
 -- "Room for r: the sum over the slots of the smaller of r and the number of free bridges", by the free number: for a plan; for a call in the cells that it may use, the empty and the
 -- refinement cells of slots above the clock; and in those of them that are empty, that is without loss.
-abbrev pub planCapacity : Head → ℕ → ℕ
-planCapacity h r = capacity h.slots (planFreeCount h) r
+abbrev pub plan_capacity : Head → ℕ → ℕ
+plan_capacity h r = capacity h.slots (plan_free_count h) r
 
-abbrev pub callCapacity : Head → ℕ → Cells → ℕ → ℕ
-callCapacity h clock t r = capacity h.slots (usableCount h clock t) r
+abbrev pub call_capacity : Head → ℕ → Cells → ℕ → ℕ
+call_capacity h clock t r = capacity h.slots (usable_count h clock t) r
 
-abbrev pub freeCapacity : Head → ℕ → Cells → ℕ → ℕ
-freeCapacity h clock t r = capacity h.slots (freeNumberFrom h clock t) r
+abbrev pub free_capacity : Head → ℕ → Cells → ℕ → ℕ
+free_capacity h clock t r = capacity h.slots (free_number_from h clock t) r
 
 -- "the r largest needs together": of a plan's required slots, and of a call's jobs
-abbrev pub largestMandatory : Head → ℕ → ℕ
-largestMandatory h r = largest (length (mandatories h)) (at (mandatories h)) r
+abbrev pub largest_mandatory : Head → ℕ → ℕ
+largest_mandatory h r = largest (length (mandatories h)) (at (mandatories h)) r
 
-abbrev pub longestJobs : List Job → ℕ → ℕ
-longestJobs jobs r = largest (length (lengths jobs)) (at (lengths jobs)) r
+abbrev pub longest_jobs : List Job → ℕ → ℕ
+longest_jobs jobs r = largest (length (lengths jobs)) (at (lengths jobs)) r
 
 -- e is the greatest of the numbers by which `need r`, for some r, exceeds `limit r`: none exceeds it by more, and one by just e. (For r = 0 the needs and the room are both 0, so that e is 0 where
 -- no r exceeds it.)
@@ -37,13 +37,13 @@ pub record GreatestExcess (need limit : ℕ → ℕ) (e : ℕ) : Type 0 where
 
 -- "Needs fit exactly if, for every r, the r largest needs together do not exceed it": the required slots of a plan.
 pub record PlanByCapacity (h : Head) : Type 0 where
-  pub fits : ((u : List ℕ) × ValidPlan h (cell h u)) ↔ ((r : ℕ) → largestMandatory h r ≤ planCapacity h r)
+  pub fits : ((u : List ℕ) × ValidPlan h (cell h u)) ↔ ((r : ℕ) → largest_mandatory h r ≤ plan_capacity h r)
 
 -- The same for the jobs of a call, on the table t at a clock; and what it loses: every valid placement at least what for any r the r longest jobs exceed the room for r without loss by,
 -- and where one exists, one of them no more than that at the worst r.
 pub record CallByCapacity (h : Head) (clock : ℕ) (jobs : List Job) (t : Cells) : Type 0 where
-  pub fits : ((u : List ℕ) × ValidCall h clock jobs t (cell h u)) ↔ ((r : ℕ) → longestJobs jobs r ≤ callCapacity h clock t r)
+  pub fits : ((u : List ℕ) × ValidCall h clock jobs t (cell h u)) ↔ ((r : ℕ) → longest_jobs jobs r ≤ call_capacity h clock t r)
   pub loses : (u : List ℕ) → ValidCall h clock jobs t (cell h u)
-      → (r : ℕ) → longestJobs jobs r ≤ freeCapacity h clock t r + cells h (λ s b. lost t (cell h u) s b)
-  pub no_more : ((r : ℕ) → longestJobs jobs r ≤ callCapacity h clock t r)
-      → (u : List ℕ) × ValidCall h clock jobs t (cell h u) × GreatestExcess (longestJobs jobs) (freeCapacity h clock t) (cells h (λ s b. lost t (cell h u) s b))
+      → (r : ℕ) → longest_jobs jobs r ≤ free_capacity h clock t r + cells h (λ s b. lost t (cell h u) s b)
+  pub no_more : ((r : ℕ) → longest_jobs jobs r ≤ call_capacity h clock t r)
+      → (u : List ℕ) × ValidCall h clock jobs t (cell h u) × GreatestExcess (longest_jobs jobs) (free_capacity h clock t) (cells h (λ s b. lost t (cell h u) s b))

@@ -3,33 +3,33 @@
 -- Assumes nothing.
 use Rattle.std.specs.Prelude.{ℕ, ◌-◌, not, List, [], ◌∷◌, ◌++◌, length, replicate, ltb}
 use Rattle.std.proofs.Math.Option.{Option, none, some}
-use Rattle.station.specs.Limits.{mostJobs, leastCells}
+use Rattle.station.specs.Limits.{most_jobs, least_cells}
 use Rattle.station.specs.Head.{Job}
-use Rattle.station.specs.Refusal.{Refusal, outOfLimits, tooShort, notWellFormed, try}
+use Rattle.station.specs.Refusal.{Refusal, out_of_limits, too_short, not_well_formed, try}
 use Rattle.station.specs.declared.types.Job as record-of-job
 use Rattle.station.specs.declared.types.Preset as types
 use Rattle.station.specs.declared.types.Head as record-of-head
-use Rattle.station.specs.Types.{headIn, validRecord, refusalIn}
+use Rattle.station.specs.Types.{head_in, valid_record, refusal_in}
 use Rattle.placing.specs.declared.check.Cause as cause
 use Rattle.placing.specs.declared.check.Cause.TheVariants.{Met, Passed}
-use Rattle.placing.specs.State.{State, wellFormedFrame}
-use Rattle.placing.specs.Valid.{noJob}
-use Rattle.placing.specs.Types.{jobsIn}
+use Rattle.placing.specs.State.{State, well_formed_frame}
+use Rattle.placing.specs.Valid.{no_job}
+use Rattle.placing.specs.Types.{jobs_in}
 
 -- what trying some causes gave
-abbrev pub causeIn : cause.Cause → Option Refusal
-causeIn (Met r) = some (refusalIn r)
-causeIn Passed = none
+abbrev pub cause_in : cause.Cause → Option Refusal
+cause_in (Met r) = some (refusal_in r)
+cause_in Passed = none
 
 -- The causes of a lent table and a head record alone: "lent table below 512 cells"; "a head record that no text yields", such as one that counts more
 -- presets than there are records.
-abbrev pub causesOf : record-of-head.Head → List types.Preset → List ℕ → List (Option Refusal)
-causesOf head ps t = try tooShort (ltb (length t) leastCells) ∷ try outOfLimits (not (validRecord head ps)) ∷ []
+abbrev pub causes_of : record-of-head.Head → List types.Preset → List ℕ → List (Option Refusal)
+causes_of head ps t = try too_short (ltb (length t) least_cells) ∷ try out_of_limits (not (valid_record head ps)) ∷ []
 
 -- The causes tried of a running frame: those of the table and the head record alone, then "a table that is not sound, or a clock outside" 0 to S + 1 (2026-05).
-abbrev pub frameCausesOf : record-of-head.Head → List types.Preset → State → List (Option Refusal)
-frameCausesOf head ps st = causesOf head ps st.table ++ (try notWellFormed (not (wellFormedFrame (headIn head ps) st)) ∷ [])
+abbrev pub frame_causes_of : record-of-head.Head → List types.Preset → State → List (Option Refusal)
+frame_causes_of head ps st = causes_of head ps st.table ++ (try not_well_formed (not (well_formed_frame (head_in head ps) st)) ∷ [])
 
 -- The jobs of a call that says it has n of them: the first n of eight records; past the eighth no job, so that "a ninth job in a call" is met.
-unfoldable pub callJobs : ℕ → List record-of-job.Job → List Job
-callJobs n js = jobsIn n js ++ replicate (n - mostJobs) noJob
+unfoldable pub call_jobs : ℕ → List record-of-job.Job → List Job
+call_jobs n js = jobs_in n js ++ replicate (n - most_jobs) no_job

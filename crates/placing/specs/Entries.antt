@@ -2,42 +2,42 @@
 -- of records, in file order"; "Causes": 8 for a "preset list below 32 records".
 -- Assumes nothing.
 use Rattle.std.specs.Prelude.{ℕ, ◌≤◌, ◌<◌, ◌≡◌, List, length, replicate}
-use Rattle.station.specs.Limits.{mostPresets, leastRecords}
+use Rattle.station.specs.Limits.{most_presets, least_records}
 use Rattle.station.specs.Head.{Job}
 use Rattle.station.specs.Refusal.{Refusal}
-use Rattle.station.specs.Types.{headIn}
+use Rattle.station.specs.Types.{head_in}
 use Rattle.station.specs.declared.types.Preset.{Preset}
 use Rattle.station.specs.declared.types.Head.{Head}
 use Rattle.station.specs.declared.types.Refusal.TheVariants.{TooShort}
 use Rattle.placing.specs.declared.plan.Planned.{Planned}
-use Rattle.placing.specs.declared.plan.PlanAnswer.TheVariants as plan-answer
+use Rattle.placing.specs.declared.plan.PlanAnswer.TheVariants as plan_answer
 use Rattle.placing.specs.PlanDone.{PlanDone}
 use Rattle.placing.specs.declared.call.CallAnswer.{CallAnswer}
-use Rattle.placing.specs.declared.call.CallAnswer.TheVariants as call-answer
+use Rattle.placing.specs.declared.call.CallAnswer.TheVariants as call_answer
 use Rattle.placing.specs.State.{State, state_of}
 use Rattle.placing.specs.Outcomes as outcome
-use Rattle.placing.specs.CallDone.{callAnswerIn, CallDone}
+use Rattle.placing.specs.CallDone.{call_answer_in, CallDone}
 use Rattle.placing.specs.Claims.{Running, CallClaim}
 
 -- 8, and no grants
-abbrev pub planTooShort : Planned
-planTooShort = record { answer = plan-answer.Refused 0 TooShort; grants = replicate mostPresets 0 }
+abbrev pub plan_too_short : Planned
+plan_too_short = record { answer = plan_answer.Refused 0 TooShort; grants = replicate most_presets 0 }
 
 -- What a plan over n preset records answers and leaves. Fewer than 32: 8, and "every lent cell" is left as it was. Else what a plan over these records does.
 pub record PlanEntered (n : ℕ) (head : Head) (ps : List Preset) (t u : List ℕ) (r : Planned) : Type 0 where
-  pub short : n < leastRecords → (r ≡ planTooShort) × (u ≡ t)
-  pub done : leastRecords ≤ n → PlanDone head ps t u r
+  pub short : n < least_records → (r ≡ plan_too_short) × (u ≡ t)
+  pub done : least_records ≤ n → PlanDone head ps t u r
 
 -- What a call over n preset records answers and leaves. Fewer than 32: 8, and "every lent cell" is left as it was. Else what a call over these records does.
 pub record CallEntered (n : ℕ) (head : Head) (ps : List Preset) (jobs : List Job) (st : State) (u : List ℕ) (r : CallAnswer) : Type 0 where
-  pub short : n < leastRecords → (r ≡ call-answer.Refused 0 TooShort) × (u ≡ st.table)
-  pub done : leastRecords ≤ n → CallDone head ps jobs st u r
+  pub short : n < least_records → (r ≡ call_answer.Refused 0 TooShort) × (u ≡ st.table)
+  pub done : least_records ≤ n → CallDone head ps jobs st u r
 
 -- What `call` answers and leaves, and what is claimed of it.
 pub record CallEntry (head : Head) (ps : List Preset) (jobs : List Job) (st : State) (u : List ℕ) (r : CallAnswer) : Type 0 where
   pub done : CallEntered (length ps) head ps jobs st u r
   -- "a refusal that changes nothing"
-  pub unchanged : (n : ℕ) (c : Refusal) → callAnswerIn r ≡ outcome.CallAnswer.refused n c → u ≡ st.table
+  pub unchanged : (n : ℕ) (c : Refusal) → call_answer_in r ≡ outcome.CallAnswer.refused n c → u ≡ st.table
   -- a frame that 11 lets pass is such a frame afterwards: "Each event gets the table and clock that the last one left"
-  pub kept : Running (headIn head ps) st → Running (headIn head ps) (state_of u st.clock st.hold)
-  pub claim : CallClaim (headIn head ps) jobs st
+  pub kept : Running (head_in head ps) st → Running (head_in head ps) (state_of u st.clock st.hold)
+  pub claim : CallClaim (head_in head ps) jobs st

@@ -3,11 +3,11 @@
 use Rattle.std.specs.Prelude.{ℕ, zero, suc, List, map, take, set, replicate}
 use Rattle.station.specs.declared.types.Job.{Job}
 use Rattle.station.specs.Head as meant
-use Rattle.station.specs.Types.{jobIn}
+use Rattle.station.specs.Types.{job_in}
 
 -- the jobs of a call that has n of them: the first n records
-abbrev pub jobsIn : ℕ → List Job → List meant.Job
-jobsIn n js = map jobIn (take n js)
+abbrev pub jobs_in : ℕ → List Job → List meant.Job
+jobs_in n js = map job_in (take n js)
 
 -- An array of m numbers of which the first n are f 0, .., f (n - 1), written one after the other, and the others 0.
 unfoldable pub filled : ℕ → ℕ → (ℕ → ℕ) → List ℕ

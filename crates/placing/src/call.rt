@@ -1,15 +1,15 @@
 // A call on a running frame: the causes, by the counts of the table and the clock, then the eviction search, then the jobs into the table. The entry `call` has its presets in
 // a borrowed slice of records, `call_by_value` by value; `call_by_counts` is for who keeps the counts between calls.
 ghost use Rattle.std.specs.Prelude.{◌≡◌, true, false, ℕ, ◌<◌, ◌≤◌, length, get_or};
-ghost use Rattle.station.specs.Limits.{mostJobs, leastCells};
-ghost use Rattle.station.specs.Types.{headIn, validRecord};
-ghost use Rattle.placing.specs.Table.{WellFormed, cell, callCell};
-ghost use Rattle.placing.specs.Valid.{jobAt};
-ghost use Rattle.placing.specs.Types.{jobsIn};
-ghost use Rattle.placing.specs.Outcomes.{jobsOutside};
+ghost use Rattle.station.specs.Limits.{most_jobs, least_cells};
+ghost use Rattle.station.specs.Types.{head_in, valid_record};
+ghost use Rattle.placing.specs.Table.{WellFormed, cell, call_cell};
+ghost use Rattle.placing.specs.Valid.{job_at};
+ghost use Rattle.placing.specs.Types.{jobs_in};
+ghost use Rattle.placing.specs.Outcomes.{jobs_outside};
 ghost use Rattle.placing.specs.Claims.{Running, CallClaim};
 ghost use Rattle.placing.specs.State.{state_of};
-ghost use Rattle.placing.specs.Causes.{callJobs};
+ghost use Rattle.placing.specs.Causes.{call_jobs};
 ghost use Rattle.placing.specs.method.Counts.{CountsOf};
 ghost use Rattle.placing.specs.CallDone.{CallDone};
 ghost use Rattle.placing.specs.Entries.{CallEntered, CallEntry};
@@ -37,7 +37,7 @@ pub enum CallAnswer {
 
 // The call cell with the number of each of the eight job records; 0 past them. Of jobs within their limits the numbers are the jobs' own.
 fn job_cells(jobs: [Job; MOST_JOBS]) -> [Cell; MOST_PLACED]
-    ensures { (n : ℕ) → n ≤ mostJobs → jobsOutside (jobsIn n jobs) ≡ false → (i : ℕ) → i < n → get_or result i 0 ≡ callCell (jobAt (jobsIn n jobs) i).number }
+    ensures { (n : ℕ) → n ≤ most_jobs → jobs_outside (jobs_in n jobs) ≡ false → (i : ℕ) → i < n → get_or result i 0 ≡ call_cell (job_at (jobs_in n jobs) i).number }
 {
     let mut all = [0u16; MOST_PLACED];
     let mut i = 0;
@@ -69,8 +69,8 @@ fn carry_out(
     jobs: [Job; MOST_JOBS],
     n: usize,
 ) -> CallAnswer
-    ensures { validRecord head presets ≡ true → leastCells ≤ length table.old → WellFormed (headIn head presets) (cell (headIn head presets) table.old)
-        → n ≤ mostJobs → jobsOutside (jobsIn n jobs) ≡ false → CallCarriedOut (headIn head presets) (jobsIn n jobs) (state_of table.old clock hold) table.new result }
+    ensures { valid_record head presets ≡ true → least_cells ≤ length table.old → WellFormed (head_in head presets) (cell (head_in head presets) table.old)
+        → n ≤ most_jobs → jobs_outside (jobs_in n jobs) ≡ false → CallCarriedOut (head_in head presets) (jobs_in n jobs) (state_of table.old clock hold) table.new result }
 {
     let slots = head.slots;
     let bridges = head.bridges;
@@ -106,10 +106,10 @@ pub fn call_by_counts(
     admitted: &mut usize,
     entries: &mut [u8; MOST_BRIDGES],
 ) -> CallAnswer
-    ensures { validRecord head presets ≡ true → Running (headIn head presets) (state_of table.old clock hold)
-        → CountsOf (headIn head presets) clock (cell (headIn head presets) table.old) used.old admitted.old entries.old
-        → CallDone head presets (callJobs n jobs) (state_of table.old clock hold) table.new result
-        × CountsOf (headIn head presets) clock (cell (headIn head presets) table.new) used.new admitted.new entries.new }
+    ensures { valid_record head presets ≡ true → Running (head_in head presets) (state_of table.old clock hold)
+        → CountsOf (head_in head presets) clock (cell (head_in head presets) table.old) used.old admitted.old entries.old
+        → CallDone head presets (call_jobs n jobs) (state_of table.old clock hold) table.new result
+        × CountsOf (head_in head presets) clock (cell (head_in head presets) table.new) used.new admitted.new entries.new }
 {
     if let Cause::Met(r) = cause_by_counts(used, *admitted, entries, jobs, n) {
         return CallAnswer::Refused(0, r);
@@ -132,9 +132,9 @@ pub fn call_by_value(
     jobs: [Job; MOST_JOBS],
     n: usize,
 ) -> CallAnswer
-    ensures done { CallDone head presets (callJobs n jobs) (state_of table.old clock hold) table.new result }
-    ensures kept { Running (headIn head presets) (state_of table.old clock hold) → Running (headIn head presets) (state_of table.new clock hold) }
-    ensures claim { CallClaim (headIn head presets) (callJobs n jobs) (state_of table.old clock hold) }
+    ensures done { CallDone head presets (call_jobs n jobs) (state_of table.old clock hold) table.new result }
+    ensures kept { Running (head_in head presets) (state_of table.old clock hold) → Running (head_in head presets) (state_of table.new clock hold) }
+    ensures claim { CallClaim (head_in head presets) (call_jobs n jobs) (state_of table.old clock hold) }
 {
     if let Cause::Met(r) = frame_cause(head, presets, table, clock) {
         return CallAnswer::Refused(0, r);
@@ -168,7 +168,7 @@ fn call_counted(
     jobs: [Job; MOST_JOBS],
     n: usize,
 ) -> CallAnswer
-    ensures { CallEntered records head copied (callJobs n jobs) (state_of table.old clock hold) table.new result }
+    ensures { CallEntered records head copied (call_jobs n jobs) (state_of table.old clock hold) table.new result }
 {
     if records < LEAST_RECORDS {
         return CallAnswer::Refused(0, Refusal::TooShort);
@@ -188,7 +188,7 @@ pub fn call(
     jobs: [Job; MOST_JOBS],
     n: usize,
 ) -> CallAnswer
-    ensures { CallEntry head presets.now (callJobs n jobs) (state_of table.old clock hold) table.new result }
+    ensures { CallEntry head presets.now (call_jobs n jobs) (state_of table.old clock hold) table.new result }
 {
     let records = record_count(presets);
     let copied = load(presets);

@@ -4,9 +4,9 @@ ghost use Rattle.std.specs.Prelude.{ℕ, ◌+◌, ◌-◌, ◌*◌, ◌<◌, ◌
 ghost use Rattle.std.specs.Int.Count.{ones};
 ghost use Rattle.laws.specs.Sums.{bit, only};
 ghost use Rattle.laws.specs.Lists.{at};
-ghost use Rattle.laws.specs.method.Capacities.{AtLeast, capacityFrom, excessOver};
-ghost use Rattle.station.specs.Limits.{mostSlots, mostBridges};
-ghost use Rattle.placing.specs.method.Limits.{mostPlaced};
+ghost use Rattle.laws.specs.method.Capacities.{AtLeast, capacity_from, excess_over};
+ghost use Rattle.station.specs.Limits.{most_slots, most_bridges};
+ghost use Rattle.placing.specs.method.Limits.{most_placed};
 
 use crate::limits::CAPACITY_COUNT;
 use crate::numbers::{larger, less, less_byte, ones_in, smaller, wide};
@@ -14,8 +14,8 @@ use station::limits::{MOST_BRIDGES, MOST_SLOTS};
 
 // Enters a slot with so many free bridges: it has at least one, two, up to as many.
 pub(crate) fn enter_slot(entries: &mut [u8; MOST_BRIDGES], free: usize)
-    requires { (length entries.old ≡ mostBridges) × ((r : ℕ) → r < mostBridges → get_or entries.old r 0 < 255) }
-    ensures { (length entries.new ≡ mostBridges) × ((r : ℕ) → r < mostBridges → get_or entries.new r 0 ≡ get_or entries.old r 0 + bit (ltb r free)) }
+    requires { (length entries.old ≡ most_bridges) × ((r : ℕ) → r < most_bridges → get_or entries.old r 0 < 255) }
+    ensures { (length entries.new ≡ most_bridges) × ((r : ℕ) → r < most_bridges → get_or entries.new r 0 ≡ get_or entries.old r 0 + bit (ltb r free)) }
 {
     let mut r = 0;
     while r < MOST_BRIDGES {
@@ -28,7 +28,7 @@ pub(crate) fn enter_slot(entries: &mut [u8; MOST_BRIDGES], free: usize)
 
 // Takes a slot with so many free bridges off again.
 pub(crate) fn leave_slot(entries: &mut [u8; MOST_BRIDGES], free: usize)
-    ensures { (length entries.new ≡ length entries.old) × (length entries.old ≡ mostBridges → (r : ℕ) → r < mostBridges → get_or entries.new r 0 ≡ get_or entries.old r 0 - bit (ltb r free)) }
+    ensures { (length entries.new ≡ length entries.old) × (length entries.old ≡ most_bridges → (r : ℕ) → r < most_bridges → get_or entries.new r 0 ≡ get_or entries.old r 0 - bit (ltb r free)) }
 {
     let mut r = 0;
     while r < MOST_BRIDGES {
@@ -46,7 +46,7 @@ pub(crate) fn slot_counts(
     slots: usize,
     entries: &mut [u8; MOST_BRIDGES],
 ) -> [usize; MOST_SLOTS]
-    requires { (slots ≤ mostSlots) × (entries.old ≡ replicate mostBridges 0) }
+    requires { (slots ≤ most_slots) × (entries.old ≡ replicate most_bridges 0) }
     ensures { ((s : ℕ) → get_or result s 0 ≡ only (ltb s slots) (min (ones (get_or masks.now s 0)) (get_or spare.now s 0))) × AtLeast entries.new slots (at result) }
 {
     let mut out = [0usize; MOST_SLOTS];
@@ -66,7 +66,7 @@ pub(crate) fn excess(
     total: usize,
     entries: &[u8; MOST_BRIDGES],
 ) -> usize
-    ensures { result ≡ excessOver (at sums.now) total (capacityFrom entries.now) }
+    ensures { result ≡ excess_over (at sums.now) total (capacity_from entries.now) }
 {
     let mut most = sums[0];
     let mut capacity = 0;
@@ -86,8 +86,8 @@ pub(crate) fn lacks(
     entries: &[u8; MOST_BRIDGES],
     short: usize,
 ) -> bool
-    requires { (0 < short) × (short ≤ 255 * mostPlaced) }
-    ensures { result ≡ leb short (excessOver (at sums.now) total (capacityFrom entries.now)) }
+    requires { (0 < short) × (short ≤ 255 * most_placed) }
+    ensures { result ≡ leb short (excess_over (at sums.now) total (capacity_from entries.now)) }
 {
     let mut enough = short;
     let mut r = 0;

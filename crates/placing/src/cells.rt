@@ -1,7 +1,7 @@
 // What a cell of the table is in code: kind × 256 + number. The kinds are 0 empty, 1 busy, both with number 0, 2 mandatory, 3 optional, 4 call.
 ghost use Rattle.std.specs.Prelude.{◌<◌, ◌≡◌};
-ghost use Rattle.placing.specs.Table.{kind_of, numberIn, isOptional, is_call, is_held};
-ghost use Rattle.placing.specs.method.Counts.{evictableCell};
+ghost use Rattle.placing.specs.Table.{kind_of, number_in, is_optional, is_call, is_held};
+ghost use Rattle.placing.specs.method.Counts.{evictable_cell};
 
 // A cell of the table: its kind times 256, and the number of the preset or job that has it.
 pub type Cell = u16;
@@ -35,21 +35,21 @@ pub fn kind_of(v: Cell) -> u16
 
 // The number of a cell, as an index.
 pub fn number_in(v: Cell) -> usize
-    ensures { (result ≡ numberIn v) × (result < 256) }
+    ensures { (result ≡ number_in v) × (result < 256) }
 {
     (v % 256) as usize
 }
 
 // Whether a cell is an optional one.
 pub fn is_optional(v: Cell) -> bool
-    ensures { result ≡ isOptional v }
+    ensures { result ≡ is_optional v }
 {
     kind_of(v) == OPTIONAL_KIND
 }
 
 // Whether a call may evict a cell.
 pub(crate) fn is_evictable(v: Cell) -> bool
-    ensures { result ≡ evictableCell v }
+    ensures { result ≡ evictable_cell v }
 {
     is_optional(v)
 }

@@ -2,12 +2,12 @@
 mod table; // table.rt: whether the table is well-formed
 
 ghost use Rattle.std.specs.Prelude.{◌≤◌, ◌≡◌, Bool, true, length};
-ghost use Rattle.station.specs.Limits.{leastCells};
+ghost use Rattle.station.specs.Limits.{least_cells};
 ghost use Rattle.station.specs.Refusal.{first_of};
-ghost use Rattle.station.specs.Types.{headIn, validRecord};
-ghost use Rattle.placing.specs.Valid.{clockIn};
-ghost use Rattle.placing.specs.State.{state_of, wellFormedFrame};
-ghost use Rattle.placing.specs.Causes.{causeIn, frameCausesOf};
+ghost use Rattle.station.specs.Types.{head_in, valid_record};
+ghost use Rattle.placing.specs.Valid.{clock_in};
+ghost use Rattle.placing.specs.State.{state_of, well_formed_frame};
+ghost use Rattle.placing.specs.Causes.{cause_in, frame_causes_of};
 
 use crate::cells::Cell;
 use crate::check::table::well_formed;
@@ -27,7 +27,7 @@ pub enum Cause {
 
 // Whether a frame of so many slots has the clock: 0 to S + 1, whatever S is.
 pub fn clock_in(slots: usize, clock: usize) -> bool
-    ensures { result ≡ clockIn slots clock }
+    ensures { result ≡ clock_in slots clock }
 {
     if clock <= slots {
         return true;
@@ -42,8 +42,8 @@ fn well_formed_frame(
     table: &[Cell],
     clock: usize,
 ) -> bool
-    requires { (validRecord head presets ≡ true) × (leastCells ≤ length table.now) }
-    ensures { (hold : Bool) → result ≡ wellFormedFrame (headIn head presets) (state_of table.now clock hold) }
+    requires { (valid_record head presets ≡ true) × (least_cells ≤ length table.now) }
+    ensures { (hold : Bool) → result ≡ well_formed_frame (head_in head presets) (state_of table.now clock hold) }
 {
     let slots = head.slots;
     if !well_formed(head, presets, table) {
@@ -60,7 +60,7 @@ pub fn frame_cause(
     table: &[Cell],
     clock: usize,
 ) -> Cause
-    ensures { (hold : Bool) → causeIn result ≡ first_of (frameCausesOf head presets (state_of table.now clock hold)) }
+    ensures { (hold : Bool) → cause_in result ≡ first_of (frame_causes_of head presets (state_of table.now clock hold)) }
 {
     if table.len() < LEAST_CELLS {
         return Cause::Met(Refusal::TooShort);

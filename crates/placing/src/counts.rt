@@ -5,10 +5,10 @@ pub(crate) mod causes; // causes.rt: the first cause that a call meets, by the c
 
 ghost use Rattle.std.specs.Prelude.{ℕ, ◌+◌, ◌*◌, ◌%◌, ◌<◌, ◌≤◌, ◌≡◌, true, ◌||◌, length, get_or, replicate, ltb};
 ghost use Rattle.laws.specs.Sums.{bit, count};
-ghost use Rattle.station.specs.Limits.{mostSlots, mostBridges, mostPresets, mostJobs, leastCells};
-ghost use Rattle.station.specs.Types.{headIn, validRecord};
-ghost use Rattle.placing.specs.Table.{cell, is_call, hasPreset};
-ghost use Rattle.placing.specs.method.Jobs.{marked, jobNumber};
+ghost use Rattle.station.specs.Limits.{most_slots, most_bridges, most_presets, most_jobs, least_cells};
+ghost use Rattle.station.specs.Types.{head_in, valid_record};
+ghost use Rattle.placing.specs.Table.{cell, is_call, has_preset};
+ghost use Rattle.placing.specs.method.Jobs.{marked, job_number};
 ghost use Rattle.placing.specs.method.Counts.{Marks, Marked, MarkedBeside, CountsOf};
 
 use crate::cells::{Cell, is_call, number_in};
@@ -54,8 +54,8 @@ fn call_cell(v: Cell) -> u16
 
 // Whether one of the eight cells from a place of the table on is a call cell: one vector instruction looks at all.
 fn has_calls(table: &[Cell], from: usize) -> bool
-    requires { from + mostBridges ≤ length table.now }
-    ensures { result ≡ ltb 0 (count mostBridges (λ b. is_call (get_or table.now (from + b) 0))) }
+    requires { from + most_bridges ≤ length table.now }
+    ensures { result ≡ ltb 0 (count most_bridges (λ b. is_call (get_or table.now (from + b) 0))) }
 {
     let mut calls: u16 = 0;
     let mut b = 0;
@@ -68,7 +68,7 @@ fn has_calls(table: &[Cell], from: usize) -> bool
 
 // Marks the numbers of the call cells of the slot whose first cell is at `from`, and answers how many were not marked before.
 fn mark_slot(table: &[Cell], from: usize, bridges: usize, used: &mut [u8; 256]) -> usize
-    requires { (bridges ≤ mostBridges) × (from + bridges ≤ length table.now) × Marked table.now from used.old }
+    requires { (bridges ≤ most_bridges) × (from + bridges ≤ length table.now) × Marked table.now from used.old }
     ensures { Marked table.now (from + bridges) used.new × (count 256 (marked used.new) ≡ count 256 (marked used.old) + result) × (result ≤ bridges) }
 {
     let mut jobs = 0;
@@ -82,7 +82,7 @@ fn mark_slot(table: &[Cell], from: usize, bridges: usize, used: &mut [u8; 256]) 
 
 // Marks the numbers of the call cells of a frame, and answers how many numbers they are. Slots without one, the most, are passed over.
 fn mark_calls(table: &[Cell], slots: usize, bridges: usize, used: &mut [u8; 256]) -> usize
-    requires { (slots ≤ mostSlots) × (bridges ≤ mostBridges) × (leastCells ≤ length table.now) × (used.old ≡ replicate 256 0) }
+    requires { (slots ≤ most_slots) × (bridges ≤ most_bridges) × (least_cells ≤ length table.now) × (used.old ≡ replicate 256 0) }
     ensures { Marked table.now (slots * bridges) used.new × (result ≡ count 256 (marked used.new)) }
 {
     let mut jobs = 0;
@@ -99,8 +99,8 @@ fn mark_calls(table: &[Cell], slots: usize, bridges: usize, used: &mut [u8; 256]
 
 // Marks the numbers of the presets.
 fn mark_presets(head: Head, presets: [Preset; MOST_PRESETS], used: &mut [u8; 256])
-    requires { (head.count ≤ mostPresets) × (length used.old ≡ 256) }
-    ensures { (length used.new ≡ 256) × ((n : ℕ) → n < 256 → marked used.new n ≡ (hasPreset (headIn head presets) n || marked used.old n)) }
+    requires { (head.count ≤ most_presets) × (length used.old ≡ 256) }
+    ensures { (length used.new ≡ 256) × ((n : ℕ) → n < 256 → marked used.new n ≡ (has_preset (head_in head presets) n || marked used.old n)) }
 {
     let count = head.count;
     let mut i = 0;
@@ -114,7 +114,7 @@ fn mark_presets(head: Head, presets: [Preset; MOST_PRESETS], used: &mut [u8; 256
 
 // Marks the numbers of the first n jobs, eight at the most.
 pub(crate) fn mark_jobs(used: &mut [u8; 256], jobs: [Job; MOST_JOBS], n: usize)
-    ensures { length used.old ≡ 256 → n ≤ mostJobs → MarkedBeside (λ i. jobNumber jobs i % 256) used.old n used.new }
+    ensures { length used.old ≡ 256 → n ≤ most_jobs → MarkedBeside (λ i. job_number jobs i % 256) used.old n used.new }
 {
     if MOST_JOBS < n {
         return;
@@ -136,7 +136,7 @@ pub fn counts_of(
     table: &[Cell],
     clock: usize,
 ) -> Counts
-    ensures { validRecord head presets ≡ true → leastCells ≤ length table.now → CountsOf (headIn head presets) clock (cell (headIn head presets) table.now) result.used result.jobs result.entries }
+    ensures { valid_record head presets ≡ true → least_cells ≤ length table.now → CountsOf (head_in head presets) clock (cell (head_in head presets) table.now) result.used result.jobs result.entries }
 {
     let slots = head.slots;
     let bridges = head.bridges;

@@ -1,6 +1,6 @@
 // The limits within which the parts look at a frame: beyond them each part does nothing; and the motors that the supply feeds. The limits of the documents themselves are station's constants.
 ghost use Rattle.std.specs.Prelude.{◌≡◌};
-ghost use Rattle.placing.specs.method.Limits.{sizesInLimits, motorsIn};
+ghost use Rattle.placing.specs.method.Limits.{sizes_in_limits, motors_in};
 
 use station::limits::{LEAST_CELLS, MOST_BRIDGES, MOST_FRAME_JOBS, MOST_PRESETS, MOST_SLOTS};
 use station::types::Head;
@@ -13,7 +13,7 @@ pub(crate) const MOST_PLACED: usize = MOST_FRAME_JOBS;
 
 // How many motors the supply feeds in a slot: without a supply line one for each bridge.
 pub(crate) fn motors(head: Head) -> usize
-    ensures { result ≡ motorsIn head }
+    ensures { result ≡ motors_in head }
 {
     if head.supply == 0 {
         return head.bridges;
@@ -23,7 +23,7 @@ pub(crate) fn motors(head: Head) -> usize
 
 // Whether a frame of `slots` slots and `bridges` bridges with `n` presets, and a table of `cells` cells, are within the limits.
 pub(crate) fn in_limits(slots: usize, bridges: usize, n: usize, cells: usize) -> bool
-    ensures { result ≡ sizesInLimits slots bridges n cells }
+    ensures { result ≡ sizes_in_limits slots bridges n cells }
 {
     if MOST_SLOTS < slots {
         return false;

@@ -1,7 +1,7 @@
 // Small functions of numbers. Those that only widen a number are functions so that a caller has no cast to prove.
 ghost use Rattle.std.specs.Prelude.{◌-◌, ◌%◌, ◌<◌, ◌≤◌, min, max, ◌≡◌};
 ghost use Rattle.std.specs.Int.Count.{ones};
-ghost use Rattle.station.specs.Limits.{mostBridges};
+ghost use Rattle.station.specs.Limits.{most_bridges};
 
 // A byte as an index or a summand.
 pub(crate) fn wide(x: u8) -> usize
@@ -61,7 +61,7 @@ pub(crate) fn less_byte(a: u8, b: u8) -> u8
 
 // How many ones a mask has.
 pub(crate) fn ones_in(mask: u8) -> usize
-    ensures { (result ≡ ones mask) × (result ≤ mostBridges) }
+    ensures { (result ≡ ones mask) × (result ≤ most_bridges) }
 {
     u8::count_ones(mask) as usize
 }

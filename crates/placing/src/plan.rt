@@ -1,10 +1,10 @@
 // The plan of a fresh frame: the grants of a head's presets, and the table. The entry `plan` has its presets in a borrowed slice of records, `plan_by_value` by value.
 ghost use Rattle.std.specs.Prelude.{◌≡◌, true, ◌+◌, ◌-◌, ◌≤◌, length};
 ghost use Rattle.laws.specs.Lists.{at};
-ghost use Rattle.station.specs.Limits.{mostPresets, leastCells};
-ghost use Rattle.station.specs.Types.{headIn, validRecord};
-ghost use Rattle.placing.specs.method.Limits.{mostPlaced};
-ghost use Rattle.placing.specs.method.Records.{recordAt};
+ghost use Rattle.station.specs.Limits.{most_presets, least_cells};
+ghost use Rattle.station.specs.Types.{head_in, valid_record};
+ghost use Rattle.placing.specs.method.Limits.{most_placed};
+ghost use Rattle.placing.specs.method.Records.{record_at};
 ghost use Rattle.placing.specs.method.Grants.{GrantedValid};
 ghost use Rattle.placing.specs.Plan.{tie_of, planned};
 ghost use Rattle.placing.specs.Outcomes.{written};
@@ -12,7 +12,7 @@ ghost use Rattle.placing.specs.Claims.{PlanClaim};
 ghost use Rattle.placing.specs.PlanDone.{PlanDone};
 ghost use Rattle.placing.specs.Entries.{PlanEntered};
 ghost use Rattle.placing.specs.Types.{filled};
-ghost use Rattle.placing.specs.method.PlanParts.{busyTo};
+ghost use Rattle.placing.specs.method.PlanParts.{busy_to};
 
 use crate::cells::{BUSY, Cell, MANDATORY, OPTIONAL};
 use crate::grants::{Granted, grant};
@@ -40,7 +40,7 @@ pub struct Planned {
 // Makes the first `cells` cells of the table busy. What is free is then written by `place`.
 fn mark_busy(table: &mut [Cell], cells: usize)
     requires { cells ≤ length table.old }
-    ensures { table.new ≡ busyTo table.old cells }
+    ensures { table.new ≡ busy_to table.old cells }
 {
     let mut i = 0;
     while i < cells {
@@ -51,8 +51,8 @@ fn mark_busy(table: &mut [Cell], cells: usize)
 
 // The cell of the kind that begins at `kind` with the number of each of the first `k` presets; 0 after them.
 fn preset_cells(presets: [Preset; MOST_PRESETS], k: usize, kind: Cell) -> [Cell; MOST_PLACED]
-    requires { (k ≤ mostPresets) × (kind ≤ 1024) }
-    ensures { result ≡ filled mostPlaced k (λ i. kind + (recordAt presets i).number) }
+    requires { (k ≤ most_presets) × (kind ≤ 1024) }
+    ensures { result ≡ filled most_placed k (λ i. kind + (record_at presets i).number) }
 {
     let mut all = [0u16; MOST_PLACED];
     let mut i = 0;
@@ -66,8 +66,8 @@ fn preset_cells(presets: [Preset; MOST_PRESETS], k: usize, kind: Cell) -> [Cell;
 
 // What each of the first `k` presets gets beyond its mandatory slots; 0 after them.
 fn grants_of(needs: [u8; MOST_PLACED], mandatory: [u8; MOST_PLACED], k: usize) -> [u8; MOST_PRESETS]
-    requires { k ≤ mostPresets }
-    ensures { result ≡ filled mostPresets k (λ i. at needs i - at mandatory i) }
+    requires { k ≤ most_presets }
+    ensures { result ≡ filled most_presets k (λ i. at needs i - at mandatory i) }
 {
     let mut all = [0u8; MOST_PRESETS];
     let mut i = 0;
@@ -80,8 +80,8 @@ fn grants_of(needs: [u8; MOST_PLACED], mandatory: [u8; MOST_PLACED], k: usize) -
 
 // Writes the plan's table: busy cells first, then the presets with what each of them gets.
 fn write_plan(head: Head, presets: [Preset; MOST_PRESETS], table: &mut [Cell], granted: Granted)
-    requires { (validRecord head presets ≡ true) × (leastCells ≤ length table.old) × GrantedValid head presets granted × (granted.fits ≡ true) }
-    ensures { table.new ≡ written (headIn head presets) (planned (tie_of head.hold) (headIn head presets)) table.old }
+    requires { (valid_record head presets ≡ true) × (least_cells ≤ length table.old) × GrantedValid head presets granted × (granted.fits ≡ true) }
+    ensures { table.new ≡ written (head_in head presets) (planned (tie_of head.hold) (head_in head presets)) table.old }
 {
     let slots = head.slots;
     let bridges = head.bridges;
@@ -104,7 +104,7 @@ fn write_plan(head: Head, presets: [Preset; MOST_PRESETS], table: &mut [Cell], g
 // A refusal changes nothing and grants nothing.
 pub fn plan_by_value(head: Head, presets: [Preset; MOST_PRESETS], table: &mut [Cell]) -> Planned
     ensures done { PlanDone head presets table.old table.new result }
-    ensures claim { PlanClaim (headIn head presets) table.old }
+    ensures claim { PlanClaim (head_in head presets) table.old }
 {
     let none = [0u8; MOST_PRESETS];
     if table.len() < LEAST_CELLS {
@@ -159,7 +159,7 @@ fn plan_counted(
 // record that no text yields, 5 where the mandatory slots do not fit. A refusal changes nothing and grants nothing.
 pub fn plan(head: Head, presets: &[Preset], table: &mut [Cell]) -> Planned
     ensures done { PlanEntered (length presets.now) head presets.now table.old table.new result }
-    ensures claim { PlanClaim (headIn head presets.now) table.old }
+    ensures claim { PlanClaim (head_in head presets.now) table.old }
 {
     let records = record_count(presets);
     let copied = load(presets);

@@ -6,10 +6,10 @@ mod row; // row.rt: one slot's row of the table
 ghost use Rattle.std.specs.Prelude.{◌≡◌, ◌≤◌, leb};
 ghost use Rattle.laws.specs.Sums.{every};
 ghost use Rattle.laws.specs.Lists.{at};
-ghost use Rattle.station.specs.Limits.{mostLength};
-ghost use Rattle.placing.specs.method.Limits.{mostPlaced};
+ghost use Rattle.station.specs.Limits.{most_length};
+ghost use Rattle.placing.specs.method.Limits.{most_placed};
 ghost use Rattle.placing.specs.Plan.{tie_of};
-ghost use Rattle.placing.specs.method.Rule.{CleanFrom, Fillable, placeable, placedWithin};
+ghost use Rattle.placing.specs.method.Rule.{CleanFrom, Fillable, placeable, placed_within};
 
 use crate::cells::Cell;
 use crate::limits::{MOST_PLACED, in_limits};
@@ -20,8 +20,8 @@ use station::limits::{MOST_LENGTH, MOST_SLOTS};
 
 // Whether none of the first k needs is above the longest job.
 fn needs_in(needs: &[u8; MOST_PLACED], k: usize) -> bool
-    requires { k ≤ mostPlaced }
-    ensures { result ≡ every k (λ i. leb (at needs.now i) mostLength) }
+    requires { k ≤ most_placed }
+    ensures { result ≡ every k (λ i. leb (at needs.now i) most_length) }
 {
     let mut i = 0;
     while i < k {
@@ -73,7 +73,7 @@ pub(crate) fn place(
     hold: bool,
 )
     ensures { CleanFrom clean slots bridges free table.old → Fillable slots bridges free counts
-        → table.new ≡ placedWithin (tie_of hold) slots bridges free counts needs k first early late table.old }
+        → table.new ≡ placed_within (tie_of hold) slots bridges free counts needs k first early late table.old }
 {
     if !placeable(slots, bridges, &needs, k, table.len()) {
         return;

@@ -5,10 +5,10 @@ mod links; // links.rt: the optional cells as chains
 mod taking; // taking.rt: the walk over them
 
 ghost use Rattle.std.specs.Prelude.{ℕ, ◌*◌, ◌<◌, ◌≤◌, ◌≡◌, true, List, length, get_or, take};
-ghost use Rattle.station.specs.Limits.{mostSlots, mostBridges, leastCells};
+ghost use Rattle.station.specs.Limits.{most_slots, most_bridges, least_cells};
 ghost use Rattle.station.specs.Head.{Job};
-ghost use Rattle.station.specs.Types.{headIn};
-ghost use Rattle.placing.specs.method.Limits.{capacityCount, mostPlaced};
+ghost use Rattle.station.specs.Types.{head_in};
+ghost use Rattle.placing.specs.method.Limits.{capacity_count, most_placed};
 ghost use Rattle.placing.specs.Table.{cell};
 ghost use Rattle.placing.specs.Call.{lengths};
 ghost use Rattle.placing.specs.method.Search.{Starts, Evicts, searchable, unfit, Searched};
@@ -52,7 +52,7 @@ pub(crate) struct Search {
 
 // What the search has before its walk: the empty cells above the clock, and the free numbers.
 fn starting(table: &[Cell], bridges: usize, motors: usize, clock: usize, demand: Demand) -> Search
-    requires { (bridges ≤ mostBridges) × (demand.slots ≤ mostSlots) × (leastCells ≤ length table.now) × ((r : ℕ) → r < capacityCount → get_or demand.sums r 0 ≤ 255 * mostPlaced) × (demand.total ≤ 255 * mostPlaced) }
+    requires { (bridges ≤ most_bridges) × (demand.slots ≤ most_slots) × (least_cells ≤ length table.now) × ((r : ℕ) → r < capacity_count → get_or demand.sums r 0 ≤ 255 * most_placed) × (demand.total ≤ 255 * most_placed) }
     ensures { Starts table.now bridges motors clock demand result }
 {
     let slots = demand.slots;
@@ -83,7 +83,7 @@ fn evict_in_limits(
     k: usize,
 ) -> Evicted
     requires { searchable head k (length table.now) ≡ true }
-    ensures { (jobs : List Job) → lengths jobs ≡ take k needs → Evicts (headIn head presets) clock jobs (cell (headIn head presets) table.now) result }
+    ensures { (jobs : List Job) → lengths jobs ≡ take k needs → Evicts (head_in head presets) clock jobs (cell (head_in head presets) table.now) result }
 {
     let sums = sums_of(&needs, k);
     let total = total_of(&needs, k);

@@ -2,7 +2,7 @@
 // output. What the listing is, is decided in the library.
 ghost use Rattle.std.specs.Prelude.{◌≤◌, ◌≡◌, length, take};
 ghost use Rattle.frame.specs.Text.{whole_of};
-ghost use Rattle.frame.specs.Listing.{listingOf};
+ghost use Rattle.frame.specs.Listing.{listing_of};
 
 use frame::listing::{write_answer, write_listing};
 use frame::types::Answer;
@@ -14,7 +14,7 @@ use station::write::Writing;
 fn listing(text: &[u8], table: &mut [u16], out: &mut [u8]) -> usize
     requires { 655360 ≤ length out.old }
     ensures inside { result ≤ length out.new }
-    ensures bytes { take result out.new ≡ listingOf
+    ensures bytes { take result out.new ≡ listing_of
         (whole_of text.now table.old) }
 {
     let listed = write_listing(text, table, out);

@@ -1,8 +1,8 @@
 -- What `planner_plan` answers and leaves, law by law.
 --
--- In order: what a plan comes to by the causes 8 of the frame, of the presets and of the grants (`on-..`); a plan that is refused by these (`plan-short-frame`,
--- `plan-short-presets`, `plan-short-grants`); a refusal changes nothing, and what is planned is a running frame (`plan-keeps`, `plan-runs`); a plan that is refused, and
--- one that is made (`plan-refused`, `plan-made`; `refused-handed`, `made-handed`).
+-- In order: what a plan comes to by the causes 8 of the frame, of the presets and of the grants (`on-..`); a plan that is refused by these (`plan_short_frame`,
+-- `plan_short_presets`, `plan_short_grants`); a refusal changes nothing, and what is planned is a running frame (`plan_keeps`, `plan_runs`); a plan that is refused, and
+-- one that is made (`plan_refused`, `plan_made`; `refused_handed`, `made_handed`).
 -- Assumes nothing.
 use Prim.Native.Nat.{ℕ, ◌≤◌, ◌<◌}
 use native.Mathlib.Omega.{arith}
@@ -14,140 +14,140 @@ use lib.Seq.{sets}
 use Rattle.laws.specs.Lists.{at}
 use Rattle.laws.proofs.Comparisons.{ltb_yes, ltb_no}
 use Rattle.station.specs.Head.{Head}
-use Rattle.station.specs.Refusal.{Refusal, tooShort, number_of, first_of}
-use Rattle.station.specs.Types.{headIn, refusalIn}
+use Rattle.station.specs.Refusal.{Refusal, too_short, number_of, first_of}
+use Rattle.station.specs.Types.{head_in, refusal_in}
 use Rattle.station.specs.declared.types.Preset as record-of-preset
 use Rattle.station.specs.declared.types.Head as record-of-head
 use Rattle.station.specs.declared.types.Refusal as cause
-use Rattle.station.proofs.Theorems.{number-some}
-use Rattle.placing.specs.Valid.{firstClock}
+use Rattle.station.proofs.Theorems.{number_some}
+use Rattle.placing.specs.Valid.{first_clock}
 use Rattle.placing.specs.State.{state_of}
 use Rattle.placing.specs.Claims.{Running}
-use Rattle.placing.specs.Outcomes.{PlanAnswer, PlanOutcome, planCauses, plan_of}
-use Rattle.placing.proofs.Theorems.{plan-claim}
-use Rattle.placing.specs.Causes.{causesOf}
+use Rattle.placing.specs.Outcomes.{PlanAnswer, PlanOutcome, plan_causes, plan_of}
+use Rattle.placing.proofs.Theorems.{plan_claim}
+use Rattle.placing.specs.Causes.{causes_of}
 use Rattle.placing.specs.declared.plan.Planned as result
 use Rattle.placing.specs.declared.plan.PlanAnswer.TheVariants.{Granted, Refused}
-use Rattle.placing.specs.PlanDone.{planMeant, repliedIn, grantsIn, PlanDone}
+use Rattle.placing.specs.PlanDone.{plan_meant, replied_in, grants_in, PlanDone}
 use Rattle.frame.specs.Text.{start_of}
-use Rattle.frame.proofs.Theorems.{planned-running}
-use Rattle.planner.specs.Layout.{recordsIn, frameNumbers, headOfNumbers, holdOfNumbers, started}
-use Rattle.planner.proofs.RoundTrip.{started-head, started-clock, started-hold}
-use Rattle.planner.specs.Exports.{headOn, stateOn, planOn, planReturned, grantsAfter, PlanLeaves, PlanPromise}
+use Rattle.frame.proofs.Theorems.{planned_running}
+use Rattle.planner.specs.Layout.{records_in, frame_numbers, head_of_numbers, hold_of_numbers, started}
+use Rattle.planner.proofs.RoundTrip.{started_head, started_clock, started_hold}
+use Rattle.planner.specs.Exports.{head_on, state_on, plan_on, plan_returned, grants_after, PlanLeaves, PlanPromise}
 use Rattle.placing.specs.Types.{filled}
 
 -- a refused plan leaves the table
-of-keeps : (h : Head) (t : List ℕ) → 0 < (planReturned (plan_of h t).answer).number → (plan_of h t).table ≡ t
+of_keeps : (h : Head) (t : List ℕ) → 0 < (plan_returned (plan_of h t).answer).number → (plan_of h t).table ≡ t
 unfolding plan_of
-of-keeps h t l = go (first_of (planCauses h t)) refl
+of_keeps h t l = go (first_of (plan_causes h t)) refl
   where
-    go : (c : Option Refusal) → first_of (planCauses h t) ≡ c → (plan_of h t).table ≡ t
+    go : (c : Option Refusal) → first_of (plan_causes h t) ≡ c → (plan_of h t).table ≡ t
     go none q = let z : 0 < 0 = rw (q, plan_of) at l in absurd (omega (arith, z))
     go (some r) q = rw (q, plan_of) refl
 
 -- and any other leaves that of a running frame with the first clock and the head's order of ties
-of-runs : (h : Head) (t : List ℕ) (a : PlanAnswer) → (plan_of h t).answer ≡ a → (planReturned a).number ≡ 0 → Running h (start_of h (plan_of h t).table)
-of-runs h t (PlanAnswer.granted g) e z = planned-running h t g e
-of-runs h t (PlanAnswer.refused _ r) e z = absurd (number-some r z)
+of_runs : (h : Head) (t : List ℕ) (a : PlanAnswer) → (plan_of h t).answer ≡ a → (plan_returned a).number ≡ 0 → Running h (start_of h (plan_of h t).table)
+of_runs h t (PlanAnswer.granted g) e z = planned_running h t g e
+of_runs h t (PlanAnswer.refused _ r) e z = absurd (number_some r z)
 
 module _ (head : record-of-head.Head) (ps : List record-of-preset.Preset) (t : List ℕ) where
-  plan-keeps : 0 < (planReturned (planMeant head ps t).answer).number → (planMeant head ps t).table ≡ t
-  unfolding planMeant
-  plan-keeps l = go (first_of (causesOf head ps t)) refl
+  plan_keeps : 0 < (plan_returned (plan_meant head ps t).answer).number → (plan_meant head ps t).table ≡ t
+  unfolding plan_meant
+  plan_keeps l = go (first_of (causes_of head ps t)) refl
     where
-      go : (c : Option Refusal) → first_of (causesOf head ps t) ≡ c → (planMeant head ps t).table ≡ t
-      go none q = rw (q, planMeant) (of-keeps (headIn head ps) t (rw (q, planMeant) at l))
-      go (some r) q = rw (q, planMeant) refl
+      go : (c : Option Refusal) → first_of (causes_of head ps t) ≡ c → (plan_meant head ps t).table ≡ t
+      go none q = rw (q, plan_meant) (of_keeps (head_in head ps) t (rw (q, plan_meant) at l))
+      go (some r) q = rw (q, plan_meant) refl
 
-  plan-runs : (planReturned (planMeant head ps t).answer).number ≡ 0 → Running (headIn head ps) (start_of (headIn head ps) (planMeant head ps t).table)
-  unfolding planMeant
-  plan-runs z = go (first_of (causesOf head ps t)) refl
+  plan_runs : (plan_returned (plan_meant head ps t).answer).number ≡ 0 → Running (head_in head ps) (start_of (head_in head ps) (plan_meant head ps t).table)
+  unfolding plan_meant
+  plan_runs z = go (first_of (causes_of head ps t)) refl
     where
-      go : (c : Option Refusal) → first_of (causesOf head ps t) ≡ c → Running (headIn head ps) (start_of (headIn head ps) (planMeant head ps t).table)
-      go none q = rw (q, planMeant) (of-runs (headIn head ps) t (plan_of (headIn head ps) t).answer refl (rw (q, planMeant) at z))
-      go (some r) q = absurd (number-some r (rw (q, planMeant) at z))
+      go : (c : Option Refusal) → first_of (causes_of head ps t) ≡ c → Running (head_in head ps) (start_of (head_in head ps) (plan_meant head ps t).table)
+      go none q = rw (q, plan_meant) (of_runs (head_in head ps) t (plan_of (head_in head ps) t).answer refl (rw (q, plan_meant) at z))
+      go (some r) q = absurd (number_some r (rw (q, plan_meant) at z))
 
 module _ (f p t g : List ℕ) where
-  on-short-frame : length f < frameNumbers → planOn f p t g ≡ record { answer = PlanAnswer.refused 0 tooShort; table = t }
-  unfolding planOn first_of
-  on-short-frame s = rw (ltb_yes (length f) frameNumbers s, planOn) refl
+  on_short_frame : length f < frame_numbers → plan_on f p t g ≡ record { answer = PlanAnswer.refused 0 too_short; table = t }
+  unfolding plan_on first_of
+  on_short_frame s = rw (ltb_yes (length f) frame_numbers s, plan_on) refl
 
-  on-short-presets : frameNumbers ≤ length f → length p < 128 → planOn f p t g ≡ record { answer = PlanAnswer.refused 0 tooShort; table = t }
-  unfolding planOn first_of
-  on-short-presets k s = rw (ltb_no (length f) frameNumbers k, ltb_yes (length p) 128 s, planOn) refl
+  on_short_presets : frame_numbers ≤ length f → length p < 128 → plan_on f p t g ≡ record { answer = PlanAnswer.refused 0 too_short; table = t }
+  unfolding plan_on first_of
+  on_short_presets k s = rw (ltb_no (length f) frame_numbers k, ltb_yes (length p) 128 s, plan_on) refl
 
-  on-short-grants : frameNumbers ≤ length f → 128 ≤ length p → length g < 32 → planOn f p t g ≡ record { answer = PlanAnswer.refused 0 tooShort; table = t }
-  unfolding planOn first_of
-  on-short-grants k m s = rw (ltb_no (length f) frameNumbers k, ltb_no (length p) 128 m, ltb_yes (length g) 32 s, planOn) refl
+  on_short_grants : frame_numbers ≤ length f → 128 ≤ length p → length g < 32 → plan_on f p t g ≡ record { answer = PlanAnswer.refused 0 too_short; table = t }
+  unfolding plan_on first_of
+  on_short_grants k m s = rw (ltb_no (length f) frame_numbers k, ltb_no (length p) 128 m, ltb_yes (length g) 32 s, plan_on) refl
 
-  on-enough : frameNumbers ≤ length f → 128 ≤ length p → 32 ≤ length g → planOn f p t g ≡ planMeant (headOfNumbers f) (recordsIn p) t
-  unfolding planOn first_of
-  on-enough k m s = rw (ltb_no (length f) frameNumbers k, ltb_no (length p) 128 m, ltb_no (length g) 32 s, planOn) refl
+  on_enough : frame_numbers ≤ length f → 128 ≤ length p → 32 ≤ length g → plan_on f p t g ≡ plan_meant (head_of_numbers f) (records_in p) t
+  unfolding plan_on first_of
+  on_enough k m s = rw (ltb_no (length f) frame_numbers k, ltb_no (length p) 128 m, ltb_no (length g) 32 s, plan_on) refl
 
   -- what is answered and left, and what is claimed
   abbrev Done : List ℕ → List ℕ → ℕ → Type 0
-  Done t₁ g₁ r = PlanLeaves (planOn f p t g) g t₁ g₁ r × PlanPromise f p t t₁ r
+  Done t₁ g₁ r = PlanLeaves (plan_on f p t g) g t₁ g₁ r × PlanPromise f p t t₁ r
 
-  plan-stopped : planOn f p t g ≡ record { answer = PlanAnswer.refused 0 tooShort; table = t } → Done t g 8
-  unfolding grantsAfter
-  plan-stopped e = (
+  plan_stopped : plan_on f p t g ≡ record { answer = PlanAnswer.refused 0 too_short; table = t } → Done t g 8
+  unfolding grants_after
+  plan_stopped e = (
     subst (λ (o : PlanOutcome). PlanLeaves o g t g 8) (sym e) (record { answer = refl; grants = refl; table = refl }),
-    record { unchanged = λ z. refl; claim = plan-claim (headOn f p) t; starts = λ z. absurd (number-some tooShort z); running = λ z. absurd (number-some tooShort z) },
+    record { unchanged = λ z. refl; claim = plan_claim (head_on f p) t; starts = λ z. absurd (number_some too_short z); running = λ z. absurd (number_some too_short z) },
   )
 
-  pub plan-short-frame : length f < frameNumbers → Done t g 8
-  plan-short-frame s = plan-stopped (on-short-frame s)
+  pub plan_short_frame : length f < frame_numbers → Done t g 8
+  plan_short_frame s = plan_stopped (on_short_frame s)
 
-  pub plan-short-presets : frameNumbers ≤ length f → length p < 128 → Done t g 8
-  plan-short-presets k s = plan-stopped (on-short-presets k s)
+  pub plan_short_presets : frame_numbers ≤ length f → length p < 128 → Done t g 8
+  plan_short_presets k s = plan_stopped (on_short_presets k s)
 
-  pub plan-short-grants : frameNumbers ≤ length f → 128 ≤ length p → length g < 32 → Done t g 8
-  plan-short-grants k m s = plan-stopped (on-short-grants k m s)
+  pub plan_short_grants : frame_numbers ≤ length f → 128 ≤ length p → length g < 32 → Done t g 8
+  plan_short_grants k m s = plan_stopped (on_short_grants k m s)
 
-  module _ {t₁ : List ℕ} {x : result.Planned} (k : frameNumbers ≤ length f) (m : 128 ≤ length p) (s : 32 ≤ length g) (d : PlanDone (headOfNumbers f) (recordsIn p) t t₁ x) where
+  module _ {t₁ : List ℕ} {x : result.Planned} (k : frame_numbers ≤ length f) (m : 128 ≤ length p) (s : 32 ≤ length g) (d : PlanDone (head_of_numbers f) (records_in p) t t₁ x) where
     abbrev meant : PlanOutcome
-    meant = planMeant (headOfNumbers f) (recordsIn p) t
+    meant = plan_meant (head_of_numbers f) (records_in p) t
 
-    started-on : (headOn (started f) p ≡ headOn f p) × (stateOn (started f) t₁ ≡ start_of (headOn f p) t₁)
-    started-on = (
-      ap (λ (h : record-of-head.Head). headIn h (recordsIn p)) (started-head f),
-      ap (λ (c : ℕ). state_of t₁ c (holdOfNumbers (started f))) (started-clock f k) ∙ ap (state_of t₁ firstClock) (started-hold f k),
+    started_on : (head_on (started f) p ≡ head_on f p) × (state_on (started f) t₁ ≡ start_of (head_on f p) t₁)
+    started_on = (
+      ap (λ (h : record-of-head.Head). head_in h (records_in p)) (started_head f),
+      ap (λ (c : ℕ). state_of t₁ c (hold_of_numbers (started f))) (started_clock f k) ∙ ap (state_of t₁ first_clock) (started_hold f k),
     )
 
-    plan-done : {g₁ : List ℕ} {r : ℕ} → r ≡ (planReturned meant.answer).number → g₁ ≡ grantsAfter meant.answer g → Done t₁ g₁ r
-    plan-done {g₁} {r} e b = (
-      subst (λ (o : PlanOutcome). PlanLeaves o g t₁ g₁ r) (sym (on-enough k m s)) (record { answer = e; grants = b; table = d.table }),
+    plan_done : {g₁ : List ℕ} {r : ℕ} → r ≡ (plan_returned meant.answer).number → g₁ ≡ grants_after meant.answer g → Done t₁ g₁ r
+    plan_done {g₁} {r} e b = (
+      subst (λ (o : PlanOutcome). PlanLeaves o g t₁ g₁ r) (sym (on_enough k m s)) (record { answer = e; grants = b; table = d.table }),
       record {
-        unchanged = λ z. d.table ∙ plan-keeps (headOfNumbers f) (recordsIn p) t (omega (arith, z, e));
-        claim = plan-claim (headOn f p) t;
-        starts = λ z. started-on;
+        unchanged = λ z. d.table ∙ plan_keeps (head_of_numbers f) (records_in p) t (omega (arith, z, e));
+        claim = plan_claim (head_on f p) t;
+        starts = λ z. started_on;
         running = λ z.
-            rw (started-on.0, started-on.1)
-            (subst (λ (u : List ℕ). Running (headOn f p) (start_of (headOn f p) u)) (sym d.table) (plan-runs (headOfNumbers f) (recordsIn p) t (sym e ∙ z)));
+            rw (started_on.0, started_on.1)
+            (subst (λ (u : List ℕ). Running (head_on f p) (start_of (head_on f p) u)) (sym d.table) (plan_runs (head_of_numbers f) (records_in p) t (sym e ∙ z)));
       },
     )
 
-    plan-refused : {n : ℕ} {c : cause.Refusal} {r : ℕ} → x.answer ≡ Refused n c → r ≡ number_of (refusalIn c) → Done t₁ g r
-    unfolding grantsAfter
-    plan-refused {n} {c} {r} q e =
-        let is : meant.answer ≡ PlanAnswer.refused n (refusalIn c) = sym d.answer ∙ ap (repliedIn (take (headOfNumbers f).count x.grants)) q in
-        plan-done (e ∙ sym (ap (λ (x : PlanAnswer). (planReturned x).number) is)) (sym (ap (λ (a : PlanAnswer). grantsAfter a g) is))
+    plan_refused : {n : ℕ} {c : cause.Refusal} {r : ℕ} → x.answer ≡ Refused n c → r ≡ number_of (refusal_in c) → Done t₁ g r
+    unfolding grants_after
+    plan_refused {n} {c} {r} q e =
+        let is : meant.answer ≡ PlanAnswer.refused n (refusal_in c) = sym d.answer ∙ ap (replied_in (take (head_of_numbers f).count x.grants)) q in
+        plan_done (e ∙ sym (ap (λ (x : PlanAnswer). (plan_returned x).number) is)) (sym (ap (λ (a : PlanAnswer). grants_after a g) is))
 
-    plan-made : {g₁ : List ℕ} → x.answer ≡ Granted → g₁ ≡ sets g 0 x.grants → Done t₁ g₁ 0
-    unfolding grantsAfter
-    plan-made {g₁} q e =
-        let is : meant.answer ≡ PlanAnswer.granted (take (headOfNumbers f).count x.grants) = sym d.answer ∙ ap (repliedIn (take (headOfNumbers f).count x.grants)) q in
-        plan-done (sym (ap (λ (x : PlanAnswer). (planReturned x).number) is))
+    plan_made : {g₁ : List ℕ} → x.answer ≡ Granted → g₁ ≡ sets g 0 x.grants → Done t₁ g₁ 0
+    unfolding grants_after
+    plan_made {g₁} q e =
+        let is : meant.answer ≡ PlanAnswer.granted (take (head_of_numbers f).count x.grants) = sym d.answer ∙ ap (replied_in (take (head_of_numbers f).count x.grants)) q in
+        plan_done (sym (ap (λ (x : PlanAnswer). (plan_returned x).number) is))
         (e
         ∙ ap (sets g 0) d.grants
-        ∙ ap (λ (a : PlanAnswer). sets g 0 (filled 32 (length (grantsIn a)) (at (grantsIn a)))) is
-        ∙ sym (ap (λ (a : PlanAnswer). grantsAfter a g) is))
+        ∙ ap (λ (a : PlanAnswer). sets g 0 (filled 32 (length (grants_in a)) (at (grants_in a)))) is
+        ∙ sym (ap (λ (a : PlanAnswer). grants_after a g) is))
 
   -- the same of what was read of the frame and of the presets
-  module _ (hd : record-of-head.Head) (ps : List record-of-preset.Preset) (x : result.Planned) {t₁ : List ℕ} (k : frameNumbers ≤ length f) (m : 128 ≤ length p) (s : 32 ≤ length g)
-      (a : hd ≡ headOfNumbers f) (b : ps ≡ recordsIn p) (d : PlanDone hd ps t t₁ x) where
-    pub refused-handed : {n : ℕ} {c : cause.Refusal} {r : ℕ} → x.answer ≡ Refused n c → r ≡ number_of (refusalIn c) → Done t₁ g r
-    refused-handed = plan-refused k m s (rw (a, b) at d)
+  module _ (hd : record-of-head.Head) (ps : List record-of-preset.Preset) (x : result.Planned) {t₁ : List ℕ} (k : frame_numbers ≤ length f) (m : 128 ≤ length p) (s : 32 ≤ length g)
+      (a : hd ≡ head_of_numbers f) (b : ps ≡ records_in p) (d : PlanDone hd ps t t₁ x) where
+    pub refused_handed : {n : ℕ} {c : cause.Refusal} {r : ℕ} → x.answer ≡ Refused n c → r ≡ number_of (refusal_in c) → Done t₁ g r
+    refused_handed = plan_refused k m s (rw (a, b) at d)
 
-    pub made-handed : {g₁ : List ℕ} → x.answer ≡ Granted → g₁ ≡ sets g 0 x.grants → Done t₁ g₁ 0
-    made-handed = plan-made k m s (rw (a, b) at d)
+    pub made_handed : {g₁ : List ℕ} → x.answer ≡ Granted → g₁ ≡ sets g 0 x.grants → Done t₁ g₁ 0
+    made_handed = plan_made k m s (rw (a, b) at d)

@@ -1,8 +1,8 @@
 -- What `planner_run_text` answers and leaves, law by law.
 --
--- In order: what a text comes to by the causes 10 and 8 of the frame and of the presets (`on-..`), and that one that ran met none of them (`on-ran`); a text that is refused by these
--- (`text-long`, `text-short-frame`, `text-short-presets`); what is left of the head and of the records by value, written back (`frame-left`, `presets-left`) and read again
--- (`head-again`, `ran-left`); a text that is run (`text-run`, `text-handed`).
+-- In order: what a text comes to by the causes 10 and 8 of the frame and of the presets (`on-..`), and that one that ran met none of them (`on_ran`); a text that is refused by these
+-- (`text_long`, `text_short_frame`, `text_short_presets`); what is left of the head and of the records by value, written back (`frame_left_lem`, `presets_left`) and read again
+-- (`head_again`, `ran_left`); a text that is run (`text_run`, `text_handed`).
 -- Assumes nothing.
 use Prim.Native.Nat.{ℕ, ◌≤◌, ◌<◌}
 use native.Mathlib.Omega.{arith}
@@ -12,175 +12,175 @@ use mathlib.Core.List.{List, map}
 use lib.ListN.{length, drop, length-map, length-append, length-drop}
 use lib.Dec.{ltb}
 use Rattle.laws.proofs.Tests.{Is, is, is_true, is_false}
-use Rattle.laws.proofs.Comparisons.{lt_of, ge-of, ltb_yes, ltb_no}
+use Rattle.laws.proofs.Comparisons.{lt_of, ge_of, ltb_yes, ltb_no}
 use Rattle.station.specs.Head.{Head}
-use Rattle.station.specs.Refusal.{Refusal, tooShort, textTooLong, number_of, first_of}
-use Rattle.station.specs.Types.{headIn}
+use Rattle.station.specs.Refusal.{Refusal, too_short, text_too_long, number_of, first_of}
+use Rattle.station.specs.Types.{head_in}
 use Rattle.station.specs.declared.types.Preset as record-of-preset
 use Rattle.station.specs.declared.types.Head as record-of-head
-use Rattle.station.specs.ReadHead.{headRecord, recordOf, recordsOver}
+use Rattle.station.specs.ReadHead.{head_record, record_of, records_over}
 use Rattle.station.proofs.Theorems as heads
-use Rattle.station.proofs.Theorems.{number-some}
+use Rattle.station.proofs.Theorems.{number_some}
 use Rattle.placing.specs.Claims.{Running}
-use Rattle.frame.specs.Text.{Whole, notRead, notPlanned, ran}
+use Rattle.frame.specs.Text.{Whole, not_read, not_planned, ran}
 use Rattle.frame.specs.Event.{Run}
 use Rattle.frame.specs.declared.text.TextRun as run
-use Rattle.frame.specs.TextDone.{wholeWithOutput, End, end_in, end_of, headAfter, presetsAfter, tableAfter, clockAfter, holdAfter, outputAfter, TextDone}
-use Rattle.frame.proofs.Theorems.{beside_long, text-claim}
-use Rattle.planner.specs.Layout.{recordsIn, bytesOver, frameNumbers, headOfNumbers, clockOfNumbers, holdOfNumbers, numbersOver}
-use Rattle.planner.proofs.RoundTrip.{records-back, bytes_back, bytes-over-rest, length-records, head-back, clock-back, hold-back, read_same}
-use Rattle.planner.specs.Exports.{headOn, stateOn, RunningOn, textOn, endReturned, value, frameLeft, frameAfter, recordsAfter, TextLeaves, TextPromise}
+use Rattle.frame.specs.TextDone.{whole_with_output, End, end_in, end_of, head_after, presets_after, table_after, clock_after, hold_after, output_after, TextDone}
+use Rattle.frame.proofs.Theorems.{beside_long, text_claim}
+use Rattle.planner.specs.Layout.{records_in, bytes_over, frame_numbers, head_of_numbers, clock_of_numbers, hold_of_numbers, numbers_over}
+use Rattle.planner.proofs.RoundTrip.{records_back, bytes_back, bytes_over_rest, length_records, head_back, clock_back_lem, hold_back, read_same}
+use Rattle.planner.specs.Exports.{head_on, state_on, RunningOn, text_on, end_returned, value, frame_left, frame_after, records_after, TextLeaves, TextPromise}
 
-unread : {c : Refusal} {h : Head} {m : ℕ} {g : List ℕ} {x : Run} → notRead 0 c ≡ ran h m g x → ⊥
+unread : {c : Refusal} {h : Head} {m : ℕ} {g : List ℕ} {x : Run} → not_read 0 c ≡ ran h m g x → ⊥
 unread q = let z : ◌≡◌ {A = ℕ} 0 1 = cc in omega arith
 
 module _ (text f p t out : List ℕ) where
-  on-long : 32768 < length text → textOn text f p t out ≡ notRead 0 textTooLong
-  unfolding textOn first_of
-  on-long l = rw (ltb_yes 32768 (length text) l, textOn) refl
+  on_long : 32768 < length text → text_on text f p t out ≡ not_read 0 text_too_long
+  unfolding text_on first_of
+  on_long l = rw (ltb_yes 32768 (length text) l, text_on) refl
 
-  on-short-frame : length text ≤ 32768 → length f < frameNumbers → textOn text f p t out ≡ notRead 0 tooShort
-  unfolding textOn first_of
-  on-short-frame l s = rw (ltb_no 32768 (length text) l, ltb_yes (length f) frameNumbers s, textOn) refl
+  on_short_frame : length text ≤ 32768 → length f < frame_numbers → text_on text f p t out ≡ not_read 0 too_short
+  unfolding text_on first_of
+  on_short_frame l s = rw (ltb_no 32768 (length text) l, ltb_yes (length f) frame_numbers s, text_on) refl
 
-  on-short-presets : length text ≤ 32768 → frameNumbers ≤ length f → length p < 128 → textOn text f p t out ≡ notRead 0 tooShort
-  unfolding textOn first_of
-  on-short-presets l k s = rw (ltb_no 32768 (length text) l, ltb_no (length f) frameNumbers k, ltb_yes (length p) 128 s, textOn) refl
+  on_short_presets : length text ≤ 32768 → frame_numbers ≤ length f → length p < 128 → text_on text f p t out ≡ not_read 0 too_short
+  unfolding text_on first_of
+  on_short_presets l k s = rw (ltb_no 32768 (length text) l, ltb_no (length f) frame_numbers k, ltb_yes (length p) 128 s, text_on) refl
 
-  on-long-enough : length text ≤ 32768 → frameNumbers ≤ length f → 128 ≤ length p → textOn text f p t out ≡ wholeWithOutput text t out
-  unfolding textOn first_of
-  on-long-enough l k s = rw (ltb_no 32768 (length text) l, ltb_no (length f) frameNumbers k, ltb_no (length p) 128 s, textOn) refl
+  on_long_enough : length text ≤ 32768 → frame_numbers ≤ length f → 128 ≤ length p → text_on text f p t out ≡ whole_with_output text t out
+  unfolding text_on first_of
+  on_long_enough l k s = rw (ltb_no 32768 (length text) l, ltb_no (length f) frame_numbers k, ltb_no (length p) 128 s, text_on) refl
 
-  on-enough : frameNumbers ≤ length f → 128 ≤ length p → textOn text f p t out ≡ wholeWithOutput text t out
-  on-enough k s = go (is (ltb 32768 (length text)))
+  on_enough : frame_numbers ≤ length f → 128 ≤ length p → text_on text f p t out ≡ whole_with_output text t out
+  on_enough k s = go (is (ltb 32768 (length text)))
     where
-      go : Is (ltb 32768 (length text)) → textOn text f p t out ≡ wholeWithOutput text t out
-      go (is_true l) = let m = lt_of 32768 (length text) l in on-long m ∙ sym (beside_long text t out m)
-      go (is_false l) = on-long-enough (ge-of 32768 (length text) l) k s
+      go : Is (ltb 32768 (length text)) → text_on text f p t out ≡ whole_with_output text t out
+      go (is_true l) = let m = lt_of 32768 (length text) l in on_long m ∙ sym (beside_long text t out m)
+      go (is_false l) = on_long_enough (ge_of 32768 (length text) l) k s
 
   -- a text that ran has a frame and presets that are long enough
-  pub on-ran : (h : Head) (m : ℕ) (g : List ℕ) (x : Run) → textOn text f p t out ≡ ran h m g x → (frameNumbers ≤ length f) × (128 ≤ length p)
-  on-ran h m g x e = go (is (ltb 32768 (length text))) (is (ltb (length f) frameNumbers)) (is (ltb (length p) 128))
+  pub on_ran : (h : Head) (m : ℕ) (g : List ℕ) (x : Run) → text_on text f p t out ≡ ran h m g x → (frame_numbers ≤ length f) × (128 ≤ length p)
+  on_ran h m g x e = go (is (ltb 32768 (length text))) (is (ltb (length f) frame_numbers)) (is (ltb (length p) 128))
     where
-      go : Is (ltb 32768 (length text)) → Is (ltb (length f) frameNumbers) → Is (ltb (length p) 128) → (frameNumbers ≤ length f) × (128 ≤ length p)
-      go (is_true l) k s = absurd (unread (sym (on-long (lt_of 32768 (length text) l)) ∙ e))
-      go (is_false l) (is_true k) s = absurd (unread (sym (on-short-frame (ge-of 32768 (length text) l) (lt_of (length f) frameNumbers k)) ∙ e))
-      go (is_false l) (is_false k) (is_true s) = absurd (unread (sym (on-short-presets (ge-of 32768 (length text) l) (ge-of (length f) frameNumbers k) (lt_of (length p) 128 s)) ∙ e))
-      go (is_false l) (is_false k) (is_false s) = (ge-of (length f) frameNumbers k, ge-of (length p) 128 s)
+      go : Is (ltb 32768 (length text)) → Is (ltb (length f) frame_numbers) → Is (ltb (length p) 128) → (frame_numbers ≤ length f) × (128 ≤ length p)
+      go (is_true l) k s = absurd (unread (sym (on_long (lt_of 32768 (length text) l)) ∙ e))
+      go (is_false l) (is_true k) s = absurd (unread (sym (on_short_frame (ge_of 32768 (length text) l) (lt_of (length f) frame_numbers k)) ∙ e))
+      go (is_false l) (is_false k) (is_true s) = absurd (unread (sym (on_short_presets (ge_of 32768 (length text) l) (ge_of (length f) frame_numbers k) (lt_of (length p) 128 s)) ∙ e))
+      go (is_false l) (is_false k) (is_false s) = (ge_of (length f) frame_numbers k, ge_of (length p) 128 s)
 
   -- what is answered and left, and what is claimed
   abbrev Done : List ℕ → List ℕ → List ℕ → List ℕ → ℕ → ℕ → Type 0
-  Done f₁ p₁ t₁ out₁ n r = TextLeaves (textOn text f p t out) f p t out f₁ p₁ t₁ out₁ n r × TextPromise text f p t out f₁ p₁ t₁ r
+  Done f₁ p₁ t₁ out₁ n r = TextLeaves (text_on text f p t out) f p t out f₁ p₁ t₁ out₁ n r × TextPromise text f p t out f₁ p₁ t₁ r
 
-  text-stopped : (c : Refusal) → textOn text f p t out ≡ notRead 0 c → Done f p t out 0 (number_of c)
-  unfolding end_of frameAfter recordsAfter tableAfter outputAfter
-  text-stopped c e = (
+  text_stopped : (c : Refusal) → text_on text f p t out ≡ not_read 0 c → Done f p t out 0 (number_of c)
+  unfolding end_of frame_after records_after table_after output_after
+  text_stopped c e = (
     subst (λ (w : Whole). TextLeaves w f p t out f p t out 0 (number_of c)) (sym e)
         (record { answer = refl; end = refl; frame = refl; presets = refl; table = refl; output = refl }),
-    record { long = on-enough; claim = text-claim text t out; left = λ h m g x q. absurd (unread (sym e ∙ q)); running = λ z. absurd (number-some c z) },
+    record { long = on_enough; claim = text_claim text t out; left = λ h m g x q. absurd (unread (sym e ∙ q)); running = λ z. absurd (number_some c z) },
   )
 
-  pub text-long : 32768 < length text → Done f p t out 0 10
-  text-long l = text-stopped textTooLong (on-long l)
+  pub text_long : 32768 < length text → Done f p t out 0 10
+  text_long l = text_stopped text_too_long (on_long l)
 
-  pub text-short-frame : length text ≤ 32768 → length f < frameNumbers → Done f p t out 0 8
-  text-short-frame l s = text-stopped tooShort (on-short-frame l s)
+  pub text_short_frame : length text ≤ 32768 → length f < frame_numbers → Done f p t out 0 8
+  text_short_frame l s = text_stopped too_short (on_short_frame l s)
 
-  pub text-short-presets : length text ≤ 32768 → frameNumbers ≤ length f → length p < 128 → Done f p t out 0 8
-  text-short-presets l k s = text-stopped tooShort (on-short-presets l k s)
+  pub text_short_presets : length text ≤ 32768 → frame_numbers ≤ length f → length p < 128 → Done f p t out 0 8
+  text_short_presets l k s = text_stopped too_short (on_short_presets l k s)
 
   -- what a text leaves of the frame and of the records by value, written back
-  frame-left : (w : Whole) → frameLeft (end_of w out) (headAfter w (headOfNumbers f)) (clockAfter w (clockOfNumbers f)) (holdAfter w (holdOfNumbers f)) f ≡ frameAfter w f
-  unfolding end_of headAfter clockAfter holdAfter frameAfter
-  frame-left (notRead n r) = read_same f
-  frame-left (notPlanned h n r) = refl
-  frame-left (ran h n g r) = refl
+  frame_left_lem : (w : Whole) → frame_left (end_of w out) (head_after w (head_of_numbers f)) (clock_after w (clock_of_numbers f)) (hold_after w (hold_of_numbers f)) f ≡ frame_after w f
+  unfolding end_of head_after clock_after hold_after frame_after
+  frame_left_lem (not_read n r) = read_same f
+  frame_left_lem (not_planned h n r) = refl
+  frame_left_lem (ran h n g r) = refl
 
-  over-left : (h : Head) → bytesOver (recordsOver h.presets (recordsIn p)) p ≡ bytesOver (map recordOf h.presets) p
-  over-left h = let long : length (map recordOf h.presets) ≡ length h.presets = length-map h.presets recordOf in rw (sym long) (bytes-over-rest (map recordOf h.presets) 32 p)
+  over_left : (h : Head) → bytes_over (records_over h.presets (records_in p)) p ≡ bytes_over (map record_of h.presets) p
+  over_left h = let long : length (map record_of h.presets) ≡ length h.presets = length-map h.presets record_of in rw (sym long) (bytes_over_rest (map record_of h.presets) 32 p)
 
-  presets-left : (w : Whole) → bytesOver (presetsAfter w (recordsIn p)) p ≡ recordsAfter w p
-  unfolding presetsAfter recordsAfter
-  presets-left (notRead n r) = bytes_back 32 p
-  presets-left (notPlanned h n r) = over-left h
-  presets-left (ran h n g r) = over-left h
+  presets_left : (w : Whole) → bytes_over (presets_after w (records_in p)) p ≡ records_after w p
+  unfolding presets_after records_after
+  presets_left (not_read n r) = bytes_back 32 p
+  presets_left (not_planned h n r) = over_left h
+  presets_left (ran h n g r) = over_left h
 
   -- a head and its records, written and read again
-  head-again : (h : Head) (c : ℕ) (hold : Bool) {f₁ p₁ : List ℕ} → frameNumbers ≤ length f → 128 ≤ length p → length h.busy ≡ 8 → length h.presets ≤ 32
-      → f₁ ≡ numbersOver (headRecord h) c hold f → p₁ ≡ bytesOver (recordsOver h.presets (recordsIn p)) p
-      → (headIn (headOfNumbers f₁) (recordsIn p₁) ≡ h) × (clockOfNumbers f₁ ≡ c) × (holdOfNumbers f₁ ≡ hold)
-  head-again h c hold {f₁} {p₁} k s eight few a b =
-      let all : length (recordsOver h.presets (recordsIn p)) ≡ 32 =
-      omega (arith, few, length-append (map recordOf h.presets) (drop (length h.presets) (recordsIn p)), length-map h.presets recordOf, length-drop (length h.presets) (recordsIn p), length-records 32 p) in
-      let back : recordsIn p₁ ≡ recordsOver h.presets (recordsIn p) =
-      ap recordsIn b ∙ (rw all at (records-back (recordsOver h.presets (recordsIn p)) p (omega (arith, all, s)))) in (
-        ap (λ (g : record-of-head.Head). headIn g (recordsIn p₁)) (ap headOfNumbers a ∙ head-back (headRecord h) c hold f eight k)
-            ∙ ap (headIn (headRecord h)) back
-            ∙ heads.head-back h (recordsIn p),
-        ap clockOfNumbers a ∙ clock-back (headRecord h) c hold f eight k,
-        ap holdOfNumbers a ∙ hold-back (headRecord h) c hold f eight k,
+  head_again : (h : Head) (c : ℕ) (hold : Bool) {f₁ p₁ : List ℕ} → frame_numbers ≤ length f → 128 ≤ length p → length h.busy ≡ 8 → length h.presets ≤ 32
+      → f₁ ≡ numbers_over (head_record h) c hold f → p₁ ≡ bytes_over (records_over h.presets (records_in p)) p
+      → (head_in (head_of_numbers f₁) (records_in p₁) ≡ h) × (clock_of_numbers f₁ ≡ c) × (hold_of_numbers f₁ ≡ hold)
+  head_again h c hold {f₁} {p₁} k s eight few a b =
+      let all : length (records_over h.presets (records_in p)) ≡ 32 =
+      omega (arith, few, length-append (map record_of h.presets) (drop (length h.presets) (records_in p)), length-map h.presets record_of, length-drop (length h.presets) (records_in p), length_records 32 p) in
+      let back : records_in p₁ ≡ records_over h.presets (records_in p) =
+      ap records_in b ∙ (rw all at (records_back (records_over h.presets (records_in p)) p (omega (arith, all, s)))) in (
+        ap (λ (g : record-of-head.Head). head_in g (records_in p₁)) (ap head_of_numbers a ∙ head_back (head_record h) c hold f eight k)
+            ∙ ap (head_in (head_record h)) back
+            ∙ heads.head_back h (records_in p),
+        ap clock_of_numbers a ∙ clock_back_lem (head_record h) c hold f eight k,
+        ap hold_of_numbers a ∙ hold_back (head_record h) c hold f eight k,
       )
 
-  module _ {f₁ p₁ t₁ out₁ : List ℕ} {x : run.TextRun} (k : frameNumbers ≤ length f) (s : 128 ≤ length p) (d : TextDone text (headOfNumbers f) (recordsIn p) t (clockOfNumbers f) (holdOfNumbers f) out t₁ out₁ x)
-      (a : f₁ ≡ frameLeft (end_in x.ended) x.head x.clock x.hold f) (b : p₁ ≡ bytesOver x.presets p) where
-    ran-runs : (h : Head) (n : ℕ) (g : List ℕ) (r : Run) → wholeWithOutput text t out ≡ ran h n g r → Running h r.after
-    ran-runs h n g r e = subst (λ (y : Run). Running h y.after) (sym ((text-claim text t out).events h n g r e)) ((text-claim text t out).demand3 h n g r e).running
+  module _ {f₁ p₁ t₁ out₁ : List ℕ} {x : run.TextRun} (k : frame_numbers ≤ length f) (s : 128 ≤ length p) (d : TextDone text (head_of_numbers f) (records_in p) t (clock_of_numbers f) (hold_of_numbers f) out t₁ out₁ x)
+      (a : f₁ ≡ frame_left (end_in x.ended) x.head x.clock x.hold f) (b : p₁ ≡ bytes_over x.presets p) where
+    ran_runs : (h : Head) (n : ℕ) (g : List ℕ) (r : Run) → whole_with_output text t out ≡ ran h n g r → Running h r.after
+    ran_runs h n g r e = subst (λ (y : Run). Running h y.after) (sym ((text_claim text t out).events h n g r e)) ((text_claim text t out).demand3 h n g r e).running
 
     -- the head and the last state of a text that ran
-    ran-left : (h : Head) (n : ℕ) (g : List ℕ) (r : Run) → wholeWithOutput text t out ≡ ran h n g r → (headOn f₁ p₁ ≡ h) × (stateOn f₁ t₁ ≡ r.after)
-    unfolding end_of headAfter presetsAfter tableAfter clockAfter holdAfter
-    ran-left h n g r e =
-        let after = ran-runs h n g r e in
+    ran_left : (h : Head) (n : ℕ) (g : List ℕ) (r : Run) → whole_with_output text t out ≡ ran h n g r → (head_on f₁ p₁ ≡ h) × (state_on f₁ t₁ ≡ r.after)
+    unfolding end_of head_after presets_after table_after clock_after hold_after
+    ran_left h n g r e =
+        let after = ran_runs h n g r e in
         let end : end_in x.ended ≡ end_of (ran h n g r) out = d.ended ∙ ap (λ (w : Whole). end_of w out) e in
-        let head : x.head ≡ headRecord h = d.head ∙ ap (λ (w : Whole). headAfter w (headOfNumbers f)) e in
-        let clock : x.clock ≡ r.after.clock = d.clock ∙ ap (λ (w : Whole). clockAfter w (clockOfNumbers f)) e in
-        let hold : x.hold ≡ r.after.hold = d.hold ∙ ap (λ (w : Whole). holdAfter w (holdOfNumbers f)) e in
-        let records : x.presets ≡ recordsOver h.presets (recordsIn p) = d.presets ∙ ap (λ (w : Whole). presetsAfter w (recordsIn p)) e in
-        let table : t₁ ≡ r.after.table = d.table ∙ ap (λ (w : Whole). tableAfter w t) e in
-        let again = head-again h r.after.clock r.after.hold k s after.valid.masks after.valid.number-of-presets
+        let head : x.head ≡ head_record h = d.head ∙ ap (λ (w : Whole). head_after w (head_of_numbers f)) e in
+        let clock : x.clock ≡ r.after.clock = d.clock ∙ ap (λ (w : Whole). clock_after w (clock_of_numbers f)) e in
+        let hold : x.hold ≡ r.after.hold = d.hold ∙ ap (λ (w : Whole). hold_after w (hold_of_numbers f)) e in
+        let records : x.presets ≡ records_over h.presets (records_in p) = d.presets ∙ ap (λ (w : Whole). presets_after w (records_in p)) e in
+        let table : t₁ ≡ r.after.table = d.table ∙ ap (λ (w : Whole). table_after w t) e in
+        let again = head_again h r.after.clock r.after.hold k s after.valid.masks after.valid.number_of_presets
         (a
-        ∙ ap (λ (y : End). frameLeft y x.head x.clock x.hold f) end
-        ∙ ap (λ (g : record-of-head.Head). numbersOver g x.clock x.hold f) head
-        ∙ ap (λ (c : ℕ). numbersOver (headRecord h) c x.hold f) clock
-        ∙ ap (λ (b : Bool). numbersOver (headRecord h) r.after.clock b f) hold)
-        (b ∙ ap (λ (l : List record-of-preset.Preset). bytesOver l p) records) in
+        ∙ ap (λ (y : End). frame_left y x.head x.clock x.hold f) end
+        ∙ ap (λ (g : record-of-head.Head). numbers_over g x.clock x.hold f) head
+        ∙ ap (λ (c : ℕ). numbers_over (head_record h) c x.hold f) clock
+        ∙ ap (λ (b : Bool). numbers_over (head_record h) r.after.clock b f) hold)
+        (b ∙ ap (λ (l : List record-of-preset.Preset). bytes_over l p) records) in
         (again.0, rw (again.1, again.2, table) refl)
 
-    ran-running : (w : Whole) → wholeWithOutput text t out ≡ w → (endReturned (end_of w out)).number ≡ 0 → RunningOn f₁ p₁ t₁
+    ran_running : (w : Whole) → whole_with_output text t out ≡ w → (end_returned (end_of w out)).number ≡ 0 → RunningOn f₁ p₁ t₁
     unfolding end_of
-    ran-running (notRead n r) e z = absurd (number-some r z)
-    ran-running (notPlanned h n r) e z = absurd (number-some r z)
-    ran-running (ran h n g r) e z = let same = ran-left h n g r e in rw (same.0, same.1) (ran-runs h n g r e)
+    ran_running (not_read n r) e z = absurd (number_some r z)
+    ran_running (not_planned h n r) e z = absurd (number_some r z)
+    ran_running (ran h n g r) e z = let same = ran_left h n g r e in rw (same.0, same.1) (ran_runs h n g r e)
 
     abbrev whole : Whole
-    whole = wholeWithOutput text t out
+    whole = whole_with_output text t out
 
-    text-run : {n r : ℕ} → n ≡ value (endReturned (end_in x.ended)) → r ≡ (endReturned (end_in x.ended)).number → Done f₁ p₁ t₁ out₁ n r
-    text-run {n} {r} e₁ e₂ = (
-      subst (λ (w : Whole). TextLeaves w f p t out f₁ p₁ t₁ out₁ n r) (sym (on-enough k s)) (record {
-        answer = e₂ ∙ ap (λ (x : End). (endReturned x).number) d.ended;
-        end = e₁ ∙ ap (λ (x : End). value (endReturned x)) d.ended;
+    text_run : {n r : ℕ} → n ≡ value (end_returned (end_in x.ended)) → r ≡ (end_returned (end_in x.ended)).number → Done f₁ p₁ t₁ out₁ n r
+    text_run {n} {r} e₁ e₂ = (
+      subst (λ (w : Whole). TextLeaves w f p t out f₁ p₁ t₁ out₁ n r) (sym (on_enough k s)) (record {
+        answer = e₂ ∙ ap (λ (x : End). (end_returned x).number) d.ended;
+        end = e₁ ∙ ap (λ (x : End). value (end_returned x)) d.ended;
         frame =
             a
-            ∙ ap (λ (y : End). frameLeft y x.head x.clock x.hold f) d.ended
-            ∙ ap (λ (g : record-of-head.Head). frameLeft (end_of whole out) g x.clock x.hold f) d.head
-            ∙ ap (λ (c : ℕ). frameLeft (end_of whole out) (headAfter whole (headOfNumbers f)) c x.hold f) d.clock
-            ∙ ap (λ (b : Bool). frameLeft (end_of whole out) (headAfter whole (headOfNumbers f)) (clockAfter whole (clockOfNumbers f)) b f) d.hold
-            ∙ frame-left whole;
-        presets = b ∙ ap (λ (l : List record-of-preset.Preset). bytesOver l p) d.presets ∙ presets-left whole;
+            ∙ ap (λ (y : End). frame_left y x.head x.clock x.hold f) d.ended
+            ∙ ap (λ (g : record-of-head.Head). frame_left (end_of whole out) g x.clock x.hold f) d.head
+            ∙ ap (λ (c : ℕ). frame_left (end_of whole out) (head_after whole (head_of_numbers f)) c x.hold f) d.clock
+            ∙ ap (λ (b : Bool). frame_left (end_of whole out) (head_after whole (head_of_numbers f)) (clock_after whole (clock_of_numbers f)) b f) d.hold
+            ∙ frame_left_lem whole;
+        presets = b ∙ ap (λ (l : List record-of-preset.Preset). bytes_over l p) d.presets ∙ presets_left whole;
         table = d.table;
         output = d.output;
       }),
       record {
-        long = on-enough;
-        claim = text-claim text t out;
-        left = λ h m g y q. ran-left h m g y (sym (on-enough k s) ∙ q);
-        running = λ z. ran-running whole refl (sym (ap (λ (x : End). (endReturned x).number) d.ended) ∙ sym e₂ ∙ z);
+        long = on_enough;
+        claim = text_claim text t out;
+        left = λ h m g y q. ran_left h m g y (sym (on_enough k s) ∙ q);
+        running = λ z. ran_running whole refl (sym (ap (λ (x : End). (end_returned x).number) d.ended) ∙ sym e₂ ∙ z);
       },
     )
 
   -- the same of what was read of the frame and of the presets
-  pub text-handed : (hd : record-of-head.Head) (ps : List record-of-preset.Preset) (c : ℕ) (hold : Bool) (x : run.TextRun) {f₁ p₁ t₁ out₁ : List ℕ} {n r : ℕ} → frameNumbers ≤ length f → 128 ≤ length p
-      → hd ≡ headOfNumbers f → ps ≡ recordsIn p → c ≡ clockOfNumbers f → hold ≡ holdOfNumbers f → TextDone text hd ps t c hold out t₁ out₁ x
-      → f₁ ≡ frameLeft (end_in x.ended) x.head x.clock x.hold f → p₁ ≡ bytesOver x.presets p → n ≡ value (endReturned (end_in x.ended)) → r ≡ (endReturned (end_in x.ended)).number → Done f₁ p₁ t₁ out₁ n r
-  text-handed hd ps c hold x k s a b e i d f₂ p₂ n r = text-run {x = x} k s (rw (a, b, e, i) at d) f₂ p₂ n r
+  pub text_handed : (hd : record-of-head.Head) (ps : List record-of-preset.Preset) (c : ℕ) (hold : Bool) (x : run.TextRun) {f₁ p₁ t₁ out₁ : List ℕ} {n r : ℕ} → frame_numbers ≤ length f → 128 ≤ length p
+      → hd ≡ head_of_numbers f → ps ≡ records_in p → c ≡ clock_of_numbers f → hold ≡ hold_of_numbers f → TextDone text hd ps t c hold out t₁ out₁ x
+      → f₁ ≡ frame_left (end_in x.ended) x.head x.clock x.hold f → p₁ ≡ bytes_over x.presets p → n ≡ value (end_returned (end_in x.ended)) → r ≡ (end_returned (end_in x.ended)).number → Done f₁ p₁ t₁ out₁ n r
+  text_handed hd ps c hold x k s a b e i d f₂ p₂ n r = text_run {x = x} k s (rw (a, b, e, i) at d) f₂ p₂ n r

@@ -1,11 +1,11 @@
 // Answers as numbers: 0 or the number of the refusal, and the count that goes with it.
 ghost use Rattle.std.specs.Prelude.{◌≡◌};
 ghost use Rattle.station.specs.Refusal.{number_of};
-ghost use Rattle.station.specs.Types.{refusalIn};
+ghost use Rattle.station.specs.Types.{refusal_in};
 ghost use Rattle.station.specs.WriteHead as writing;
 ghost use Rattle.frame.specs.Types.{answer_in};
 ghost use Rattle.frame.specs.TextDone.{end_in};
-ghost use Rattle.planner.specs.Exports.{endReturned, value, answerReturned, writtenReturned, rowsAnswered};
+ghost use Rattle.planner.specs.Exports.{end_returned, value, answer_returned, written_returned, rows_answered};
 
 use crate::numbers::tie_number;
 use frame::text::Ended;
@@ -17,14 +17,14 @@ use station::write::Writing;
 
 // The paper's number of a cause.
 pub(crate) fn refusal_number(cause: Refusal) -> u32
-    ensures { result ≡ number_of (refusalIn cause) }
+    ensures { result ≡ number_of (refusal_in cause) }
 {
     cause_number(cause) as u32
 }
 
 // Whether a text ran.
 pub(crate) fn end_number(ended: Ended) -> u32
-    ensures { result ≡ (endReturned (end_in ended)).number }
+    ensures { result ≡ (end_returned (end_in ended)).number }
 {
     match ended {
         Ended::Ran(_) => 0,
@@ -34,7 +34,7 @@ pub(crate) fn end_number(ended: Ended) -> u32
 
 // How many bytes the listing has in the output, or the line at fault.
 pub(crate) fn end_place(ended: Ended) -> u64
-    ensures { result ≡ value (endReturned (end_in ended)) }
+    ensures { result ≡ value (end_returned (end_in ended)) }
 {
     match ended {
         Ended::Ran(n) => n as u64,
@@ -44,7 +44,7 @@ pub(crate) fn end_place(ended: Ended) -> u64
 
 // Whether an event was carried out.
 pub(crate) fn answer_number(answer: Answer) -> u32
-    ensures { result ≡ (answerReturned (answer_in answer)).number }
+    ensures { result ≡ (answer_returned (answer_in answer)).number }
 {
     match answer {
         Answer::Now(_) => 0,
@@ -56,7 +56,7 @@ pub(crate) fn answer_number(answer: Answer) -> u32
 
 // The new clock, the new order of ties (1 for hold), or how many cells were evicted; or the line of the refusal.
 pub(crate) fn answer_count(answer: Answer) -> u64
-    ensures { result ≡ value (answerReturned (answer_in answer)) }
+    ensures { result ≡ value (answer_returned (answer_in answer)) }
 {
     match answer {
         Answer::Now(t) => t as u64,
@@ -68,7 +68,7 @@ pub(crate) fn answer_count(answer: Answer) -> u64
 
 // Whether a listing or rows were written.
 pub(crate) fn written_number(answer: Writing) -> u32
-    ensures { result ≡ (writtenReturned (writing.answer_in answer)).number }
+    ensures { result ≡ (written_returned (writing.answer_in answer)).number }
 {
     match answer {
         Writing::Written(_) => 0,
@@ -78,7 +78,7 @@ pub(crate) fn written_number(answer: Writing) -> u32
 
 // How many bytes of a listing or of rows were written; or the line of the refusal.
 pub(crate) fn written_count(answer: Writing) -> u64
-    ensures { result ≡ value (writtenReturned (writing.answer_in answer)) }
+    ensures { result ≡ value (written_returned (writing.answer_in answer)) }
 {
     match answer {
         Writing::Written(n) => n as u64,
@@ -88,7 +88,7 @@ pub(crate) fn written_count(answer: Writing) -> u64
 
 // Whether rows were read.
 pub(crate) fn rows_number(answer: RowsAnswer) -> u32
-    ensures { result ≡ (rowsAnswered answer).number }
+    ensures { result ≡ (rows_answered answer).number }
 {
     match answer {
         RowsAnswer::Accepted(_) => 0,
@@ -98,7 +98,7 @@ pub(crate) fn rows_number(answer: RowsAnswer) -> u32
 
 // How many rows were read; or the row at fault.
 pub(crate) fn rows_count(answer: RowsAnswer) -> u64
-    ensures { result ≡ value (rowsAnswered answer) }
+    ensures { result ≡ value (rows_answered answer) }
 {
     match answer {
         RowsAnswer::Accepted(n) => n as u64,

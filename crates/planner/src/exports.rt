@@ -1,7 +1,7 @@
 // The functions that firmware in C or Rust calls, over numbers and slices alone. Each answers 0, or the number 1 to 12 of the refusal, and takes every input:
 // short slices and bad records have their numbers. The causes are tried in the order in which a function's comment names them.
 ghost use Rattle.std.specs.Prelude.{◌≤◌, length};
-ghost use Rattle.planner.specs.Exports.{textOn, TextLeaves, TextPromise, eventOn, EventLeaves, EventPromise, planOn, PlanLeaves, PlanPromise, ListingLeaves, ListingWhole, rowsOn, RowsLeaves, RowsPromise, RowsWrittenLeaves, RowsWrittenPromise};
+ghost use Rattle.planner.specs.Exports.{text_on, TextLeaves, TextPromise, event_on, EventLeaves, EventPromise, plan_on, PlanLeaves, PlanPromise, ListingLeaves, ListingWhole, rows_on, RowsLeaves, RowsPromise, RowsWrittenLeaves, RowsWrittenPromise};
 
 use crate::answers::{
     answer_count, answer_number, end_number, end_place, refusal_number, rows_count, rows_number,
@@ -38,7 +38,7 @@ pub extern "C" fn planner_run_text(
     out: &mut [u8],
     end: &mut u64,
 ) -> u32
-    ensures done { TextLeaves (textOn text.now frame.old presets.old table.old out.old) frame.old presets.old table.old out.old frame.new presets.new table.new out.new end.new result }
+    ensures done { TextLeaves (text_on text.now frame.old presets.old table.old out.old) frame.old presets.old table.old out.old frame.new presets.new table.new out.new end.new result }
     ensures claim { TextPromise text.now frame.old presets.old table.old out.old frame.new presets.new table.new result }
 {
     *end = 0;
@@ -82,7 +82,7 @@ pub extern "C" fn planner_event(
     line: &[u8],
     number: &mut u64,
 ) -> u32
-    ensures done { EventLeaves (eventOn frame.old presets.now table.old line.now) frame.old frame.new table.new number.new result }
+    ensures done { EventLeaves (event_on frame.old presets.now table.old line.now) frame.old frame.new table.new number.new result }
     ensures claim { EventPromise frame.old presets.now table.old line.now frame.new table.new result }
 {
     *number = 0;
@@ -112,7 +112,7 @@ pub extern "C" fn planner_plan(
     table: &mut [Cell],
     grants: &mut [u8],
 ) -> u32
-    ensures done { PlanLeaves (planOn frame.now presets.now table.old grants.old) grants.old table.new grants.new result }
+    ensures done { PlanLeaves (plan_on frame.now presets.now table.old grants.old) grants.old table.new grants.new result }
     ensures claim { PlanPromise frame.now presets.now table.old table.new result }
 {
     if frame.len() < FRAME_NUMBERS {
@@ -164,7 +164,7 @@ pub extern "C" fn planner_read_rows(
     presets: &[u8],
     row: &mut u64,
 ) -> u32
-    ensures done { RowsLeaves (rowsOn text.now frame.old presets.now) frame.old frame.new row.new result }
+    ensures done { RowsLeaves (rows_on text.now frame.old presets.now) frame.old frame.new row.new result }
     ensures claim { RowsPromise text.now frame.old presets.now frame.new row.new result }
 {
     *row = 0;

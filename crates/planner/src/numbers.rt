@@ -4,8 +4,8 @@ ghost use Rattle.std.specs.Prelude.{◌≡◌, [], ◌∷◌, get_or, set};
 ghost use Rattle.std.proofs.lemmas.List.Edits.{sets};
 ghost use Rattle.laws.specs.Sums.{bit};
 ghost use Rattle.frame.specs.TextDone.{end_in};
-ghost use Rattle.planner.specs.Layout.{headTie, tieInForce, saysHold, headOfNumbers, clockOfNumbers, holdOfNumbers, headOver, tieOver, clockOver, masksOver};
-ghost use Rattle.planner.specs.Exports.{frameLeft};
+ghost use Rattle.planner.specs.Layout.{head_tie, tie_in_force, says_hold, head_of_numbers, clock_of_numbers, hold_of_numbers, head_over, tie_over, clock_over, masks_over};
+ghost use Rattle.planner.specs.Exports.{frame_left};
 
 use frame::text::Ended;
 use station::limits::MOST_BRIDGES;
@@ -41,7 +41,7 @@ const TIE_IN_FORCE: usize = 14;
 
 // What a number says of the order of ties: 0 is place, any other number hold.
 fn says_hold(number: u64) -> bool
-    ensures { result ≡ saysHold number }
+    ensures { result ≡ says_hold number }
 {
     0 < number
 }
@@ -58,7 +58,7 @@ pub(crate) fn tie_number(hold: bool) -> u64
 
 // The head of a frame.
 pub(crate) fn head_of(frame: &[u64]) -> Head
-    ensures { result ≡ headOfNumbers frame.now }
+    ensures { result ≡ head_of_numbers frame.now }
 {
     let busy = [
         number_at(frame, 4),
@@ -82,21 +82,21 @@ pub(crate) fn head_of(frame: &[u64]) -> Head
 
 // The clock of a frame.
 pub(crate) fn clock_of(frame: &[u64]) -> usize
-    ensures { result ≡ clockOfNumbers frame.now }
+    ensures { result ≡ clock_of_numbers frame.now }
 {
     number_at(frame, CLOCK) as usize
 }
 
 // The order of ties in force of a frame.
 pub(crate) fn hold_of(frame: &[u64]) -> bool
-    ensures { result ≡ holdOfNumbers frame.now }
+    ensures { result ≡ hold_of_numbers frame.now }
 {
     says_hold(number_at(frame, TIE_IN_FORCE))
 }
 
 // Writes an order of ties to a place; a number that says it already stays, so that what changes nothing writes nothing.
 fn set_tie(frame: &mut [u64], place: usize, hold: bool)
-    ensures { frame.new ≡ tieOver place hold frame.old }
+    ensures { frame.new ≡ tie_over place hold frame.old }
 {
     if says_hold(number_at(frame, place)) == hold {
         return;
@@ -106,21 +106,21 @@ fn set_tie(frame: &mut [u64], place: usize, hold: bool)
 
 // Writes the order of ties in force of a frame, and nothing else.
 pub(crate) fn save_tie(frame: &mut [u64], hold: bool)
-    ensures { frame.new ≡ tieOver tieInForce hold frame.old }
+    ensures { frame.new ≡ tie_over tie_in_force hold frame.old }
 {
     set_tie(frame, TIE_IN_FORCE, hold);
 }
 
 // Writes the clock of a frame, and nothing else.
 pub(crate) fn save_clock(frame: &mut [u64], clock: usize)
-    ensures { frame.new ≡ clockOver clock frame.old }
+    ensures { frame.new ≡ clock_over clock frame.old }
 {
     set_number(frame, CLOCK, clock as u64);
 }
 
 // Writes the masks of the busy slots to their places, and nothing else.
 pub(crate) fn save_masks(frame: &mut [u64], busy: [u64; MOST_BRIDGES])
-    ensures { frame.new ≡ masksOver busy frame.old }
+    ensures { frame.new ≡ masks_over busy frame.old }
 {
     let mut b = 0;
     while b < MOST_BRIDGES {
@@ -131,7 +131,7 @@ pub(crate) fn save_masks(frame: &mut [u64], busy: [u64; MOST_BRIDGES])
 
 // Writes a head, all but its order of ties, and a clock over the first thirteen numbers.
 fn save_head(frame: &mut [u64], head: Head, clock: usize)
-    ensures { frame.new ≡ headOver head clock frame.old }
+    ensures { frame.new ≡ head_over head clock frame.old }
 {
     let busy = head.busy;
     set_number(frame, 0, head.slots as u64);
@@ -144,7 +144,7 @@ fn save_head(frame: &mut [u64], head: Head, clock: usize)
 
 // Writes the two orders of ties, and 0 to the reserved place beside them.
 fn save_orders(frame: &mut [u64], kept: bool, hold: bool)
-    ensures { frame.new ≡ sets frame.old headTie (bit kept ∷ bit hold ∷ 0 ∷ []) }
+    ensures { frame.new ≡ sets frame.old head_tie (bit kept ∷ bit hold ∷ 0 ∷ []) }
 {
     set_number(frame, HEAD_TIE, tie_number(kept));
     set_number(frame, TIE_IN_FORCE, tie_number(hold));
@@ -154,7 +154,7 @@ fn save_orders(frame: &mut [u64], kept: bool, hold: bool)
 // Writes the head and the clock that a text leaves, and where it ran the order of ties in force and 0 to the reserved place. A refusal leaves those as they are, so that one which
 // leaves the head and the clock too changes nothing.
 pub(crate) fn save_run(frame: &mut [u64], ended: Ended, head: Head, clock: usize, hold: bool)
-    ensures { frame.new ≡ frameLeft (end_in ended) head clock hold frame.old }
+    ensures { frame.new ≡ frame_left (end_in ended) head clock hold frame.old }
 {
     save_head(frame, head, clock);
     match ended {

@@ -2,8 +2,8 @@
 // written, so that each function takes every slice.
 ghost use Rattle.std.specs.Prelude.{◌≡◌, [], ◌∷◌, ◌*◌, ◌<◌, get_or, set};
 ghost use Rattle.std.proofs.lemmas.List.Edits.{sets};
-ghost use Rattle.station.specs.Limits.{mostPresets};
-ghost use Rattle.planner.specs.Layout.{recordAt, recordsIn, bytes_of, bytesOver};
+ghost use Rattle.station.specs.Limits.{most_presets};
+ghost use Rattle.planner.specs.Layout.{record_at, records_in, bytes_of, bytes_over};
 
 use station::limits::MOST_PRESETS;
 use station::types::{NO_PRESETS, Preset};
@@ -29,8 +29,8 @@ pub(crate) fn set_byte(bytes: &mut [u8], i: usize, given: u8)
 
 // The record at a place.
 fn preset_at(presets: &[u8], i: usize) -> Preset
-    requires { i < mostPresets }
-    ensures { result ≡ recordAt presets.now i }
+    requires { i < most_presets }
+    ensures { result ≡ record_at presets.now i }
 {
     let at = 4 * i;
     Preset {
@@ -43,7 +43,7 @@ fn preset_at(presets: &[u8], i: usize) -> Preset
 
 // The 32 records of the first 128 bytes.
 pub(crate) fn load_presets(presets: &[u8]) -> [Preset; MOST_PRESETS]
-    ensures { result ≡ recordsIn presets.now }
+    ensures { result ≡ records_in presets.now }
 {
     let mut copied = NO_PRESETS;
     let mut i = 0;
@@ -56,7 +56,7 @@ pub(crate) fn load_presets(presets: &[u8]) -> [Preset; MOST_PRESETS]
 
 // Writes one record to its place.
 fn set_preset(presets: &mut [u8], i: usize, given: Preset)
-    requires { i < mostPresets }
+    requires { i < most_presets }
     ensures { presets.new ≡ sets presets.old (4 * i) (bytes_of (given ∷ [])) }
 {
     let at = 4 * i;
@@ -68,7 +68,7 @@ fn set_preset(presets: &mut [u8], i: usize, given: Preset)
 
 // Writes 32 records over the first 128 bytes.
 pub(crate) fn save_presets(presets: &mut [u8], copied: [Preset; MOST_PRESETS])
-    ensures { presets.new ≡ bytesOver copied presets.old }
+    ensures { presets.new ≡ bytes_over copied presets.old }
 {
     let mut i = 0;
     while i < MOST_PRESETS {

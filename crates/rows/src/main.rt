@@ -4,11 +4,11 @@
 ghost use Rattle.std.specs.Prelude.{◌≤◌, ◌≡◌, true, length, take};
 ghost use Rattle.station.specs.Text.{lines};
 ghost use Rattle.station.specs.Writing.{text_of};
-ghost use Rattle.station.specs.Row.{rowsText};
-ghost use Rattle.station.specs.Types.{refusalIn, headIn, validRecord};
-ghost use Rattle.frame.specs.Listing.{refusedLine};
-ghost use Rattle.rows.specs.Printed.{parts_of, ofReading, rowsBeside, rowsPrinted};
-ghost use Rattle.rows.specs.method.Parts.{partedAt, Printed, lengthIn};
+ghost use Rattle.station.specs.Row.{rows_text};
+ghost use Rattle.station.specs.Types.{refusal_in, head_in, valid_record};
+ghost use Rattle.frame.specs.Listing.{refused_line};
+ghost use Rattle.rows.specs.Printed.{parts_of, of_reading, rows_beside, rows_printed};
+ghost use Rattle.rows.specs.method.Parts.{parted_at, Printed, length_in};
 
 use frame::listing::write_answer;
 use frame::types::Answer;
@@ -23,7 +23,7 @@ use station::write::{Writing, write_head_by_value};
 // Where the first empty line of an input begins; its end where there is none.
 fn empty_line(input: &[u8]) -> usize
     ensures inside { result ≤ length input.now }
-    ensures parts { parts_of (lines input.now) ≡ partedAt input.now
+    ensures parts { parts_of (lines input.now) ≡ parted_at input.now
         result }
 {
     let mut at = 0;
@@ -39,7 +39,7 @@ fn empty_line(input: &[u8]) -> usize
 
 // How many bytes were written.
 fn length_in(writing: Writing) -> usize
-    ensures { result ≡ lengthIn writing }
+    ensures { result ≡ length_in writing }
 {
     match writing {
         Writing::Written(n) => n,
@@ -50,7 +50,7 @@ fn length_in(writing: Writing) -> usize
 // Writes the one refused line. Answers how many bytes it is.
 fn refused(line: usize, cause: Refusal, out: &mut [u8]) -> usize
     requires { 8192 ≤ length out.old }
-    ensures { Printed (refusedLine line (refusalIn cause)) out.new result }
+    ensures { Printed (refused_line line (refusal_in cause)) out.new result }
 {
     let writing = write_answer(out, line, Answer::Refused(line, cause));
     length_in(writing)
@@ -58,8 +58,8 @@ fn refused(line: usize, cause: Refusal, out: &mut [u8]) -> usize
 
 // Writes the rows of a head. Answers how many bytes they are.
 fn head_rows(head: Head, presets: [Preset; MOST_PRESETS], out: &mut [u8]) -> usize
-    requires { (validRecord head presets ≡ true) × (8192 ≤ length out.old) }
-    ensures { Printed (rowsText head.busy) out.new result }
+    requires { (valid_record head presets ≡ true) × (8192 ≤ length out.old) }
+    ensures { Printed (rows_text head.busy) out.new result }
 {
     let writing = write_rows_by_value(head, presets, out);
     length_in(writing)
@@ -67,8 +67,8 @@ fn head_rows(head: Head, presets: [Preset; MOST_PRESETS], out: &mut [u8]) -> usi
 
 // Writes the text of a head. Answers how many bytes it is.
 fn head_text(head: Head, presets: [Preset; MOST_PRESETS], out: &mut [u8]) -> usize
-    requires { (validRecord head presets ≡ true) × (8192 ≤ length out.old) }
-    ensures { Printed (text_of (headIn head presets)) out.new result }
+    requires { (valid_record head presets ≡ true) × (8192 ≤ length out.old) }
+    ensures { Printed (text_of (head_in head presets)) out.new result }
 {
     let writing = write_head_by_value(head, presets, out);
     length_in(writing)
@@ -77,9 +77,9 @@ fn head_text(head: Head, presets: [Preset; MOST_PRESETS], out: &mut [u8]) -> usi
 // Writes the text of a head with rows in place of its busy lines, or the refused line of the first
 // row at fault. Answers how many bytes it is.
 fn rows_in_place(rows: &[u8], head: Head, presets: [Preset; MOST_PRESETS], out: &mut [u8]) -> usize
-    requires { (validRecord head presets ≡ true) × (8192 ≤ length out.old) }
+    requires { (valid_record head presets ≡ true) × (8192 ≤ length out.old) }
     ensures { Printed
-        (ofReading (rowsBeside (headIn head presets) rows.now) text_of) out.new
+        (of_reading (rows_beside (head_in head presets) rows.now) text_of) out.new
         result }
 {
     let read = read_rows_by_value(rows, head, presets);
@@ -95,7 +95,7 @@ fn rows_in_place(rows: &[u8], head: Head, presets: [Preset; MOST_PRESETS], out: 
 fn printed(input: &[u8], out: &mut [u8]) -> usize
     requires { 8192 ≤ length out.old }
     ensures inside { result ≤ length out.new }
-    ensures bytes { take result out.new ≡ rowsPrinted input.now }
+    ensures bytes { take result out.new ≡ rows_printed input.now }
 {
     let end = empty_line(input);
     let text = &input[..end];

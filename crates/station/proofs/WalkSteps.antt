@@ -1,8 +1,8 @@
 -- Steps for a walk of MIR by hand, beside those of the logic: they say nothing of presets.
 --
 -- In order: a call, from what the callee asks to what is known of its result and of the last values (`asks`), and what the callee asks: plain data,
--- which is had for nothing (`hands`), or what stands in the context, with one lifetime, two or three (`hands-one`, `hands-two`, `hands-three`); the test of a `while` (`tests`); at exit all the locals are freed where they stand (`leaves-fn`); a function with no `requires`
--- whose body was walked meets its contract (`meets-by`); two clauses of a contract, shown at the end (`says_both`).
+-- which is had for nothing (`hands`), or what stands in the context, with one lifetime, two or three (`hands_one`, `hands_two`, `hands_three`); the test of a `while` (`tests`); at exit all the locals are freed where they stand (`leaves_fn`); a function with no `requires`
+-- whose body was walked meets its contract (`meets_by`); two clauses of a contract, shown at the end (`says_both`).
 -- Assumes `Logic`, and of the table of calls that it is monotone under a frame, where there is a call.
 use mathlib.Core.Path.{◌≡◌, refl, sym, ap, subst}
 use Prim.Native.Nat.{ℕ, suc}
@@ -67,9 +67,9 @@ hands {𝓤 = 𝓤} 𝓛 T c y none-asked makes are =
     (subst (λ (X : SProp 𝓤). ent 𝓤 Q (sep 𝓤 Q X)) (sym none-asked) (∗emp 𝓤 Q)))
 
 -- the same of a callee with one lifetime, where what its parameters own and the token stand in the context
-pub hands-one : {M : Type 1} {𝓤 : Ura M} {𝓛 : Logic 𝓤} {K : Type 0} → K → {P : Fml} {κ : Lft} {q : Share}
+pub hands_one : {M : Type 1} {𝓤 : Ura M} {𝓛 : Logic 𝓤} {K : Type 0} → K → {P : Fml} {κ : Lft} {q : Share}
     → Seq K 𝓛 (‵ P ∷ ‵ (flft κ q) ∷ []) (prop (sep 𝓤 (sep 𝓤 (sep 𝓤 (𝓛.A.lft κ q) (emp 𝓤)) (sem 𝓛 P)) (emp 𝓤)))
-hands-one t = nothing t $ move t (2 ∷ 0 ∷ []) $ join t $ join t $ nothing t $ move t (1 ∷ 0 ∷ []) $ done t
+hands_one t = nothing t $ move t (2 ∷ 0 ∷ []) $ join t $ join t $ nothing t $ move t (1 ∷ 0 ∷ []) $ done t
 
 -- ---- a `while`
 
@@ -117,32 +117,32 @@ module _ {M : Type 1} {𝓤 : Ura M} (𝓛 : Logic 𝓤) where
   local_out : (Γ : List (Item 𝓤)) (n : ℕ) (τ : Ty) (b : ℕ) → Local 𝓛 Γ n τ b → ent 𝓤 (⋆ 𝓛 Γ) (sep 𝓤 (sep 𝓤 (H.room τ b 0) (H.dies τ b)) (⋆ 𝓛 (del 𝓛 n (del 𝓛 n Γ))))
   local_out Γ n τ b l = go l
     where
-      by-cell : (i : Item 𝓤) → ent 𝓤 (mean 𝓛 i) (H.room τ b 0) → nth 𝓛 n Γ ≡ i → nth 𝓛 n (del 𝓛 n Γ) ≡ ‵ (fdies τ b)
+      by_cell : (i : Item 𝓤) → ent 𝓤 (mean 𝓛 i) (H.room τ b 0) → nth 𝓛 n Γ ≡ i → nth 𝓛 n (del 𝓛 n Γ) ≡ ‵ (fdies τ b)
           → ent 𝓤 (⋆ 𝓛 Γ) (sep 𝓤 (sep 𝓤 (H.room τ b 0) (H.dies τ b)) (⋆ 𝓛 (del 𝓛 n (del 𝓛 n Γ))))
-      by-cell i h e d =
+      by_cell i h e d =
           via 𝓤 (sep 𝓤 (mean 𝓛 i) (⋆ 𝓛 (del 𝓛 n Γ))) (pulled Γ n i e)
           (via 𝓤 (sep 𝓤 (H.room τ b 0) (sep 𝓤 (H.dies τ b) (⋆ 𝓛 (del 𝓛 n (del 𝓛 n Γ))))) (mono∗ 𝓤 h (pulled (del 𝓛 n Γ) n (‵ (fdies τ b)) d))
           (assoc' 𝓤 (H.room τ b 0) (H.dies τ b) (⋆ 𝓛 (del 𝓛 n (del 𝓛 n Γ)))))
 
       go : Local 𝓛 Γ n τ b → ent 𝓤 (⋆ 𝓛 Γ) (sep 𝓤 (sep 𝓤 (H.room τ b 0) (H.dies τ b)) (⋆ 𝓛 (del 𝓛 n (del 𝓛 n Γ))))
-      go (full {v} e d) = by-cell (‵ (fat full_share τ b 0 v)) (𝓛.laws.at_room τ b 0 v) e d
-      go (empty e d) = by-cell (‵ (froom τ b 0)) (id⊢ 𝓤 (H.room τ b 0)) e d
+      go (full {v} e d) = by_cell (‵ (fat full_share τ b 0 v)) (𝓛.laws.at_room τ b 0 v) e d
+      go (empty e d) = by_cell (‵ (froom τ b 0)) (id⊢ 𝓤 (H.room τ b 0)) e d
 
-  all-out : (k : ℕ) (E : Env 𝓤 H) (g : Goal 𝓤 H) (Γ : List (Item 𝓤)) → Locals 𝓛 k E Γ → ent 𝓤 (⋆ 𝓛 (without 𝓛 k E Γ)) (aim 𝓤 H g) → ent 𝓤 (⋆ 𝓛 Γ) (aim 𝓤 H (frees E g))
-  all-out k [] g Γ none h = h
-  all-out k (e ∷ E) g Γ (l & ls) h =
+  all_out : (k : ℕ) (E : Env 𝓤 H) (g : Goal 𝓤 H) (Γ : List (Item 𝓤)) → Locals 𝓛 k E Γ → ent 𝓤 (⋆ 𝓛 (without 𝓛 k E Γ)) (aim 𝓤 H g) → ent 𝓤 (⋆ 𝓛 Γ) (aim 𝓤 H (frees E g))
+  all_out k [] g Γ none h = h
+  all_out k (e ∷ E) g Γ (l & ls) h =
       via 𝓤 (sep 𝓤 (sep 𝓤 (H.room e.0 e.1 0) (H.dies e.0 e.1)) (⋆ 𝓛 (del 𝓛 (spot 𝓛 k E) (del 𝓛 (spot 𝓛 k E) Γ)))) (local_out Γ (spot 𝓛 k E) e.0 e.1 l)
-      (mono_r 𝓤 (sep 𝓤 (H.room e.0 e.1 0) (H.dies e.0 e.1)) (all-out k E g (del 𝓛 (spot 𝓛 k E) (del 𝓛 (spot 𝓛 k E) Γ)) ls h))
+      (mono_r 𝓤 (sep 𝓤 (H.room e.0 e.1 0) (H.dies e.0 e.1)) (all_out k E g (del 𝓛 (spot 𝓛 k E) (del 𝓛 (spot 𝓛 k E) Γ)) ls h))
 
 -- the locals stand from entry k on, the last one first, and all are freed
-pub leaves-fn : {M : Type 1} {𝓤 : Ura M} {𝓛 : Logic 𝓤} {K : Type 0} {Γ : List (Item 𝓤)} {E : Env 𝓤 𝓛.H} {g : Goal 𝓤 𝓛.H}
+pub leaves_fn : {M : Type 1} {𝓤 : Ura M} {𝓛 : Logic 𝓤} {K : Type 0} {Γ : List (Item 𝓤)} {E : Env 𝓤 𝓛.H} {g : Goal 𝓤 𝓛.H}
     → K → (k : ℕ) → Locals 𝓛 k E Γ → Step K 𝓛 (without 𝓛 k E Γ) g Γ (frees E g)
-leaves-fn {𝓤 = 𝓤} {𝓛 = 𝓛} {Γ = Γ} {E = E} {g = g} t k ls = step (λ s. record { prf = all-out 𝓛 k E g Γ ls s.prf })
+leaves_fn {𝓤 = 𝓤} {𝓛 = 𝓛} {Γ = Γ} {E = E} {g = g} t k ls = step (λ s. record { prf = all_out 𝓛 k E g Γ ls s.prf })
 
 -- ---- from a walk to the contract
 
 -- the walk is given what is owned on entry at the machine values written out, with what the types say of them; a `requires` is not used
-pub meets-by : {M : Type 1} {𝓤 : Ura M} (𝓛 : Logic 𝓤) (T : Ended) (hs : Stays T.signature.params T.kept) → AllGo 𝓛 T.signature.lifetimes T.signature.params T.kept hs
+pub meets_by : {M : Type 1} {𝓤 : Ura M} (𝓛 : Logic 𝓤) (T : Ended) (hs : Stays T.signature.params T.kept) → AllGo 𝓛 T.signature.lifetimes T.signature.params T.kept hs
     → (c : Clauses 𝓤 T) (f : Fn) (𝓣 : Tables 𝓤 𝓛.H) (sp : (κs : Lfts T.signature.lifetimes) → Spells (types_at T.signature.params κs))
     → ((κs : Lfts T.signature.lifetimes) → Tellss (types_at T.signature.params κs) (Ises (types_at T.signature.params κs)) (sp κs))
     → ((κs : Lfts T.signature.lifetimes) (qs : Shares T.signature.lifetimes) (bounds : AllOutlive T.signature.lifetimes T.signature.outlives κs) (a : Args T.signature κs) (g : (c κs a).ghost)
@@ -150,7 +150,7 @@ pub meets-by : {M : Type 1} {𝓤 : Ura M} (𝓛 : Logic 𝓤) (T : Ended) (hs :
     → ent 𝓤 (on_entry 𝓛 T.signature κs qs a (valss (types_at T.signature.params κs) (sp κs) a))
     (WpFn 𝓤 𝓛.H 𝓣.C 𝓣.Λ f (flat (types_at T.signature.params κs) (valss (types_at T.signature.params κs) (sp κs) a)) ((walk_of 𝓛 T hs c).post ((κs, qs, bounds, a, valss (types_at T.signature.params κs) (sp κs) a), g))))
     → Meets 𝓛 T.signature (WpFn 𝓤 𝓛.H 𝓣.C 𝓣.Λ f) (closing 𝓛 T c)
-meets-by {𝓤 = 𝓤} 𝓛 T hs gs c f 𝓣 sp tells walk =
+meets_by {𝓤 = 𝓤} 𝓛 T hs gs c f 𝓣 sp tells walk =
     walk_Meets 𝓛 T hs gs c (WpFn 𝓤 𝓛.H 𝓣.C 𝓣.Λ f) (WpFn-mono 𝓤 𝓛.H 𝓛.laws 𝓣 f)
     (walked 𝓛 T hs c (WpFn 𝓤 𝓛.H 𝓣.C 𝓣.Λ f) sp tells (λ κs qs bounds a g are. via 𝓤 _ (fst∗ 𝓤 _ ((c κs a).requires g)) (walk κs qs bounds a g are)))
 
@@ -160,13 +160,13 @@ meets-by {𝓤 = 𝓤} 𝓛 T hs gs c f 𝓣 sp tells walk =
 module _ {M : Type 1} {𝓤 : Ura M} {𝓛 : Logic 𝓤} {K : Type 0} where
   open 𝓛 use {A}
 
-  pub hands-two : K → {P : Fml} {κ κ' : Lft} {q q' : Share}
+  pub hands_two : K → {P : Fml} {κ κ' : Lft} {q q' : Share}
       → Seq K 𝓛 (‵ P ∷ ‵ (flft κ q) ∷ ‵ (flft κ' q') ∷ []) (prop (sep 𝓤 (sep 𝓤 (sep 𝓤 (A.lft κ q) (sep 𝓤 (A.lft κ' q') (emp 𝓤))) (sem 𝓛 P)) (emp 𝓤)))
-  hands-two t = nothing t $ move t (3 ∷ 0 ∷ []) $ join t $ move t (2 ∷ 0 ∷ []) $ join t $ join t $ nothing t $ move t (1 ∷ 0 ∷ []) $ done t
+  hands_two t = nothing t $ move t (3 ∷ 0 ∷ []) $ join t $ move t (2 ∷ 0 ∷ []) $ join t $ join t $ nothing t $ move t (1 ∷ 0 ∷ []) $ done t
 
-  pub hands-three : K → {P : Fml} {κ κ' κ'' : Lft} {q q' q'' : Share}
+  pub hands_three : K → {P : Fml} {κ κ' κ'' : Lft} {q q' q'' : Share}
       → Seq K 𝓛 (‵ P ∷ ‵ (flft κ q) ∷ ‵ (flft κ' q') ∷ ‵ (flft κ'' q'') ∷ []) (prop (sep 𝓤 (sep 𝓤 (sep 𝓤 (A.lft κ q) (sep 𝓤 (A.lft κ' q') (sep 𝓤 (A.lft κ'' q'') (emp 𝓤)))) (sem 𝓛 P)) (emp 𝓤)))
-  hands-three t = nothing t $ move t (4 ∷ 0 ∷ []) $ join t $ move t (3 ∷ 0 ∷ []) $ join t $ move t (2 ∷ 0 ∷ []) $ join t $ join t $ nothing t $ move t (1 ∷ 0 ∷ []) $ done t
+  hands_three t = nothing t $ move t (4 ∷ 0 ∷ []) $ join t $ move t (3 ∷ 0 ∷ []) $ join t $ move t (2 ∷ 0 ∷ []) $ join t $ join t $ nothing t $ move t (1 ∷ 0 ∷ []) $ done t
 
 -- a goal P ∗ (⌜φ⌝ ∗ ⌜ψ⌝): both are shown, and P is left
 pub says_both : {M : Type 1} {𝓤 : Ura M} {𝓛 : Logic 𝓤} {K : Type 0} {Γ : List (Item 𝓤)} → K → {φ ψ : Type 0} {P : SProp 𝓤} → φ → ψ

@@ -2,9 +2,9 @@
 -- 01, "The station text"; document 02, 2026-02 and 2026-03. Assumes nothing.
 use Rattle.std.specs.Prelude.{ℕ, zero, suc, Bool, true, false, cond, ◌&&◌, List, [], ◌∷◌, length, take, drop, eqb}
 use Rattle.std.proofs.Math.Option.{Option, none, some}
-use Rattle.station.specs.Head.{Job, Preset, presetOf, job_of}
+use Rattle.station.specs.Head.{Job, Preset, preset_of, job_of}
 use Rattle.station.specs.Text.{bytes, ◌then◌}
-use Rattle.station.specs.Decimal.{digits, digitCount, plain, value}
+use Rattle.station.specs.Decimal.{digits, digit_count, plain, value}
 
 -- the stretches of a busy line, each of two slots: "At least one stretch"
 pub data Pairs : Type 0 where
@@ -14,45 +14,45 @@ pub data Pairs : Type 0 where
 -- the jobs of a call: at least one, since "A call or busy line without any bracket in it lacks its
 -- form"
 pub data CallJobs : Type 0 where
-  lastJob : Job → CallJobs
-  nextJob : Job → CallJobs → CallJobs
+  last_job : Job → CallJobs
+  next_job : Job → CallJobs → CallJobs
 
 -- The seven forms, with their numbers as they stand: whether a value is within its limits is not
 -- the form's matter.
 pub data Form : Type 0 where
-  frameLine : ℕ → ℕ → Form  -- `(frame S B)`
-  busyLine : ℕ → Pairs → Form  -- `(busy b (f t) (f t))`
-  presetLine : Preset → Form  -- `(preset n p m o)`
-  clockLine : ℕ → Form  -- `(clock t)`
-  callLine : CallJobs → Form  -- `(call (n c) (n c))`
-  tieLine : Bool → Form  -- `(tie hold)` where true, `(tie place)` where false
-  supplyLine : ℕ → Form  -- `(supply k)`
+  frame_line : ℕ → ℕ → Form  -- `(frame S B)`
+  busy_line : ℕ → Pairs → Form  -- `(busy b (f t) (f t))`
+  preset_line : Preset → Form  -- `(preset n p m o)`
+  clock_line : ℕ → Form  -- `(clock t)`
+  call_line : CallJobs → Form  -- `(call (n c) (n c))`
+  tie_line : Bool → Form  -- `(tie hold)` where true, `(tie place)` where false
+  supply_line : ℕ → Form  -- `(supply k)`
 
 -- "Events follow: `(clock t)` and `(call (n c) (n c))`"; a tie line has "an event's form" too,
 -- where it does not stand directly after the frame line or directly after the supply line
-abbrev pub isEvent : Form → Bool
-isEvent (frameLine s b) = false
-isEvent (busyLine b p) = false
-isEvent (presetLine p) = false
-isEvent (clockLine t) = true
-isEvent (callLine js) = true
-isEvent (tieLine hold) = true
-isEvent (supplyLine k) = false
+abbrev pub is_event : Form → Bool
+is_event (frame_line s b) = false
+is_event (busy_line b p) = false
+is_event (preset_line p) = false
+is_event (clock_line t) = true
+is_event (call_line js) = true
+is_event (tie_line hold) = true
+is_event (supply_line k) = false
 
 -- a tie line
-abbrev pub isTie : Form → Bool
-isTie (frameLine s b) = false
-isTie (busyLine b p) = false
-isTie (presetLine p) = false
-isTie (clockLine t) = false
-isTie (callLine js) = false
-isTie (tieLine hold) = true
-isTie (supplyLine k) = false
+abbrev pub is_tie : Form → Bool
+is_tie (frame_line s b) = false
+is_tie (busy_line b p) = false
+is_tie (preset_line p) = false
+is_tie (clock_line t) = false
+is_tie (call_line js) = false
+is_tie (tie_line hold) = true
+is_tie (supply_line k) = false
 
 -- "A call is a list of jobs, each with a number and a length c."
-unfoldable pub jobsOf : CallJobs → List Job
-jobsOf (lastJob j) = j ∷ []
-jobsOf (nextJob j js) = j ∷ jobsOf js
+unfoldable pub jobs_of : CallJobs → List Job
+jobs_of (last_job j) = j ∷ []
+jobs_of (next_job j js) = j ∷ jobs_of js
 
 -- ---- the text of a form: "Nested brackets, one form a line, each line ended by byte 10. One blank parts two items."
 
@@ -62,22 +62,22 @@ brackets (last m n) = bytes "(" then digits m then bytes " " then digits n then 
 brackets (next m n p) = bytes "(" then digits m then bytes " " then digits n then bytes ") " then brackets p
 
 -- the jobs of a call, and its end
-unfoldable pub jobBrackets : CallJobs → List ℕ
-jobBrackets (lastJob j) = bytes "(" then digits j.number then bytes " " then digits j.slots then bytes "))\n"
-jobBrackets (nextJob j js) = bytes "(" then digits j.number then bytes " " then digits j.slots then bytes ") " then jobBrackets js
+unfoldable pub job_brackets : CallJobs → List ℕ
+job_brackets (last_job j) = bytes "(" then digits j.number then bytes " " then digits j.slots then bytes "))\n"
+job_brackets (next_job j js) = bytes "(" then digits j.number then bytes " " then digits j.slots then bytes ") " then job_brackets js
 
 -- the one text of a form, byte 10 included
 unfoldable pub print : Form → List ℕ
-print (frameLine s b) = bytes "(frame " then digits s then bytes " " then digits b then bytes ")\n"
-print (busyLine b p) = bytes "(busy " then digits b then bytes " " then brackets p
-print (presetLine p) =
+print (frame_line s b) = bytes "(frame " then digits s then bytes " " then digits b then bytes ")\n"
+print (busy_line b p) = bytes "(busy " then digits b then bytes " " then brackets p
+print (preset_line p) =
     bytes "(preset " then digits p.number then bytes " " then digits p.priority then bytes " " then digits p.mandatory then bytes " "
     then digits p.optional then bytes ")\n"
-print (clockLine t) = bytes "(clock " then digits t then bytes ")\n"
-print (callLine js) = bytes "(call " then jobBrackets js
-print (tieLine true) = bytes "(tie hold)\n"
-print (tieLine false) = bytes "(tie place)\n"
-print (supplyLine k) = bytes "(supply " then digits k then bytes ")\n"
+print (clock_line t) = bytes "(clock " then digits t then bytes ")\n"
+print (call_line js) = bytes "(call " then job_brackets js
+print (tie_line true) = bytes "(tie hold)\n"
+print (tie_line false) = bytes "(tie place)\n"
+print (supply_line k) = bytes "(supply " then digits k then bytes ")\n"
 
 -- ---- the recogniser: each reader hands on what is left
 
@@ -97,7 +97,7 @@ module _ {A : Type 0} where
   -- a number, then what k makes of it and the rest
   unfoldable pub number : List ℕ → (ℕ → List ℕ → Option A) → Option A
   number l k =
-      let rest = k (value (take (digitCount l) l)) (drop (digitCount l) l) in
+      let rest = k (value (take (digit_count l) l)) (drop (digit_count l) l) in
       cond (plain l) rest none
 
   -- a where nothing is left
@@ -106,8 +106,8 @@ module _ {A : Type 0} where
   whole a (b ∷ l) = none
 
   -- the first of two that is there
-  infixr 30 ◌orElse◌
-  abbrev pub ◌orElse◌ : Option A → Option A → Option A
+  infixr 30 ◌or_else◌
+  abbrev pub ◌or_else◌ : Option A → Option A → Option A
   none or_else y = y
   some x or_else y = some x
 
@@ -117,31 +117,31 @@ also m n none = none
 also m n (some p) = some (next m n p)
 
 -- k brackets at most, and the end of the line
-unfoldable pub bracketsIn : ℕ → List ℕ → Option Pairs
-bracketsIn zero l = none
-bracketsIn (suc k) l =
+unfoldable pub brackets_in : ℕ → List ℕ → Option Pairs
+brackets_in zero l = none
+brackets_in (suc k) l =
     word (bytes "(") l (λ l₁. number l₁ (λ m l₂. word (bytes " ") l₂ (λ l₃. number l₃ (λ n l₄.
-    word (bytes "))\n") l₄ (whole (last m n)) or_else word (bytes ") ") l₄ (λ l₅. also m n (bracketsIn k l₅))))))
+    word (bytes "))\n") l₄ (whole (last m n)) or_else word (bytes ") ") l₄ (λ l₅. also m n (brackets_in k l₅))))))
 
 -- a bracket has more than one byte: a text has fewer brackets than bytes
-unfoldable pub readBrackets : List ℕ → Option Pairs
-readBrackets l = bracketsIn (length l) l
+unfoldable pub read_brackets : List ℕ → Option Pairs
+read_brackets l = brackets_in (length l) l
 
 -- one more job before the others
-abbrev pub alsoJob : Job → Option CallJobs → Option CallJobs
-alsoJob j none = none
-alsoJob j (some js) = some (nextJob j js)
+abbrev pub also_job : Job → Option CallJobs → Option CallJobs
+also_job j none = none
+also_job j (some js) = some (next_job j js)
 
 -- k jobs at most, and the end of the line
-unfoldable pub jobListIn : ℕ → List ℕ → Option CallJobs
-jobListIn zero l = none
-jobListIn (suc k) l =
+unfoldable pub job_list_in : ℕ → List ℕ → Option CallJobs
+job_list_in zero l = none
+job_list_in (suc k) l =
     word (bytes "(") l (λ l₁. number l₁ (λ n l₂. word (bytes " ") l₂ (λ l₃. number l₃ (λ c l₄.
-    word (bytes "))\n") l₄ (whole (lastJob (job_of n c))) or_else word (bytes ") ") l₄ (λ l₅. alsoJob (job_of n c) (jobListIn k l₅))))))
+    word (bytes "))\n") l₄ (whole (last_job (job_of n c))) or_else word (bytes ") ") l₄ (λ l₅. also_job (job_of n c) (job_list_in k l₅))))))
 
 -- as for stretches
-unfoldable pub readJobs : List ℕ → Option CallJobs
-readJobs l = jobListIn (length l) l
+unfoldable pub read_jobs : List ℕ → Option CallJobs
+read_jobs l = job_list_in (length l) l
 
 -- what f makes of what was read, if it was
 abbrev pub made : {A B : Type 0} → (A → B) → Option A → Option B
@@ -149,37 +149,37 @@ made f none = none
 made f (some a) = some (f a)
 
 -- `(frame S B)`
-unfoldable pub frameIn : List ℕ → Option Form
-frameIn l =
-    word (bytes "(frame ") l (λ l₁. number l₁ (λ s l₂. word (bytes " ") l₂ (λ l₃. number l₃ (λ b l₄. word (bytes ")\n") l₄ (whole (frameLine s b))))))
+unfoldable pub frame_in : List ℕ → Option Form
+frame_in l =
+    word (bytes "(frame ") l (λ l₁. number l₁ (λ s l₂. word (bytes " ") l₂ (λ l₃. number l₃ (λ b l₄. word (bytes ")\n") l₄ (whole (frame_line s b))))))
 
 -- `(busy b (f t) (f t))`
-unfoldable pub busyIn : List ℕ → Option Form
-busyIn l = word (bytes "(busy ") l (λ l₁. number l₁ (λ b l₂. word (bytes " ") l₂ (λ l₃. made (busyLine b) (readBrackets l₃))))
+unfoldable pub busy_in : List ℕ → Option Form
+busy_in l = word (bytes "(busy ") l (λ l₁. number l₁ (λ b l₂. word (bytes " ") l₂ (λ l₃. made (busy_line b) (read_brackets l₃))))
 
 -- `(preset n p m o)`
-unfoldable pub presetIn : List ℕ → Option Form
-presetIn l =
+unfoldable pub preset_in : List ℕ → Option Form
+preset_in l =
     word (bytes "(preset ") l (λ l₁. number l₁ (λ n l₂. word (bytes " ") l₂ (λ l₃. number l₃ (λ p l₄. word (bytes " ") l₄ (λ l₅. number l₅ (λ m l₆.
-    word (bytes " ") l₆ (λ l₇. number l₇ (λ o l₈. word (bytes ")\n") l₈ (whole (presetLine (presetOf n p m o)))))))))))
+    word (bytes " ") l₆ (λ l₇. number l₇ (λ o l₈. word (bytes ")\n") l₈ (whole (preset_line (preset_of n p m o)))))))))))
 
 -- `(clock t)`
-unfoldable pub clockIn : List ℕ → Option Form
-clockIn l = word (bytes "(clock ") l (λ l₁. number l₁ (λ t l₂. word (bytes ")\n") l₂ (whole (clockLine t))))
+unfoldable pub clock_in : List ℕ → Option Form
+clock_in l = word (bytes "(clock ") l (λ l₁. number l₁ (λ t l₂. word (bytes ")\n") l₂ (whole (clock_line t))))
 
 -- `(call (n c) (n c))`; "A call or busy line without any bracket in it lacks its form."
 unfoldable pub call_in : List ℕ → Option Form
-call_in l = word (bytes "(call ") l (λ l₁. made callLine (readJobs l₁))
+call_in l = word (bytes "(call ") l (λ l₁. made call_line (read_jobs l₁))
 
 -- `(tie hold)`, `(tie place)`
-unfoldable pub tieIn : List ℕ → Option Form
-tieIn l = word (bytes "(tie hold)\n") l (whole (tieLine true)) or_else word (bytes "(tie place)\n") l (whole (tieLine false))
+unfoldable pub tie_in : List ℕ → Option Form
+tie_in l = word (bytes "(tie hold)\n") l (whole (tie_line true)) or_else word (bytes "(tie place)\n") l (whole (tie_line false))
 
 -- `(supply k)`
-unfoldable pub supplyIn : List ℕ → Option Form
-supplyIn l = word (bytes "(supply ") l (λ l₁. number l₁ (λ k l₂. word (bytes ")\n") l₂ (whole (supplyLine k))))
+unfoldable pub supply_in : List ℕ → Option Form
+supply_in l = word (bytes "(supply ") l (λ l₁. number l₁ (λ k l₂. word (bytes ")\n") l₂ (whole (supply_line k))))
 
 -- The form of a line, byte 10 included; none is "a line that is not one of the five forms, or lacks
 -- its end", which are six since 2026-02 and seven since 2026-03.
 unfoldable pub form : List ℕ → Option Form
-form l = frameIn l or_else busyIn l or_else presetIn l or_else supplyIn l or_else clockIn l or_else call_in l or_else tieIn l
+form l = frame_in l or_else busy_in l or_else preset_in l or_else supply_in l or_else clock_in l or_else call_in l or_else tie_in l

@@ -2,17 +2,17 @@
 -- stand in a lent list of records, in file order." The core works on 32 records by value, the
 -- copied: so many presets a head may have. Assumes nothing.
 use Rattle.std.specs.Prelude.{ℕ, min, List, ◌++◌, length, take, drop, replicate}
-use Rattle.station.specs.Limits.{mostPresets}
+use Rattle.station.specs.Limits.{most_presets}
 use Rattle.station.specs.declared.types.Preset.{Preset}
-use Rattle.station.specs.Types.{noRecord}
+use Rattle.station.specs.Types.{no_record}
 
 -- the first 32 records, and zeros where there are fewer
 abbrev pub loaded : List Preset → List Preset
-loaded ps = take mostPresets (ps ++ replicate mostPresets noRecord)
+loaded ps = take most_presets (ps ++ replicate most_presets no_record)
 
 -- as many of n records as both a list and the copied have
 abbrev pub reach : List Preset → ℕ → ℕ
-reach ps n = min (min n mostPresets) (length ps)
+reach ps n = min (min n most_presets) (length ps)
 
 -- The list with the first n records of the copied at its front, as far as both have them. "Cells
 -- past S × B are never changed, nor are records past the last preset": what stands after those is

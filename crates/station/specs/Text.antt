@@ -49,4 +49,4 @@ is_rest (b ∷ (c ∷ l)) = not (eqb b 10) && is_rest (c ∷ l)
 pub data Lines : List (List ℕ) → Type 0 where
   no_lines : Lines []
   last_rest : {l : List ℕ} → is_rest l ≡ true → Lines (l ∷ [])
-  line-then : {l : List ℕ} {ls : List (List ℕ)} → is_line l ≡ true → Lines ls → Lines (l ∷ ls)
+  line_then : {l : List ℕ} {ls : List (List ℕ)} → is_line l ≡ true → Lines ls → Lines (l ∷ ls)

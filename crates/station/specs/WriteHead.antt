@@ -2,14 +2,14 @@
 -- head has one text only, and the writer makes it." Assumes nothing.
 use Rattle.std.specs.Prelude.{ℕ, ◌≡◌, not, List, [], ◌∷◌, ◌++◌, length, drop, ltb}
 use Rattle.std.proofs.Math.Option.{Option, none, some}
-use Rattle.station.specs.Limits.{leastOutput}
+use Rattle.station.specs.Limits.{least_output}
 use Rattle.station.specs.declared.types.Preset.{Preset}
 use Rattle.station.specs.declared.types.Head.{Head}
 use Rattle.station.specs.declared.write.Writing.{Writing}
 use Rattle.station.specs.declared.write.Writing.TheVariants.{Written, Refused}
-use Rattle.station.specs.Refusal.{Refusal, outOfLimits, tooShort, try, first_of}
+use Rattle.station.specs.Refusal.{Refusal, out_of_limits, too_short, try, first_of}
 use Rattle.station.specs.Writing.{text_of}
-use Rattle.station.specs.Types.{refusalIn, headIn, validRecord}
+use Rattle.station.specs.Types.{refusal_in, head_in, valid_record}
 
 -- the length of the text that was written, or what the writing is refused for
 pub data Answer : Type 0 where
@@ -19,12 +19,12 @@ pub data Answer : Type 0 where
 -- the answer that the code's answer stands for
 abbrev pub answer_in : Writing → Answer
 answer_in (Written n) = written n
-answer_in (Refused n r) = refused n (refusalIn r)
+answer_in (Refused n r) = refused n (refusal_in r)
 
 -- The causes, in document 01's order: "output below 8,192 bytes, the frame's size regardless", 8,
 -- and "a head record that no text yields", 2.
-abbrev pub writeCauses : Head → List Preset → List ℕ → List (Option Refusal)
-writeCauses h ps out = try tooShort (ltb (length out) leastOutput) ∷ try outOfLimits (not (validRecord h ps)) ∷ []
+abbrev pub write_causes : Head → List Preset → List ℕ → List (Option Refusal)
+write_causes h ps out = try too_short (ltb (length out) least_output) ∷ try out_of_limits (not (valid_record h ps)) ∷ []
 
 -- the refusal, or the length n
 abbrev pub answer_of : Option Refusal → ℕ → Answer
@@ -33,19 +33,19 @@ answer_of (some r) n = refused 0 r
 
 -- the output as it was where there is a refusal; else the text t at its start, the "output bytes
 -- past what is written" as they were
-abbrev pub outputOf : Option Refusal → List ℕ → List ℕ → List ℕ
-outputOf none t out = t ++ drop (length t) out
-outputOf (some r) t out = out
+abbrev pub output_of : Option Refusal → List ℕ → List ℕ → List ℕ
+output_of none t out = t ++ drop (length t) out
+output_of (some r) t out = out
 
 -- the answer for a head record, its preset records and an output
-unfoldable pub writeAnswer : Head → List Preset → List ℕ → Answer
-writeAnswer h ps out = answer_of (first_of (writeCauses h ps out)) (length (text_of (headIn h ps)))
+unfoldable pub write_answer : Head → List Preset → List ℕ → Answer
+write_answer h ps out = answer_of (first_of (write_causes h ps out)) (length (text_of (head_in h ps)))
 
 -- the output afterwards
-unfoldable pub writeOutput : Head → List Preset → List ℕ → List ℕ
-writeOutput h ps out = outputOf (first_of (writeCauses h ps out)) (text_of (headIn h ps)) out
+unfoldable pub write_output : Head → List Preset → List ℕ → List ℕ
+write_output h ps out = output_of (first_of (write_causes h ps out)) (text_of (head_in h ps)) out
 
 -- What the writer promises: its answer r and the output afterwards are the defined ones.
 pub record WroteHead (h : Head) (ps : List Preset) (out : List ℕ) (r : Writing) (after : List ℕ) : Type 0 where
-  pub answer : answer_in r ≡ writeAnswer h ps out
-  pub output : after ≡ writeOutput h ps out
+  pub answer : answer_in r ≡ write_answer h ps out
+  pub output : after ≡ write_output h ps out

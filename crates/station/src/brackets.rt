@@ -1,10 +1,10 @@
 // The brackets of a busy line and of a call.
 ghost use Rattle.std.specs.Prelude.{◌≡◌, false, ◌+◌, ◌≤◌, min, drop};
-ghost use Rattle.station.specs.Limits.{mostSlots};
-ghost use Rattle.station.specs.Form.{readBrackets, readJobs};
-ghost use Rattle.station.specs.Jobs.{noJobs, seen};
-ghost use Rattle.station.specs.Writing.{maskTo};
-ghost use Rattle.station.specs.method.Bracket.{noBracket, BracketAt, notOrdered, MaskedSoFar, stretched, busyMaskIn, jobsRead};
+ghost use Rattle.station.specs.Limits.{most_slots};
+ghost use Rattle.station.specs.Form.{read_brackets, read_jobs};
+ghost use Rattle.station.specs.Jobs.{no_jobs, seen};
+ghost use Rattle.station.specs.Writing.{mask_to};
+ghost use Rattle.station.specs.method.Bracket.{no_bracket, BracketAt, not_ordered, MaskedSoFar, stretched, busy_mask_in, jobs_read};
 
 use crate::check::job_in_limits;
 use crate::limits::{MOST_JOBS, MOST_SLOTS};
@@ -51,7 +51,7 @@ pub struct Jobs {
 
 // What is handed back where no bracket was found.
 fn no_bracket() -> Bracket
-    ensures { result ≡ noBracket }
+    ensures { result ≡ no_bracket }
 {
     Bracket {
         found: false,
@@ -102,7 +102,7 @@ fn bracket_at(text: &[u8], at: usize) -> Bracket
 
 // What is handed back where a stretch is out of order or outside the frame.
 fn not_ordered() -> Stretches
-    ensures { result ≡ notOrdered }
+    ensures { result ≡ not_ordered }
 {
     Stretches {
         from: 1,
@@ -114,8 +114,8 @@ fn not_ordered() -> Stretches
 // The mask of the slots from `first` to `last`, both included. It is put together so that it fits
 // where `last` is 64.
 pub(crate) fn stretch_mask(first: u32, last: u32) -> u64
-    requires { (1 ≤ first) × (first ≤ last) × (last ≤ mostSlots) }
-    ensures { result ≡ maskTo first last }
+    requires { (1 ≤ first) × (first ≤ last) × (last ≤ most_slots) }
+    ensures { result ≡ mask_to first last }
 {
     let high: u64 = 1u64 << (last - 1);
     let low: u64 = 1u64 << (first - 1);
@@ -124,7 +124,7 @@ pub(crate) fn stretch_mask(first: u32, last: u32) -> u64
 
 // The stretches with one more, in a frame of `slots` slots.
 fn with_stretch(s: Stretches, first: u32, last: u32, slots: u32) -> Stretches
-    requires { MaskedSoFar s × (slots ≤ mostSlots) }
+    requires { MaskedSoFar s × (slots ≤ most_slots) }
     ensures { result ≡ stretched slots s first last }
 {
     if !s.ordered {
@@ -148,7 +148,7 @@ fn with_stretch(s: Stretches, first: u32, last: u32, slots: u32) -> Stretches
 
 // The frame's slots as far as masks go.
 fn at_most_64(slots: usize) -> u32
-    ensures { result ≡ min slots mostSlots }
+    ensures { result ≡ min slots most_slots }
 {
     if slots < MOST_SLOTS {
         slots as u32
@@ -159,8 +159,8 @@ fn at_most_64(slots: usize) -> u32
 
 // The stretches from `at` to the end of the line, in a frame of `slots` slots, 64 at most.
 pub(crate) fn stretches_at(text: &[u8], at: usize, slots: usize) -> BusyMask
-    ensures { result ≡ busyMaskIn (min slots mostSlots)
-        (readBrackets (drop at text.now)) }
+    ensures { result ≡ busy_mask_in (min slots most_slots)
+        (read_brackets (drop at text.now)) }
 {
     let last = at_most_64(slots);
     let mut s = Stretches {
@@ -199,7 +199,7 @@ fn seen_count(n: usize) -> u32
 
 // What is handed back where the brackets lack their form.
 fn no_jobs() -> Jobs
-    ensures { result ≡ (record { found = false; count = 0; fit = false; jobs = noJobs }) }
+    ensures { result ≡ (record { found = false; count = 0; fit = false; jobs = no_jobs }) }
 {
     Jobs {
         found: false,
@@ -211,7 +211,7 @@ fn no_jobs() -> Jobs
 
 // The jobs from `at` to the end of the line.
 pub(crate) fn jobs_at(text: &[u8], at: usize) -> Jobs
-    ensures { result ≡ jobsRead (readJobs (drop at text.now)) }
+    ensures { result ≡ jobs_read (read_jobs (drop at text.now)) }
 {
     let mut jobs = [NO_JOB; MOST_JOBS];
     let mut count = 0;

@@ -1,13 +1,13 @@
 // The causes by number.
 ghost use Rattle.std.specs.Prelude.{◌≡◌};
 ghost use Rattle.station.specs.Refusal.{number_of};
-ghost use Rattle.station.specs.Types.{refusalIn};
+ghost use Rattle.station.specs.Types.{refusal_in};
 
 use crate::types::Refusal;
 
 // The paper's number of a cause.
 pub fn cause_number(cause: Refusal) -> u8
-    ensures { result ≡ number_of (refusalIn cause) }
+    ensures { result ≡ number_of (refusal_in cause) }
 {
     match cause {
         Refusal::NoForm => 1,

@@ -1,11 +1,11 @@
 // Limits: whether a job, a frame, a supply line's number and a preset are within theirs, and
 // whether a head record is one that some text yields.
 ghost use Rattle.std.specs.Prelude.{◌≤◌, ◌^◌, ◌≡◌, ◌&&◌, length, eqb, ltb};
-ghost use Rattle.station.specs.Limits.{mostBridges, mostMotors, mostPresets};
-ghost use Rattle.station.specs.Head.{presetOf, within, frameInLimits, presetInLimits, allInLimits, allDistinct, masksIn};
-ghost use Rattle.station.specs.method.MaskTest.{maskIn};
-ghost use Rattle.station.specs.Types.{presetIn, presetsIn, jobIn, validRecord};
-ghost use Rattle.station.specs.Jobs.{jobInLimits};
+ghost use Rattle.station.specs.Limits.{most_bridges, most_motors, most_presets};
+ghost use Rattle.station.specs.Head.{preset_of, within, frame_in_limits, preset_in_limits, all_in_limits, all_distinct, masks_in};
+ghost use Rattle.station.specs.method.MaskTest.{mask_in};
+ghost use Rattle.station.specs.Types.{preset_in, presets_in, job_in, valid_record};
+ghost use Rattle.station.specs.Jobs.{job_in_limits};
 
 use crate::limits::{
     MOST_BRIDGES, MOST_LENGTH, MOST_MANDATORY, MOST_MOTORS, MOST_NUMBER, MOST_OPTIONAL,
@@ -15,7 +15,7 @@ use crate::types::{Head, Job, Preset};
 
 // A job's number and length are within their limits.
 pub fn job_in_limits(job: Job) -> bool
-    ensures { result ≡ jobInLimits (jobIn job) }
+    ensures { result ≡ job_in_limits (job_in job) }
 {
     ((1 <= job.number) & (job.number as u32 <= MOST_NUMBER))
         & ((1 <= job.slots) & (job.slots <= MOST_LENGTH))
@@ -23,21 +23,21 @@ pub fn job_in_limits(job: Job) -> bool
 
 // A frame's numbers of slots and bridges are within their limits.
 pub(crate) fn frame_in_limits(slots: usize, bridges: usize) -> bool
-    ensures { result ≡ frameInLimits slots bridges }
+    ensures { result ≡ frame_in_limits slots bridges }
 {
     ((1 <= slots) & (slots <= MOST_SLOTS)) & ((1 <= bridges) & (bridges <= MOST_BRIDGES))
 }
 
 // The number of a supply line is within its limits.
 pub(crate) fn supply_in_limits(motors: usize) -> bool
-    ensures { result ≡ within 1 mostMotors motors }
+    ensures { result ≡ within 1 most_motors motors }
 {
     (1 <= motors) & (motors <= MOST_MOTORS)
 }
 
 // The values of a preset, in a record or as they are read, are within their limits.
 pub(crate) fn preset_in_limits(number: u32, priority: u32, mandatory: u32, optional: u32) -> bool
-    ensures { result ≡ presetInLimits (presetOf number priority mandatory optional) }
+    ensures { result ≡ preset_in_limits (preset_of number priority mandatory optional) }
 {
     ((1 <= number) & (number <= MOST_NUMBER))
         & (priority <= WORST_PRIORITY)
@@ -58,7 +58,7 @@ fn mask_below(mask: u64, slots: usize) -> bool
 // The mask of bridge `bridge`, counted from 0, has only cells of the frame: none at all past the
 // last bridge.
 fn mask_in(mask: u64, bridge: usize, bridges: usize, slots: usize) -> bool
-    ensures { result ≡ maskIn mask bridge bridges slots }
+    ensures { result ≡ mask_in mask bridge bridges slots }
 {
     if bridge < bridges {
         return mask_below(mask, slots);
@@ -68,7 +68,7 @@ fn mask_in(mask: u64, bridge: usize, bridges: usize, slots: usize) -> bool
 
 // There are eight masks, and all have only cells of the frame.
 fn masks_in(busy: [u64; MOST_BRIDGES], bridges: usize, slots: usize) -> bool
-    ensures { result ≡ (eqb (length busy) mostBridges && masksIn bridges (2 ^ slots) busy) }
+    ensures { result ≡ (eqb (length busy) most_bridges && masks_in bridges (2 ^ slots) busy) }
 {
     let mut b = 0;
     while b < MOST_BRIDGES {
@@ -82,7 +82,7 @@ fn masks_in(busy: [u64; MOST_BRIDGES], bridges: usize, slots: usize) -> bool
 
 // The record of a preset within its limits.
 fn record_in_limits(preset: Preset) -> bool
-    ensures { result ≡ presetInLimits (presetIn preset) }
+    ensures { result ≡ preset_in_limits (preset_in preset) }
 {
     preset_in_limits(
         preset.number as u32,
@@ -94,8 +94,8 @@ fn record_in_limits(preset: Preset) -> bool
 
 // The first `count` presets are within their limits.
 fn all_in_limits(presets: [Preset; MOST_PRESETS], count: usize) -> bool
-    requires { count ≤ mostPresets }
-    ensures { result ≡ allInLimits (presetsIn count presets) }
+    requires { count ≤ most_presets }
+    ensures { result ≡ all_in_limits (presets_in count presets) }
 {
     let mut i = 0;
     while i < count {
@@ -111,8 +111,8 @@ fn all_in_limits(presets: [Preset; MOST_PRESETS], count: usize) -> bool
 // No two of the first `count` presets have one number. They are walked from the last on, and each
 // number met is marked.
 fn all_distinct(presets: [Preset; MOST_PRESETS], count: usize) -> bool
-    requires { count ≤ mostPresets }
-    ensures { result ≡ allDistinct (presetsIn count presets) }
+    requires { count ≤ most_presets }
+    ensures { result ≡ all_distinct (presets_in count presets) }
 {
     let mut marks = [0u8; 256];
     let mut i = count;
@@ -130,7 +130,7 @@ fn all_distinct(presets: [Preset; MOST_PRESETS], count: usize) -> bool
 
 // Some text yields the head record with the first of the preset records.
 pub fn valid_record(head: Head, presets: [Preset; MOST_PRESETS]) -> bool
-    ensures { result ≡ validRecord head presets }
+    ensures { result ≡ valid_record head presets }
 {
     let slots = head.slots;
     let bridges = head.bridges;

@@ -3,8 +3,8 @@
 mod counted; // counted.rt: what the entries do with the records by value, where the list has as many records as are counted
 
 ghost use Rattle.std.specs.Prelude.{◌≡◌, length};
-ghost use Rattle.station.specs.Entries.{WroteEntry, entryRead, leftBy};
-ghost use Rattle.station.specs.RowEntries.{rowsReading, rowsRead, WroteRows};
+ghost use Rattle.station.specs.Entries.{WroteEntry, entry_read, left_by_lem};
+ghost use Rattle.station.specs.RowEntries.{rows_reading, rows_read, WroteRows};
 
 use crate::entries::counted::{
     answer_of, presets_of, read_counted, read_rows_counted, write_counted, write_rows_counted,
@@ -40,7 +40,7 @@ pub fn write_head(head: Head, presets: &[Preset], out: &mut [u8]) -> Writing
 // bytes, and the head; or the line at fault and the cause, 0 with 10 and 8. A refusal leaves the
 // list and answers the head handed in; else the records past the last preset stay.
 pub fn read_head(text: &[u8], head: Head, presets: &mut [Preset]) -> HeadAnswer
-    ensures { leftBy result presets.new ≡ entryRead (length presets.old)
+    ensures { left_by result presets.new ≡ entry_read (length presets.old)
         text.now head presets.old }
 {
     let records = record_count(presets);
@@ -54,8 +54,8 @@ pub fn read_head(text: &[u8], head: Head, presets: &mut [Preset]) -> HeadAnswer
 // head; or the row at fault and the cause, beside the head handed in: at 0 the causes 10, 8 of the
 // list and 2 of the head record, then 12 or 2 of the first row at fault.
 pub fn read_rows(text: &[u8], head: Head, presets: &[Preset]) -> RowsRead
-    ensures { result ≡ rowsRead
-        (rowsReading (length presets.now) head presets.now text.now) head }
+    ensures { result ≡ rows_read
+        (rows_reading (length presets.now) head presets.now text.now) head }
 {
     let records = record_count(presets);
     let copied = load(presets);

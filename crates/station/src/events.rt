@@ -1,7 +1,7 @@
 // Event lines: a clock, a call, a tie, or what is wrong with the line itself.
 ghost use Rattle.std.specs.Prelude.{◌≡◌};
 ghost use Rattle.station.specs.Form.{form};
-ghost use Rattle.station.specs.Event.{fault, callEvent, lineEvent, eventIn};
+ghost use Rattle.station.specs.Event.{fault, call_event, line_event, event_in};
 
 use crate::brackets::{Jobs, jobs_at};
 use crate::forms::{Line, read_line};
@@ -39,7 +39,7 @@ fn refused(cause: Refusal) -> EventRead
 
 // A call whose jobs were read: out of limits with a ninth job, or a job that is.
 fn call_event(list: Jobs) -> EventRead
-    ensures { result ≡ callEvent list }
+    ensures { result ≡ call_event list }
 {
     let n = list.count as usize;
     if MOST_JOBS < n {
@@ -57,7 +57,7 @@ fn call_event(list: Jobs) -> EventRead
 
 // The event of a line that does not begin as a call: a head's line is out of its place.
 fn line_event(said: Line) -> EventRead
-    ensures { result ≡ lineEvent said }
+    ensures { result ≡ line_event said }
 {
     match said {
         Line::NoForm => refused(Refusal::NoForm),
@@ -81,7 +81,7 @@ fn line_event(said: Line) -> EventRead
 // is `NoForm`, a head's line `OutOfPlace`, a call of too many jobs, or with a number or length
 // outside its limits, `OutOfLimits`. Most events are calls, which their first word tells.
 pub fn read_event(line: &[u8]) -> EventRead
-    ensures { result ≡ eventIn (form line.now) }
+    ensures { result ≡ event_in (form line.now) }
 {
     if !starts_at(line, 0, b"(call ") {
         let read = read_line(line, MOST_SLOTS);

@@ -1,9 +1,9 @@
 // The seven forms of a line.
 ghost use Rattle.std.specs.Prelude.{◌≡◌, ℕ, min};
-ghost use Rattle.station.specs.Limits.{mostSlots};
-ghost use Rattle.station.specs.Form.{frameIn, busyIn, presetIn, clockIn, call_in, tieIn, supplyIn, form};
-ghost use Rattle.station.specs.Jobs.{noJobs};
-ghost use Rattle.station.specs.method.ReadLine.{readIn, hasForm, headForm, eventForm};
+ghost use Rattle.station.specs.Limits.{most_slots};
+ghost use Rattle.station.specs.Form.{frame_in, busy_in, preset_in, clock_in, call_in, tie_in, supply_in, form};
+ghost use Rattle.station.specs.Jobs.{no_jobs};
+ghost use Rattle.station.specs.method.ReadLine.{read_in, has_form, head_form, event_form};
 
 use crate::brackets::{jobs_at, stretches_at};
 use crate::limits::MOST_JOBS;
@@ -33,7 +33,7 @@ pub struct Read {
 
 // A line without jobs.
 fn without_jobs(line: Line) -> Read
-    ensures { result ≡ (record { line = line; jobs = noJobs }) }
+    ensures { result ≡ (record { line = line; jobs = no_jobs }) }
 {
     Read {
         line,
@@ -43,7 +43,7 @@ fn without_jobs(line: Line) -> Read
 
 // `(frame S B)`
 fn frame_line(line: &[u8]) -> Read
-    ensures { (hi : ℕ) → result ≡ readIn hi (frameIn line.now) }
+    ensures { (hi : ℕ) → result ≡ read_in hi (frame_in line.now) }
 {
     if !starts_at(line, 0, b"(frame ") {
         return without_jobs(Line::NoForm);
@@ -62,7 +62,7 @@ fn frame_line(line: &[u8]) -> Read
 
 // `(clock t)`
 fn clock_line(line: &[u8]) -> Read
-    ensures { (hi : ℕ) → result ≡ readIn hi (clockIn line.now) }
+    ensures { (hi : ℕ) → result ≡ read_in hi (clock_in line.now) }
 {
     if !starts_at(line, 0, b"(clock ") {
         return without_jobs(Line::NoForm);
@@ -76,7 +76,7 @@ fn clock_line(line: &[u8]) -> Read
 
 // `(preset n p m o)`
 fn preset_line(line: &[u8]) -> Read
-    ensures { (hi : ℕ) → result ≡ readIn hi (presetIn line.now) }
+    ensures { (hi : ℕ) → result ≡ read_in hi (preset_in line.now) }
 {
     if !starts_at(line, 0, b"(preset ") {
         return without_jobs(Line::NoForm);
@@ -110,7 +110,7 @@ fn preset_line(line: &[u8]) -> Read
 
 // `(supply k)`
 fn supply_line(line: &[u8]) -> Read
-    ensures { (hi : ℕ) → result ≡ readIn hi (supplyIn line.now) }
+    ensures { (hi : ℕ) → result ≡ read_in hi (supply_in line.now) }
 {
     if !starts_at(line, 0, b"(supply ") {
         return without_jobs(Line::NoForm);
@@ -124,7 +124,7 @@ fn supply_line(line: &[u8]) -> Read
 
 // `(busy b (f t) (f t))` in a frame of `slots` slots, 64 at most
 fn busy_line(line: &[u8], slots: usize) -> Read
-    ensures { result ≡ readIn (min slots mostSlots) (busyIn line.now) }
+    ensures { result ≡ read_in (min slots most_slots) (busy_in line.now) }
 {
     if !starts_at(line, 0, b"(busy ") {
         return without_jobs(Line::NoForm);
@@ -143,7 +143,7 @@ fn busy_line(line: &[u8], slots: usize) -> Read
 
 // `(call (n c) (n c))`
 fn call_line(line: &[u8]) -> Read
-    ensures { (hi : ℕ) → result ≡ readIn hi (call_in line.now) }
+    ensures { (hi : ℕ) → result ≡ read_in hi (call_in line.now) }
 {
     if !starts_at(line, 0, b"(call ") {
         return without_jobs(Line::NoForm);
@@ -161,7 +161,7 @@ fn call_line(line: &[u8]) -> Read
 
 // `(tie hold)` or `(tie place)`
 fn tie_line(line: &[u8]) -> Read
-    ensures { (hi : ℕ) → result ≡ readIn hi (tieIn line.now) }
+    ensures { (hi : ℕ) → result ≡ read_in hi (tie_in line.now) }
 {
     if closes_at(line, 0, b"(tie hold)\n") {
         return without_jobs(Line::Tie(true));
@@ -174,7 +174,7 @@ fn tie_line(line: &[u8]) -> Read
 
 // Whether a line has a form.
 fn has_form(line: Line) -> bool
-    ensures { result ≡ hasForm line }
+    ensures { result ≡ has_form line }
 {
     match line {
         Line::NoForm => false,
@@ -190,7 +190,7 @@ fn has_form(line: Line) -> bool
 
 // A line of the head, in a frame of `slots` slots, 64 at most; `NoForm` where it is none.
 fn head_line(line: &[u8], slots: usize) -> Read
-    ensures { result ≡ readIn (min slots mostSlots) (headForm line.now) }
+    ensures { result ≡ read_in (min slots most_slots) (head_form line.now) }
 {
     let frame = frame_line(line);
     let f = frame.line;
@@ -212,7 +212,7 @@ fn head_line(line: &[u8], slots: usize) -> Read
 
 // A line with an event's form; `NoForm` where it is none.
 fn event_line(line: &[u8]) -> Read
-    ensures { (hi : ℕ) → result ≡ readIn hi (eventForm line.now) }
+    ensures { (hi : ℕ) → result ≡ read_in hi (event_form line.now) }
 {
     let clock = clock_line(line);
     let t = clock.line;
@@ -230,7 +230,7 @@ fn event_line(line: &[u8]) -> Read
 // What a line says, byte 10 included, in a frame of `slots` slots, 64 at most; `NoForm` where it is
 // none of the seven forms or lacks its end.
 pub(crate) fn read_line(line: &[u8], slots: usize) -> Read
-    ensures { result ≡ readIn (min slots mostSlots) (form line.now) }
+    ensures { result ≡ read_in (min slots most_slots) (form line.now) }
 {
     let head = head_line(line, slots);
     let h = head.line;

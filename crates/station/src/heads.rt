@@ -2,10 +2,10 @@
 mod steps; // steps.rt: one line more
 
 ghost use Rattle.std.specs.Prelude.{◌≡◌, ◌≤◌, length};
-ghost use Rattle.station.specs.Limits.{mostBytes};
+ghost use Rattle.station.specs.Limits.{most_bytes};
 ghost use Rattle.station.specs.Reading.{head_of};
-ghost use Rattle.station.specs.ReadHead.{headRead};
-ghost use Rattle.station.specs.method.HeadStep.{noState, acceptedRead, refusedRead};
+ghost use Rattle.station.specs.ReadHead.{head_read_lem};
+ghost use Rattle.station.specs.method.HeadStep.{no_state, accepted_read, refused_read};
 
 use crate::heads::steps::{Stage, State, Verdict, has_begun, read_step};
 use crate::limits::{MOST_BYTES, MOST_PRESETS};
@@ -31,7 +31,7 @@ pub struct HeadRead {
 
 // The head that was read, with the number of its lines and bytes.
 fn accept(state: State, lines: usize, bytes: usize) -> HeadRead
-    ensures { result ≡ acceptedRead state lines bytes }
+    ensures { result ≡ accepted_read state lines bytes }
 {
     let head = state.head;
     let presets = state.presets;
@@ -44,7 +44,7 @@ fn accept(state: State, lines: usize, bytes: usize) -> HeadRead
 
 // A refusal leaves the head and the preset records as they were handed in.
 fn refuse(line: usize, cause: Refusal, head: Head, presets: [Preset; MOST_PRESETS]) -> HeadRead
-    ensures { result ≡ refusedRead line cause head presets }
+    ensures { result ≡ refused_read line cause head presets }
 {
     HeadRead {
         answer: ReadAnswer::Refused(line, cause),
@@ -55,7 +55,7 @@ fn refuse(line: usize, cause: Refusal, head: Head, presets: [Preset; MOST_PRESET
 
 // The state before line 1.
 fn no_state(presets: [Preset; MOST_PRESETS]) -> State
-    ensures { result ≡ noState presets }
+    ensures { result ≡ no_state presets }
 {
     State {
         stage: Stage::Frame,
@@ -66,8 +66,8 @@ fn no_state(presets: [Preset; MOST_PRESETS]) -> State
 
 // The head of a text that is not too long, line by line.
 fn read_lines(text: &[u8], head: Head, presets: [Preset; MOST_PRESETS]) -> HeadRead
-    requires { length text.now ≤ mostBytes }
-    ensures { result ≡ headRead (head_of text.now) head presets }
+    requires { length text.now ≤ most_bytes }
+    ensures { result ≡ head_read (head_of text.now) head presets }
 {
     let mut state = no_state(presets);
     let mut at = 0;
@@ -97,7 +97,7 @@ fn read_lines(text: &[u8], head: Head, presets: [Preset; MOST_PRESETS]) -> HeadR
 // Answers the number of its lines and bytes, the head and its presets, the records past the last
 // being those handed in; or the line at fault, 0 with 10, and what was handed in.
 pub fn read_head_by_value(text: &[u8], head: Head, presets: [Preset; MOST_PRESETS]) -> HeadRead
-    ensures { result ≡ headRead (head_of text.now) head presets }
+    ensures { result ≡ head_read (head_of text.now) head presets }
 {
     if MOST_BYTES < text.len() {
         return refuse(0, Refusal::TextTooLong, head, presets);

@@ -2,7 +2,7 @@
 // nothing is found.
 ghost use Rattle.std.specs.Prelude.{◌≡◌, ◌+◌, ◌-◌, ◌*◌, ◌≤◌, drop};
 ghost use Rattle.station.specs.Form.{starts};
-ghost use Rattle.station.specs.method.Numeral.{leads, closes, noNumeral, numeralAt, numeralThen, numeralLast};
+ghost use Rattle.station.specs.method.Numeral.{leads, closes, no_numeral, numeral_at, numeral_then, numeral_last};
 ghost use Rattle.station.specs.Jobs.{seen};
 
 // What reading a number found: its value, which stops at 65,535, and the place after it.
@@ -68,7 +68,7 @@ fn with_digit(v: u32, b: u8) -> u32
 
 // The number at `at`: not found where no digit stands there or a zero leads.
 pub(crate) fn number_at(text: &[u8], at: usize) -> Numeral
-    ensures { result ≡ numeralAt text.now at }
+    ensures { result ≡ numeral_at text.now at }
 {
     if !digit_at(text, at) {
         return Numeral {
@@ -94,7 +94,7 @@ pub(crate) fn number_at(text: &[u8], at: usize) -> Numeral
 
 // What is handed back where no number was found.
 fn no_numeral() -> Numeral
-    ensures { result ≡ noNumeral }
+    ensures { result ≡ no_numeral }
 {
     Numeral {
         found: false,
@@ -105,7 +105,7 @@ fn no_numeral() -> Numeral
 
 // The number at `at` with `word` after it, and the place after the word.
 pub(crate) fn number_then(text: &[u8], at: usize, word: &[u8]) -> Numeral
-    ensures { result ≡ numeralThen word.now text.now at }
+    ensures { result ≡ numeral_then word.now text.now at }
 {
     let n = number_at(text, at);
     if !n.found {
@@ -125,7 +125,7 @@ pub(crate) fn number_then(text: &[u8], at: usize, word: &[u8]) -> Numeral
 // The number at `at` where it is the last item of a line, bracket and byte 10 after it, and the
 // place after the number.
 pub(crate) fn number_last(text: &[u8], at: usize) -> Numeral
-    ensures { result ≡ numeralLast text.now at }
+    ensures { result ≡ numeral_last text.now at }
 {
     let n = number_at(text, at);
     if !n.found {

@@ -2,8 +2,8 @@
 // copied. The functions that take the slice only copy records out of it or into it: what works on
 // records takes the copied.
 ghost use Rattle.std.specs.Prelude.{◌≡◌, set, length, get_or, replicate, min};
-ghost use Rattle.station.specs.Limits.{mostPresets};
-ghost use Rattle.station.specs.Types.{noRecord};
+ghost use Rattle.station.specs.Limits.{most_presets};
+ghost use Rattle.station.specs.Types.{no_record};
 ghost use Rattle.station.specs.Records.{loaded, saved};
 
 use crate::limits::MOST_PRESETS;
@@ -33,7 +33,7 @@ pub fn record_count(presets: &[Preset]) -> usize
 
 // The record at a place; past the end the record of zeros.
 fn record_at(presets: &[Preset], i: usize) -> Preset
-    ensures { result ≡ get_or presets.now i noRecord }
+    ensures { result ≡ get_or presets.now i no_record }
 {
     if i < presets.len() {
         return presets[i];
@@ -52,7 +52,7 @@ fn set_record(presets: &mut [Preset], i: usize, given: Preset)
 
 // The record of the copied at a place; past the end the record of zeros.
 fn copied_at(copied: [Preset; MOST_PRESETS], at: usize) -> Preset
-    ensures { result ≡ get_or copied at noRecord }
+    ensures { result ≡ get_or copied at no_record }
 {
     if at < MOST_PRESETS {
         return copied[at];
@@ -62,7 +62,7 @@ fn copied_at(copied: [Preset; MOST_PRESETS], at: usize) -> Preset
 
 // 32 records of zeros.
 fn no_records() -> [Preset; MOST_PRESETS]
-    ensures { result ≡ replicate mostPresets noRecord }
+    ensures { result ≡ replicate most_presets no_record }
 {
     NO_PRESETS
 }
@@ -82,7 +82,7 @@ pub fn load(presets: &[Preset]) -> [Preset; MOST_PRESETS]
 
 // The smaller of a number and 32.
 fn at_most_32(n: usize) -> usize
-    ensures { result ≡ min n mostPresets }
+    ensures { result ≡ min n most_presets }
 {
     if n < MOST_PRESETS { n } else { MOST_PRESETS }
 }

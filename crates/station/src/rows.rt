@@ -4,13 +4,13 @@ mod fields; // fields.rt: one row
 pub mod text; // text.rt: the rows of a head
 
 ghost use Rattle.std.specs.Prelude.{◌≡◌, List, ◌≤◌, length};
-ghost use Rattle.station.specs.Limits.{mostSlots, mostBridges, mostPresets, mostBytes};
+ghost use Rattle.station.specs.Limits.{most_slots, most_bridges, most_presets, most_bytes};
 ghost use Rattle.station.specs.declared.types.Preset as record_of;
-ghost use Rattle.station.specs.Types.{headIn};
+ghost use Rattle.station.specs.Types.{head_in};
 ghost use Rattle.station.specs.Row.{row_in};
-ghost use Rattle.station.specs.ReadRows.{readRows};
-ghost use Rattle.station.specs.RowEntries.{rowsReading, rowsRead, rowsAccepted, rowsRefused};
-ghost use Rattle.station.specs.method.RowFields.{rowIs};
+ghost use Rattle.station.specs.ReadRows.{read_rows};
+ghost use Rattle.station.specs.RowEntries.{rows_reading, rows_read, rows_accepted, rows_refused};
+ghost use Rattle.station.specs.method.RowFields.{row_is};
 
 use crate::brackets::stretch_mask;
 use crate::check::valid_record;
@@ -36,7 +36,7 @@ pub struct RowsRead {
 
 // The head with the masks that were read from so many rows.
 fn accept(rows: usize, head: Head, busy: [u64; MOST_BRIDGES]) -> RowsRead
-    ensures { result ≡ rowsAccepted rows head busy }
+    ensures { result ≡ rows_accepted rows head busy }
 {
     let mut after = head;
     after.busy = busy;
@@ -48,7 +48,7 @@ fn accept(rows: usize, head: Head, busy: [u64; MOST_BRIDGES]) -> RowsRead
 
 // A refusal leaves the head as it was handed in.
 fn refuse(row: usize, cause: Refusal, head: Head) -> RowsRead
-    ensures { result ≡ rowsRefused row cause head }
+    ensures { result ≡ rows_refused row cause head }
 {
     RowsRead {
         answer: RowsAnswer::Refused(row, cause),
@@ -58,7 +58,7 @@ fn refuse(row: usize, cause: Refusal, head: Head) -> RowsRead
 
 // Whether a row lies in a frame of so many slots and bridges.
 fn row_in(slots: usize, bridges: usize, fields: Fields) -> bool
-    ensures { result ≡ row_in slots bridges (rowIs fields) }
+    ensures { result ≡ row_in slots bridges (row_is fields) }
 {
     let bridge = fields.bridge as usize;
     let first = fields.first as usize;
@@ -69,10 +69,10 @@ fn row_in(slots: usize, bridges: usize, fields: Fields) -> bool
 // The rows of a text that is not too long, row by row, from no busy slot on; a slot that a row made
 // busy stays so.
 fn read_row_lines(text: &[u8], head: Head) -> RowsRead
-    requires { (length text.now ≤ mostBytes) × (head.slots ≤ mostSlots)
-        × (head.bridges ≤ mostBridges) }
+    requires { (length text.now ≤ most_bytes) × (head.slots ≤ most_slots)
+        × (head.bridges ≤ most_bridges) }
     ensures { (ps : List record_of.Preset)
-        → result ≡ rowsRead (readRows (headIn head ps) text.now) head }
+        → result ≡ rows_read (read_rows (head_in head ps) text.now) head }
 {
     let mut busy = [0; MOST_BRIDGES];
     let mut at = 0;
@@ -97,7 +97,7 @@ fn read_row_lines(text: &[u8], head: Head) -> RowsRead
 // the head; or the row at fault and the cause beside the head handed in: at row 0 with 10 for more
 // than 32,768 bytes, and with 2 for a head record that no text yields.
 pub fn read_rows_by_value(text: &[u8], head: Head, presets: [Preset; MOST_PRESETS]) -> RowsRead
-    ensures { result ≡ rowsRead (rowsReading mostPresets head presets text.now)
+    ensures { result ≡ rows_read (rows_reading most_presets head presets text.now)
         head }
 {
     if MOST_BYTES < text.len() {

@@ -3,12 +3,12 @@
 // The writers are total, as those of output.rt are: none asks for room. That a valid head's text
 // has it is shown once, for `write_head_by_value`.
 ghost use Rattle.std.specs.Prelude.{◌-◌, ◌≤◌, ◌≡◌, true, cond, map};
-ghost use Rattle.station.specs.Limits.{mostSlots, mostPresets};
+ghost use Rattle.station.specs.Limits.{most_slots, most_presets};
 ghost use Rattle.station.specs.Text.{bytes, join};
-ghost use Rattle.station.specs.Form.{frameLine, presetLine, print};
-ghost use Rattle.station.specs.Writing.{stretches, supplyLines, tieLines, busyLineOf, busyLines, text_of};
-ghost use Rattle.station.specs.method.Runs.{busyFrom, freeFrom, bracketsOf, bracketText};
-ghost use Rattle.station.specs.Types.{presetIn, presetsIn, headIn, validRecord};
+ghost use Rattle.station.specs.Form.{frame_line, preset_line, print};
+ghost use Rattle.station.specs.Writing.{stretches, supply_lines, tie_lines, busy_line_of, busy_lines, text_of};
+ghost use Rattle.station.specs.method.Runs.{busy_from, free_from, brackets_of, bracket_text};
+ghost use Rattle.station.specs.Types.{preset_in, presets_in, head_in, valid_record};
 ghost use Rattle.station.specs.WriteHead.{WroteHead};
 ghost use Rattle.station.specs.Wrote.{Wrote};
 
@@ -27,7 +27,7 @@ pub enum Writing {
 
 // Writes the frame line, `(frame S B)`. Answers the next place.
 fn frame_line(out: &mut [u8], at: usize, slots: u8, bridges: u8) -> usize
-    ensures { Wrote out.old at (print (frameLine slots bridges)) out.new
+    ensures { Wrote out.old at (print (frame_line slots bridges)) out.new
         result }
 {
     let first = word(out, at, b"(frame ");
@@ -38,7 +38,7 @@ fn frame_line(out: &mut [u8], at: usize, slots: u8, bridges: u8) -> usize
 // Writes the supply line of a head that has one, `(supply k)`; else nothing. Answers the next
 // place.
 fn supply_line(out: &mut [u8], at: usize, motors: usize) -> usize
-    ensures { Wrote out.old at (join (map print (supplyLines motors)))
+    ensures { Wrote out.old at (join (map print (supply_lines motors)))
         out.new result }
 {
     if motors == 0 {
@@ -51,7 +51,7 @@ fn supply_line(out: &mut [u8], at: usize, motors: usize) -> usize
 
 // Writes the tie line of a head that has one, `(tie hold)`; else nothing. Answers the next place.
 fn tie_line(out: &mut [u8], at: usize, hold: bool) -> usize
-    ensures { Wrote out.old at (join (map print (tieLines hold)))
+    ensures { Wrote out.old at (join (map print (tie_lines hold)))
         out.new result }
 {
     if hold {
@@ -63,7 +63,7 @@ fn tie_line(out: &mut [u8], at: usize, hold: bool) -> usize
 // The first busy slot of a mask from slot `from` on, counted from 0; 64 where there is none, `from`
 // where it is past 64.
 pub(crate) fn next_busy(mask: u64, from: usize) -> usize
-    ensures { result ≡ busyFrom (mostSlots - from) mask from }
+    ensures { result ≡ busy_from (most_slots - from) mask from }
 {
     let mut i = from;
     while i < MOST_SLOTS {
@@ -78,7 +78,7 @@ pub(crate) fn next_busy(mask: u64, from: usize) -> usize
 // The first free slot of a mask from slot `from` on, counted from 0; 64 where there is none, `from`
 // where it is past 64.
 pub(crate) fn next_free(mask: u64, from: usize) -> usize
-    ensures { result ≡ freeFrom (mostSlots - from) mask from }
+    ensures { result ≡ free_from (most_slots - from) mask from }
 {
     let mut i = from;
     while i < MOST_SLOTS {
@@ -105,7 +105,7 @@ fn bracket_end(out: &mut [u8], at: usize, more: bool) -> usize
 // Writes one bracket of a busy line, `(f t)` and what parts it from the next. Answers the next
 // place.
 fn bracket(out: &mut [u8], at: usize, first: u8, last: u8, more: bool) -> usize
-    ensures { Wrote out.old at (bracketText first last more) out.new
+    ensures { Wrote out.old at (bracket_text first last more) out.new
         result }
 {
     let numbers = put(out, at, b'(');
@@ -116,7 +116,7 @@ fn bracket(out: &mut [u8], at: usize, first: u8, last: u8, more: bool) -> usize
 // Writes a bracket for each run of busy slots of a mask, and the end of the line; nothing where no
 // slot is busy. Answers the next place.
 fn stretch_list(out: &mut [u8], at: usize, mask: u64) -> usize
-    ensures { Wrote out.old at (bracketsOf (stretches mostSlots 1 mask))
+    ensures { Wrote out.old at (brackets_of (stretches most_slots 1 mask))
         out.new result }
 {
     let mut position = at;
@@ -134,7 +134,7 @@ fn stretch_list(out: &mut [u8], at: usize, mask: u64) -> usize
 // Answers the next place.
 fn busy_line(out: &mut [u8], at: usize, bridge: u8, mask: u64) -> usize
     ensures { Wrote out.old at
-        (join (map print (busyLineOf bridge (stretches mostSlots 1 mask)))) out.new result }
+        (join (map print (busy_line_of bridge (stretches most_slots 1 mask)))) out.new result }
 {
     if mask == 0 {
         return at;
@@ -147,7 +147,7 @@ fn busy_line(out: &mut [u8], at: usize, bridge: u8, mask: u64) -> usize
 
 // Writes the busy lines of the bridges, in ascending order. Answers the next place.
 fn busy_lines(out: &mut [u8], at: usize, busy: [u64; MOST_BRIDGES]) -> usize
-    ensures { Wrote out.old at (join (map print (busyLines 1 busy)))
+    ensures { Wrote out.old at (join (map print (busy_lines 1 busy)))
         out.new result }
 {
     let mut position = at;
@@ -161,7 +161,7 @@ fn busy_lines(out: &mut [u8], at: usize, busy: [u64; MOST_BRIDGES]) -> usize
 
 // Writes a preset line, `(preset n p m o)`. Answers the next place.
 fn preset_line(out: &mut [u8], at: usize, preset: Preset) -> usize
-    ensures { Wrote out.old at (print (presetLine (presetIn preset)))
+    ensures { Wrote out.old at (print (preset_line (preset_in preset)))
         out.new result }
 {
     let first = word(out, at, b"(preset ");
@@ -178,9 +178,9 @@ fn preset_line(out: &mut [u8], at: usize, preset: Preset) -> usize
 
 // Writes the lines of the first `count` presets, in file order. Answers the next place.
 fn preset_lines(out: &mut [u8], at: usize, presets: [Preset; MOST_PRESETS], count: usize) -> usize
-    requires { count ≤ mostPresets }
+    requires { count ≤ most_presets }
     ensures { Wrote out.old at
-        (join (map print (map presetLine (presetsIn count presets)))) out.new result }
+        (join (map print (map preset_line (presets_in count presets)))) out.new result }
 {
     let mut position = at;
     let mut i = 0;
@@ -194,8 +194,8 @@ fn preset_lines(out: &mut [u8], at: usize, presets: [Preset; MOST_PRESETS], coun
 
 // Writes the text of a valid head record at the start of the output. Answers the place after it.
 fn head_text(head: Head, presets: [Preset; MOST_PRESETS], out: &mut [u8]) -> usize
-    requires { validRecord head presets ≡ true }
-    ensures { Wrote out.old 0 (text_of (headIn head presets)) out.new
+    requires { valid_record head presets ≡ true }
+    ensures { Wrote out.old 0 (text_of (head_in head presets)) out.new
         result }
 {
     let slots = head.slots as u8;

@@ -1,8 +1,8 @@
 -- Laws of the entries that write one line of the listing.
 --
--- In order: the length of each line (`small-answer`, `answer-fits`, `grant-fits`, `slot-fits`); an output that is too short for a line, and one that is
--- not (`line-short`, `line-whole`); the line of a slot, by the cause that holds (`slot-few`, `slot-stopped`, `slot-low`, `slot-high`, `slot-written`), and
--- with the first 32 records of a list by value (`slot-list`).
+-- In order: the length of each line (`small_answer`, `answer_fits`, `grant_fits`, `slot_fits`); an output that is too short for a line, and one that is
+-- not (`line_short`, `line_whole`); the line of a slot, by the cause that holds (`slot_few`, `slot_stopped`, `slot_low`, `slot_high`, `slot_written_lem`), and
+-- with the first 32 records of a list by value (`slot_list`).
 -- Assumes nothing.
 use Prim.Native.Nat.{ℕ, zero, suc, ◌+◌, ◌-◌, ◌*◌, ◌^◌, ◌≤◌, ◌<◌}
 use native.Mathlib.Omega.{arith}
@@ -16,13 +16,13 @@ use denote.Laws.{Is}
 use denote.Enum.Declared.{row}
 use denote.Enum.Laws.{owed}
 use lib.Dec.{ltb, leb}
-use Rattle.laws.proofs.Comparisons.{le_of, ge-of, ltb_yes, ltb_no, leb_yes, leb_no}
+use Rattle.laws.proofs.Comparisons.{le_of, ge_of, ltb_yes, ltb_no, leb_yes, leb_no}
 use Rattle.station.specs.Head.{Head, within, valid}
-use Rattle.station.specs.Refusal.{Refusal, outOfLimits, tooShort, notWellFormed, number_of, try, first_of}
+use Rattle.station.specs.Refusal.{Refusal, out_of_limits, too_short, not_well_formed, number_of, try, first_of}
 use Rattle.station.specs.Text.{bytes}
 use Rattle.station.specs.Form.{print}
 use Rattle.station.specs.Decimal.{digits}
-use Rattle.station.specs.Types.{refusalIn, headIn}
+use Rattle.station.specs.Types.{refusal_in, head_in}
 use Rattle.station.specs.Wrote.{Wrote}
 use Rattle.station.specs.WriteHead.{written}
 use Rattle.station.specs.declared.types.Preset as record-of-preset
@@ -32,177 +32,177 @@ use Rattle.station.specs.declared.types.Refusal.TheVariants.{TooShort, OutOfLimi
 use Rattle.station.specs.declared.write.Writing.{Writing}
 use Rattle.station.specs.declared.write.Writing.TheVariants as writing
 use Rattle.station.specs.Records.{loaded}
-use Rattle.station.proofs.Theorems.{number_small, digits-length, first-of-none, passed, append-none, append-some, wrote-fits}
-use Rattle.placing.specs.Table.{cell, kind_of, numberIn}
-use Rattle.placing.specs.State.{wellFormedFrame}
-use Rattle.placing.specs.Causes.{frameCausesOf}
-use Rattle.placing.proofs.Theorems.{frame-known, met, record-valid}
+use Rattle.station.proofs.Theorems.{number_small, digits_length, first_of_none, passed, append_none, append_some, wrote_fits}
+use Rattle.placing.specs.Table.{cell, kind_of, number_in}
+use Rattle.placing.specs.State.{well_formed_frame}
+use Rattle.placing.specs.Causes.{frame_causes_of}
+use Rattle.placing.proofs.Theorems.{frame_known, met, record_valid}
 use Rattle.frame.specs.declared.types.Answer as reply
 use Rattle.frame.specs.declared.types.Answer.TheVariants.{Now, Tie, Taken, Refused}
 use Rattle.frame.specs.Types.{answer_in}
 use Rattle.frame.specs.contracts.types.Answer.{the_type}
 use Rattle.frame.proofs.types.Answer.TheLaws.{the_laws}
-use Rattle.frame.specs.Event.{Answer, clockNow, tieNow, taken, refused}
+use Rattle.frame.specs.Event.{Answer, clock_now, tie_now, taken, refused}
 use Rattle.frame.specs.Text.{start_of}
-use Rattle.frame.specs.Listing.{refusedLine, grantedLine, answerLine, cellText, cellTexts, slotLine}
-use Rattle.frame.specs.WroteLine.{WriteOutcome, lineWritten, outputShort, slotCauses, slotWritten, WroteLine}
-use Rattle.frame.specs.method.SlotLines.{lineOfSlot}
-use Rattle.frame.proofs.listing.bytes.SlotLines.{slot-line-head}
-use Rattle.frame.proofs.event.ListOfRecords.{head-list}
+use Rattle.frame.specs.Listing.{refused_line, granted_line, answer_line, cell_text, cell_texts, slot_line}
+use Rattle.frame.specs.WroteLine.{WriteOutcome, line_written, output_short, slot_causes, slot_written, WroteLine}
+use Rattle.frame.specs.method.SlotLines.{line_of_slot}
+use Rattle.frame.proofs.listing.bytes.SlotLines.{slot_line_head}
+use Rattle.frame.proofs.event.ListOfRecords.{head_list}
 
 -- ---- the length of each line
 
 -- a number of the code has at most 20 digits
-digits-few : (n : ℕ) → n < 2 ^ 64 → length (digits n) ≤ 20
-digits-few n h = digits-length 20 n (omega arith) (omega arith)
+digits_few : (n : ℕ) → n < 2 ^ 64 → length (digits n) ≤ 20
+digits_few n h = digits_length 20 n (omega arith) (omega arith)
 
 -- the number in an answer is one of the code's
 abbrev pub Small : Answer → Type 0
-Small (clockNow t) = t < 2 ^ 64
-Small (tieNow hold) = Unit {0}
+Small (clock_now t) = t < 2 ^ 64
+Small (tie_now hold) = Unit {0}
 Small (taken c) = c.count < 2 ^ 64
 Small (refused _ r) = Unit {0}
 
 -- the numbers in an answer of the code fit their type
-pub small-answer : (a : reply.Answer) (vs : List Val) → Is (row the_type) a vs → Small (answer_in a)
-small-answer (Now t) vs p = (owed the_type the_laws (Now t) vs p).0.1
-small-answer (Tie hold) vs p = tt
-small-answer (Taken n) vs p = (owed the_type the_laws (Taken n) vs p).0.1
-small-answer (Refused _ r) vs p = tt
+pub small_answer : (a : reply.Answer) (vs : List Val) → Is (row the_type) a vs → Small (answer_in a)
+small_answer (Now t) vs p = (owed the_type the_laws (Now t) vs p).0.1
+small_answer (Tie hold) vs p = tt
+small_answer (Taken n) vs p = (owed the_type the_laws (Taken n) vs p).0.1
+small_answer (Refused _ r) vs p = tt
 
-refused-fits : (n : ℕ) (r : Refusal) → n < 2 ^ 64 → length (refusedLine n r) ≤ 8192
-unfolding refusedLine bytes
-refused-fits n r h =
-    simp length-append (omega (arith, digits-few n h, digits-few (number_of r) (omega (arith, number_small r))))
+refused_fits : (n : ℕ) (r : Refusal) → n < 2 ^ 64 → length (refused_line n r) ≤ 8192
+unfolding refused_line bytes
+refused_fits n r h =
+    simp length-append (omega (arith, digits_few n h, digits_few (number_of r) (omega (arith, number_small r))))
 
-pub answer-fits : (n : ℕ) (a : Answer) → n < 2 ^ 64 → Small a → length (answerLine n a) ≤ 8192
-unfolding answerLine print bytes
-answer-fits n (clockNow t) h s = simp length-append (omega (arith, digits-few t s))
-answer-fits n (tieNow true) h s = omega arith
-answer-fits n (tieNow false) h s = omega arith
-answer-fits n (taken c) h s = simp length-append (omega (arith, digits-few c.count s))
-answer-fits n (refused _ r) h s = refused-fits n r h
+pub answer_fits : (n : ℕ) (a : Answer) → n < 2 ^ 64 → Small a → length (answer_line n a) ≤ 8192
+unfolding answer_line print bytes
+answer_fits n (clock_now t) h s = simp length-append (omega (arith, digits_few t s))
+answer_fits n (tie_now true) h s = omega arith
+answer_fits n (tie_now false) h s = omega arith
+answer_fits n (taken c) h s = simp length-append (omega (arith, digits_few c.count s))
+answer_fits n (refused _ r) h s = refused_fits n r h
 
-pub grant-fits : (n g : ℕ) → n < 2 ^ 64 → g < 2 ^ 64 → length (grantedLine n g) ≤ 8192
-unfolding grantedLine bytes
-grant-fits n g h l = simp length-append (omega (arith, digits-few n h, digits-few g l))
+pub grant_fits : (n g : ℕ) → n < 2 ^ 64 → g < 2 ^ 64 → length (granted_line n g) ≤ 8192
+unfolding granted_line bytes
+grant_fits n g h l = simp length-append (omega (arith, digits_few n h, digits_few g l))
 
-cell-few : (k n : ℕ) → n < 2 ^ 64 → length (cellText k n) ≤ 21
-unfolding cellText bytes
-cell-few zero n h = omega arith
-cell-few (suc zero) n h = omega arith
-cell-few (suc (suc zero)) n h = omega (arith, digits-few n h)
-cell-few (suc (suc (suc zero))) n h = omega (arith, digits-few n h)
-cell-few (suc (suc (suc (suc k)))) n h = omega (arith, digits-few n h)
+cell_few : (k n : ℕ) → n < 2 ^ 64 → length (cell_text k n) ≤ 21
+unfolding cell_text bytes
+cell_few zero n h = omega arith
+cell_few (suc zero) n h = omega arith
+cell_few (suc (suc zero)) n h = omega (arith, digits_few n h)
+cell_few (suc (suc (suc zero))) n h = omega (arith, digits_few n h)
+cell_few (suc (suc (suc (suc k)))) n h = omega (arith, digits_few n h)
 
-cells-few : (h : Head) (t : List ℕ) (s b k : ℕ) → length (cellTexts h t s b k) ≤ 2 + k * 22
-unfolding cellTexts bytes
-cells-few h t s b zero = omega arith
-cells-few h t s b (suc k) =
+cells_few : (h : Head) (t : List ℕ) (s b k : ℕ) → length (cell_texts h t s b k) ≤ 2 + k * 22
+unfolding cell_texts bytes
+cells_few h t s b zero = omega arith
+cells_few h t s b (suc k) =
     let v = cell h t s b in
-    let low : numberIn v < 2 ^ 64 = omega arith in
-    omega (arith, length-append (cellText (kind_of v) (numberIn v)) (cellTexts h t s (suc b) k), cell-few (kind_of v) (numberIn v) low, cells-few h t s (suc b) k)
+    let low : number_in v < 2 ^ 64 = omega arith in
+    omega (arith, length-append (cell_text (kind_of v) (number_in v)) (cell_texts h t s (suc b) k), cell_few (kind_of v) (number_in v) low, cells_few h t s (suc b) k)
 
-pub slot-fits : (h : Head) (t : List ℕ) (s : ℕ) → s < 64 → h.bridges ≤ 8 → length (slotLine h t s) ≤ 8192
-unfolding slotLine bytes
-slot-fits h t s l m =
-    omega (arith, length-append (digits (suc s)) (cellTexts h t s 0 h.bridges), digits-few (suc s) (omega arith), cells-few h t s 0 h.bridges)
+pub slot_fits : (h : Head) (t : List ℕ) (s : ℕ) → s < 64 → h.bridges ≤ 8 → length (slot_line h t s) ≤ 8192
+unfolding slot_line bytes
+slot_fits h t s l m =
+    omega (arith, length-append (digits (suc s)) (cell_texts h t s 0 h.bridges), digits_few (suc s) (omega arith), cells_few h t s 0 h.bridges)
 
 -- ---- a line that is refused or written
 
 module _ (causes : List (Option Refusal)) (line out : List ℕ) where
-  line_refused : (r : cause.Refusal) → first_of causes ≡ some (refusalIn r) → WroteLine (lineWritten causes line out) (writing.Refused 0 r) out
-  unfolding lineWritten
+  line_refused : (r : cause.Refusal) → first_of causes ≡ some (refusal_in r) → WroteLine (line_written causes line out) (writing.Refused 0 r) out
+  unfolding line_written
   line_refused r e = record { answer = rw e refl; output = rw e refl }
 
-  line-written : {after : List ℕ} {n : ℕ} → first_of causes ≡ none → length line ≤ 8192 → 8192 ≤ length out → Wrote out 0 line after n
-      → WroteLine (lineWritten causes line out) (writing.Written n) after
-  unfolding lineWritten
-  line-written e h l w = let both = wrote-fits w (omega arith) in record { answer = rw e (ap written both.1); output = rw e both.0 }
+  line_written_lem : {after : List ℕ} {n : ℕ} → first_of causes ≡ none → length line ≤ 8192 → 8192 ≤ length out → Wrote out 0 line after n
+      → WroteLine (line_written causes line out) (writing.Written n) after
+  unfolding line_written
+  line_written_lem e h l w = let both = wrote_fits w (omega arith) in record { answer = rw e (ap written both.1); output = rw e both.0 }
 
 -- 8: the output is too short, whatever else is tried
-pub line-short : (cs : List (Option Refusal)) (line out : List ℕ) → length out < 8192 → WroteLine (lineWritten (outputShort out ∷ cs) line out) (writing.Refused 0 TooShort) out
-line-short cs line out h = line_refused (outputShort out ∷ cs) line out TooShort (met tooShort (ltb (length out) 8192) cs (ltb_yes (length out) 8192 h))
+pub line_short : (cs : List (Option Refusal)) (line out : List ℕ) → length out < 8192 → WroteLine (line_written (output_short out ∷ cs) line out) (writing.Refused 0 TooShort) out
+line_short cs line out h = line_refused (output_short out ∷ cs) line out TooShort (met too_short (ltb (length out) 8192) cs (ltb_yes (length out) 8192 h))
 
 -- it is not, and nothing else is tried
-pub line-whole : (line out : List ℕ) {after : List ℕ} {n : ℕ} → 8192 ≤ length out → length line ≤ 8192 → Wrote out 0 line after n
-    → WroteLine (lineWritten (outputShort out ∷ []) line out) (writing.Written n) after
-line-whole line out l h w = line-written (outputShort out ∷ []) line out (passed tooShort (ltb (length out) 8192) [] (ltb_no (length out) 8192 l) ∙ first-of-none) h l w
+pub line_whole : (line out : List ℕ) {after : List ℕ} {n : ℕ} → 8192 ≤ length out → length line ≤ 8192 → Wrote out 0 line after n
+    → WroteLine (line_written (output_short out ∷ []) line out) (writing.Written n) after
+line_whole line out l h w = line_written_lem (output_short out ∷ []) line out (passed too_short (ltb (length out) 8192) [] (ltb_no (length out) 8192 l) ∙ first_of_none) h l w
 
 -- ---- the line of a slot, by the cause that holds
 
 -- 8: fewer than 32 records
-pub slot-few : (n : ℕ) (head : record-of-head.Head) (ps : List record-of-preset.Preset) (t : List ℕ) (s : ℕ) (out : List ℕ) → 8192 ≤ length out → n < 32
-    → WroteLine (slotWritten n head ps t s out) (writing.Refused 0 TooShort) out
-slot-few n head ps t s out long few =
-    line_refused (slotCauses n head ps t s out) (slotLine (headIn head ps) t (s - 1)) out TooShort
-    (passed tooShort (ltb (length out) 8192) _ (ltb_no (length out) 8192 long) ∙ met tooShort (ltb n 32) _ (ltb_yes n 32 few))
+pub slot_few : (n : ℕ) (head : record-of-head.Head) (ps : List record-of-preset.Preset) (t : List ℕ) (s : ℕ) (out : List ℕ) → 8192 ≤ length out → n < 32
+    → WroteLine (slot_written n head ps t s out) (writing.Refused 0 TooShort) out
+slot_few n head ps t s out long few =
+    line_refused (slot_causes n head ps t s out) (slot_line (head_in head ps) t (s - 1)) out TooShort
+    (passed too_short (ltb (length out) 8192) _ (ltb_no (length out) 8192 long) ∙ met too_short (ltb n 32) _ (ltb_yes n 32 few))
 
 module _ (n : ℕ) (head : record-of-head.Head) (ps : List record-of-preset.Preset) (t : List ℕ) (s : ℕ) (out : List ℕ) (long : 8192 ≤ length out) (enough : 32 ≤ n) where
   abbrev h : Head
-  h = headIn head ps
+  h = head_in head ps
 
-  abbrev slotOutside : Bool
-  slotOutside = not (within 1 head.slots s)
+  abbrev slot_outside : Bool
+  slot_outside = not (within 1 head.slots s)
 
-  refused-with : (r : cause.Refusal) → first_of (frameCausesOf head ps (start_of h t) ++ (try outOfLimits slotOutside ∷ [])) ≡ some (refusalIn r)
-      → WroteLine (slotWritten n head ps t s out) (writing.Refused 0 r) out
-  refused-with r e =
-      line_refused (slotCauses n head ps t s out) (slotLine h t (s - 1)) out r (passed tooShort (ltb (length out) 8192) _ (ltb_no (length out) 8192 long) ∙ passed tooShort (ltb n 32) _ (ltb_no n 32 enough) ∙ e)
+  refused_with : (r : cause.Refusal) → first_of (frame_causes_of head ps (start_of h t) ++ (try out_of_limits slot_outside ∷ [])) ≡ some (refusal_in r)
+      → WroteLine (slot_written n head ps t s out) (writing.Refused 0 r) out
+  refused_with r e =
+      line_refused (slot_causes n head ps t s out) (slot_line h t (s - 1)) out r (passed too_short (ltb (length out) 8192) _ (ltb_no (length out) 8192 long) ∙ passed too_short (ltb n 32) _ (ltb_no n 32 enough) ∙ e)
 
   -- a cause of the table or of the head record
-  pub slot-stopped : (r : cause.Refusal) → some (refusalIn r) ≡ first_of (frameCausesOf head ps (start_of h t)) → WroteLine (slotWritten n head ps t s out) (writing.Refused 0 r) out
-  slot-stopped r e = refused-with r (append-some (frameCausesOf head ps (start_of h t)) _ (refusalIn r) (sym e))
+  pub slot_stopped : (r : cause.Refusal) → some (refusal_in r) ≡ first_of (frame_causes_of head ps (start_of h t)) → WroteLine (slot_written n head ps t s out) (writing.Refused 0 r) out
+  slot_stopped r e = refused_with r (append_some (frame_causes_of head ps (start_of h t)) _ (refusal_in r) (sym e))
 
-  module _ (free : none ≡ first_of (frameCausesOf head ps (start_of h t))) where
-    outside : slotOutside ≡ true → WroteLine (slotWritten n head ps t s out) (writing.Refused 0 OutOfLimits) out
-    outside e = refused-with OutOfLimits (append-none (frameCausesOf head ps (start_of h t)) _ (sym free) ∙ met outOfLimits slotOutside [] e)
+  module _ (free : none ≡ first_of (frame_causes_of head ps (start_of h t))) where
+    outside : slot_outside ≡ true → WroteLine (slot_written n head ps t s out) (writing.Refused 0 OutOfLimits) out
+    outside e = refused_with OutOfLimits (append_none (frame_causes_of head ps (start_of h t)) _ (sym free) ∙ met out_of_limits slot_outside [] e)
 
     -- no slot has the number
-    pub slot-low : s < 1 → WroteLine (slotWritten n head ps t s out) (writing.Refused 0 OutOfLimits) out
-    slot-low l = outside (rw (leb_no 1 s l) refl)
+    pub slot_low : s < 1 → WroteLine (slot_written n head ps t s out) (writing.Refused 0 OutOfLimits) out
+    slot_low l = outside (rw (leb_no 1 s l) refl)
 
-    pub slot-high : 1 ≤ s → head.slots < s → WroteLine (slotWritten n head ps t s out) (writing.Refused 0 OutOfLimits) out
-    slot-high m l = outside (rw (leb_yes 1 s m, leb_no s head.slots l) refl)
+    pub slot_high : 1 ≤ s → head.slots < s → WroteLine (slot_written n head ps t s out) (writing.Refused 0 OutOfLimits) out
+    slot_high m l = outside (rw (leb_yes 1 s m, leb_no s head.slots l) refl)
 
     -- no cause holds, and the line was written
-    pub slot-written : {after : List ℕ} {end : ℕ} → 1 ≤ s → s ≤ head.slots → Wrote out 0 (lineOfSlot head.bridges t (s - 1)) after end
-        → WroteLine (slotWritten n head ps t s out) (writing.Written end) after
-    slot-written m l w =
-        let v = record-valid head ps (frame-known head ps (start_of h t) (sym free)).1 in
-        let low : s - 1 < 64 = omega (arith, v.slots-high) in
-        line-written (slotCauses n head ps t s out) (slotLine h t (s - 1)) out
-        (passed tooShort (ltb (length out) 8192) _ (ltb_no (length out) 8192 long)
-        ∙ passed tooShort (ltb n 32) _ (ltb_no n 32 enough)
-        ∙ append-none (frameCausesOf head ps (start_of h t)) _ (sym free)
-        ∙ passed outOfLimits slotOutside [] (rw (leb_yes 1 s m, leb_yes s head.slots l) refl)
-        ∙ first-of-none)
-        (slot-fits h t (s - 1) low v.bridges-high) long (rw (slot-line-head h t (s - 1) low v.bridges-high) at w)
+    pub slot_written_lem : {after : List ℕ} {end : ℕ} → 1 ≤ s → s ≤ head.slots → Wrote out 0 (line_of_slot head.bridges t (s - 1)) after end
+        → WroteLine (slot_written n head ps t s out) (writing.Written end) after
+    slot_written_lem m l w =
+        let v = record_valid head ps (frame_known head ps (start_of h t) (sym free)).1 in
+        let low : s - 1 < 64 = omega (arith, v.slots_high) in
+        line_written_lem (slot_causes n head ps t s out) (slot_line h t (s - 1)) out
+        (passed too_short (ltb (length out) 8192) _ (ltb_no (length out) 8192 long)
+        ∙ passed too_short (ltb n 32) _ (ltb_no n 32 enough)
+        ∙ append_none (frame_causes_of head ps (start_of h t)) _ (sym free)
+        ∙ passed out_of_limits slot_outside [] (rw (leb_yes 1 s m, leb_yes s head.slots l) refl)
+        ∙ first_of_none)
+        (slot_fits h t (s - 1) low v.bridges_high) long (rw (slot_line_head h t (s - 1) low v.bridges_high) at w)
 
 -- ---- the first 32 records by value
 
 -- the line of a slot by the causes before 2, a count within 32 or not, and the head that the records stand for
 module _ (slots : ℕ) (t : List ℕ) (s : ℕ) (out : List ℕ) where
-  abbrev written-by : Bool → Bool → Bool → Bool → Head → WriteOutcome
-  written-by few short room cells h =
-      lineWritten
-      (try tooShort room ∷ try tooShort short ∷ try tooShort cells ∷ try outOfLimits (not (few && valid h)) ∷ try notWellFormed (not (wellFormedFrame h (start_of h t))) ∷ try outOfLimits (not (within 1 slots s)) ∷ [])
-      (slotLine h t (s - 1)) out
+  abbrev written_by : Bool → Bool → Bool → Bool → Head → WriteOutcome
+  written_by few short room cells h =
+      line_written
+      (try too_short room ∷ try too_short short ∷ try too_short cells ∷ try out_of_limits (not (few && valid h)) ∷ try not_well_formed (not (well_formed_frame h (start_of h t))) ∷ try out_of_limits (not (within 1 slots s)) ∷ [])
+      (slot_line h t (s - 1)) out
 
-  same_line : (few short room cells : Bool) (h k : Head) → (short ≡ false → few ≡ true → h ≡ k) → written-by few short room cells h ≡ written-by few short room cells k
-  unfolding lineWritten first_of
+  same_line : (few short room cells : Bool) (h k : Head) → (short ≡ false → few ≡ true → h ≡ k) → written_by few short room cells h ≡ written_by few short room cells k
+  unfolding line_written first_of
   same_line few true true cells h k e = refl
   same_line few true false cells h k e = refl
-  same_line true false room cells h k e = ap (written-by true false room cells) (e refl refl)
+  same_line true false room cells h k e = ap (written_by true false room cells) (e refl refl)
   same_line false false true cells h k e = refl
   same_line false false false true h k e = refl
   same_line false false false false h k e = refl
 
 -- the line of a slot with the first 32 records by value is that with the list
-pub slot-list : (head : record-of-head.Head) (ps : List record-of-preset.Preset) (t : List ℕ) (s : ℕ) (out : List ℕ) {r : Writing} {after : List ℕ}
-    → WroteLine (slotWritten (length ps) head (loaded ps) t s out) r after → WroteLine (slotWritten (length ps) head ps t s out) r after
-slot-list head ps t s out {r} {after} d =
+pub slot_list : (head : record-of-head.Head) (ps : List record-of-preset.Preset) (t : List ℕ) (s : ℕ) (out : List ℕ) {r : Writing} {after : List ℕ}
+    → WroteLine (slot_written (length ps) head (loaded ps) t s out) r after → WroteLine (slot_written (length ps) head ps t s out) r after
+slot_list head ps t s out {r} {after} d =
     subst (λ (o : WriteOutcome). WroteLine o r after)
-    (same_line head.slots t s out (leb head.count 32) (ltb (length ps) 32) (ltb (length out) 8192) (ltb (length t) 512) (headIn head (loaded ps)) (headIn head ps)
-    (λ short few. head-list head ps (le_of head.count 32 few) (ge-of (length ps) 32 short)))
+    (same_line head.slots t s out (leb head.count 32) (ltb (length ps) 32) (ltb (length out) 8192) (ltb (length t) 512) (head_in head (loaded ps)) (head_in head ps)
+    (λ short few. head_list head ps (le_of head.count 32 few) (ge_of (length ps) 32 short)))
     d

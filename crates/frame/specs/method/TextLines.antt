@@ -2,10 +2,10 @@
 -- listing, whole".
 -- Assumes nothing.
 use Rattle.std.specs.Prelude.{ℕ, ◌≤◌, ◌≡◌, List, map, true, length, drop}
-use Rattle.station.specs.Limits.{mostBytes}
+use Rattle.station.specs.Limits.{most_bytes}
 use Rattle.station.specs.Head.{Head}
 use Rattle.station.specs.Text.{lines}
-use Rattle.station.specs.Types.{headIn, validRecord}
+use Rattle.station.specs.Types.{head_in, valid_record}
 use Rattle.station.specs.Wrote.{Wrote}
 use Rattle.station.specs.declared.types.Preset as record-of-preset
 use Rattle.station.specs.declared.types.Head as record-of-head
@@ -13,28 +13,28 @@ use Rattle.placing.specs.State.{State}
 use Rattle.placing.specs.Claims.{Running}
 use Rattle.frame.specs.declared.text.lines.Lines as result
 use Rattle.frame.specs.Event.{Event, line, Run, run_of}
-use Rattle.frame.specs.Listing.{answerLines}
+use Rattle.frame.specs.Listing.{answer_lines}
 
 -- What the lines start from: the head, the table, the clock and the order of ties make a running frame, the byte and the number of the lines before it are within the text, which
 -- is not too long.
 pub record LinesStart (head : record-of-head.Head) (ps : List record-of-preset.Preset) (text : List ℕ) (from first : ℕ) (st : State) : Type 0 where
-  pub valid : validRecord head ps ≡ true
-  pub running : Running (headIn head ps) st
+  pub valid : valid_record head ps ≡ true
+  pub running : Running (head_in head ps) st
   pub few : first ≤ from
   pub inside : from ≤ length text
-  pub short : length text ≤ mostBytes
+  pub short : length text ≤ most_bytes
 
 -- the lines from a byte on, as events
-abbrev pub eventsFrom : List ℕ → ℕ → List Event
-eventsFrom text at = map line (lines (drop at text))
+abbrev pub events_from : List ℕ → ℕ → List Event
+events_from text at = map line (lines (drop at text))
 
 -- what they come to
-abbrev pub linesRun : Head → List ℕ → ℕ → State → Run
-linesRun h text from st = run_of h st (eventsFrom text from)
+abbrev pub lines_run : Head → List ℕ → ℕ → State → Run
+lines_run h text from st = run_of h st (events_from text from)
 
 -- The table is now u, and the output l is now l₁: each line from the byte on was an event, and its answer was written. `first` lines went before.
 pub record RanLines (h : Head) (text : List ℕ) (from first : ℕ) (st : State) (l : List ℕ) (position : ℕ) (u l₁ : List ℕ) (r : result.Lines) : Type 0 where
-  pub table : u ≡ (linesRun h text from st).after.table
-  pub clock : r.clock ≡ (linesRun h text from st).after.clock
-  pub hold : r.hold ≡ (linesRun h text from st).after.hold
-  pub output : Wrote l position (answerLines first (linesRun h text from st).answers) l₁ r.position
+  pub table : u ≡ (lines_run h text from st).after.table
+  pub clock : r.clock ≡ (lines_run h text from st).after.clock
+  pub hold : r.hold ≡ (lines_run h text from st).after.hold
+  pub output : Wrote l position (answer_lines first (lines_run h text from st).answers) l₁ r.position

@@ -1,10 +1,10 @@
 -- The parts of a whole text: what the code that runs one is held to.
 --
--- In order: a refusal (`refusedRun`); what a head that was read hands on (`HeadStart`).
+-- In order: a refusal (`refused_run`); what a head that was read hands on (`HeadStart`).
 -- Assumes nothing.
 use Rattle.std.specs.Prelude.{ℕ, ◌≤◌, ◌≡◌, Bool, List, length}
-use Rattle.station.specs.Limits.{leastCells}
-use Rattle.station.specs.Types.{headIn}
+use Rattle.station.specs.Limits.{least_cells}
+use Rattle.station.specs.Types.{head_in}
 use Rattle.station.specs.Writing.{text_of}
 use Rattle.station.specs.Reading.{Reading, head_of}
 use Rattle.station.specs.declared.types.Preset as record-of-preset
@@ -15,13 +15,13 @@ use Rattle.frame.specs.declared.text.Ended.TheVariants.{Refused}
 use Rattle.frame.specs.declared.text.TextRun as result
 
 -- a refusal: its line and cause, with the head, the presets, the clock and the order of ties that it leaves
-abbrev pub refusedRun : ℕ → cause.Refusal → record-of-head.Head → List record-of-preset.Preset → ℕ → Bool → result.TextRun
-refusedRun n c head ps clock hold = record { ended = Refused n c; head = head; presets = ps; clock = clock; hold = hold }
+abbrev pub refused_run : ℕ → cause.Refusal → record-of-head.Head → List record-of-preset.Preset → ℕ → Bool → result.TextRun
+refused_run n c head ps clock hold = record { ended = Refused n c; head = head; presets = ps; clock = clock; hold = hold }
 
 -- What a head that was read hands to its plan and to the lines after it: the records stand for the text's head of n lines and k bytes, and the lent table is
 -- long enough.
 pub record HeadStart (head : record-of-head.Head) (ps : List record-of-preset.Preset) (text : List ℕ) (k n : ℕ) (t : List ℕ) : Type 0 where
-  pub reads : head_of text ≡ Reading.accepted (headIn head ps) n
-  pub bytes : k ≡ length (text_of (headIn head ps))
-  pub count : head.count ≡ length (headIn head ps).presets
-  pub long : leastCells ≤ length t
+  pub reads : head_of text ≡ Reading.accepted (head_in head ps) n
+  pub bytes : k ≡ length (text_of (head_in head ps))
+  pub count : head.count ≡ length (head_in head ps).presets
+  pub long : least_cells ≤ length t

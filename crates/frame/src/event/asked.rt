@@ -1,15 +1,15 @@
 // What an event asks for, where the frame's own causes (8, a head record's 2, 11) are not tried: the causes of the event itself, and then it is carried out.
 ghost use Rattle.std.specs.Prelude.{◌≡◌, true};
 ghost use Rattle.placing.specs.State.{state_of};
-ghost use Rattle.station.specs.Types.{headIn, validRecord};
+ghost use Rattle.station.specs.Types.{head_in, valid_record};
 ghost use Rattle.placing.specs.Table.{cell};
 ghost use Rattle.placing.specs.Claims.{Running};
 ghost use Rattle.placing.specs.method.Counts.{CountsOf};
-ghost use Rattle.placing.specs.CallDone.{callAnswerIn};
+ghost use Rattle.placing.specs.CallDone.{call_answer_in};
 ghost use Rattle.frame.specs.Types.{answer_in};
 ghost use Rattle.frame.specs.Event.{answer_of};
 ghost use Rattle.frame.specs.EventDone.{Yields};
-ghost use Rattle.frame.specs.method.EventParts.{ClockDone, lineMeant};
+ghost use Rattle.frame.specs.method.EventParts.{ClockDone, line_meant};
 
 use crate::types::{Answer, Outcome};
 use placing::call::{CallAnswer, call_by_counts};
@@ -46,7 +46,7 @@ pub(crate) fn asked_clock(slots: usize, clock: usize, hold: bool, to: usize) -> 
 
 // The outcome of a call: its answer, and the clock and the order of ties as they are.
 fn call_outcome(answer: CallAnswer, clock: usize, hold: bool) -> Outcome
-    ensures { (answer_in result.answer ≡ answer_of (callAnswerIn answer)) × (result.clock ≡ clock) × (result.hold ≡ hold) }
+    ensures { (answer_in result.answer ≡ answer_of (call_answer_in answer)) × (result.clock ≡ clock) × (result.hold ≡ hold) }
 {
     match answer {
         CallAnswer::Taken(n) => answered(Answer::Taken(n), clock, hold),
@@ -68,10 +68,10 @@ pub(crate) fn event_by_counts(
     entries: &mut [u8; MOST_BRIDGES],
     line: &[u8],
 ) -> Outcome
-    ensures { validRecord head presets ≡ true → Running (headIn head presets) (state_of table.old clock hold)
-        → CountsOf (headIn head presets) clock (cell (headIn head presets) table.old) used.old admitted.old entries.old
-        → Yields (lineMeant head presets (state_of table.old clock hold) line.now) table.new result
-        × CountsOf (headIn head presets) result.clock (cell (headIn head presets) table.new) used.new admitted.new entries.new }
+    ensures { valid_record head presets ≡ true → Running (head_in head presets) (state_of table.old clock hold)
+        → CountsOf (head_in head presets) clock (cell (head_in head presets) table.old) used.old admitted.old entries.old
+        → Yields (line_meant head presets (state_of table.old clock hold) line.now) table.new result
+        × CountsOf (head_in head presets) result.clock (cell (head_in head presets) table.new) used.new admitted.new entries.new }
 {
     let read = read_event(line);
     let event = read.event;

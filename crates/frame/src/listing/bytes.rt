@@ -3,16 +3,16 @@
 // Each writer takes the output and a place, and answers the next place. It is total, as those of station's output.rt are: bytes past the end of the
 // output are left out.
 ghost use Rattle.std.specs.Prelude.{◌≡◌, ◌≤◌, ◌<◌};
-ghost use Rattle.station.specs.Limits.{mostSlots, mostBridges, mostPresets};
-ghost use Rattle.station.specs.Types.{refusalIn, presetsIn};
+ghost use Rattle.station.specs.Limits.{most_slots, most_bridges, most_presets};
+ghost use Rattle.station.specs.Types.{refusal_in, presets_in};
 ghost use Rattle.station.specs.Text.{bytes, ◌then◌};
 ghost use Rattle.station.specs.Decimal.{digits};
-ghost use Rattle.station.specs.Form.{tieLine, print};
+ghost use Rattle.station.specs.Form.{tie_line, print};
 ghost use Rattle.station.specs.Wrote.{Wrote, Left};
-ghost use Rattle.placing.specs.Table.{kind_of, numberIn, cell_at};
+ghost use Rattle.placing.specs.Table.{kind_of, number_in, cell_at};
 ghost use Rattle.frame.specs.Types.{answer_in};
-ghost use Rattle.frame.specs.Listing.{refusedLine, grantedLine, answerLine, grantedLines, cellText, cellTexts, slotLines};
-ghost use Rattle.frame.specs.method.SlotLines.{ofBridges, letterOf, lineOfSlot, linesOfSlots};
+ghost use Rattle.frame.specs.Listing.{refused_line, granted_line, answer_line, granted_lines, cell_text, cell_texts, slot_lines};
+ghost use Rattle.frame.specs.method.SlotLines.{of_bridges, letter_of, line_of_slot, lines_of_slots};
 
 use crate::types::Answer;
 use placing::cells::{BUSY_KIND, Cell, MANDATORY_KIND, OPTIONAL_KIND, kind_of, number_in};
@@ -32,7 +32,7 @@ fn number_line(out: &mut [u8], at: usize, start: &[u8], n: usize) -> usize
 
 // Writes `(refused N C)`, the line and the cause's number. Answers the next place.
 pub(crate) fn refused_line(out: &mut [u8], at: usize, line: usize, cause: Refusal) -> usize
-    ensures { Wrote out.old at (refusedLine line (refusalIn cause)) out.new result }
+    ensures { Wrote out.old at (refused_line line (refusal_in cause)) out.new result }
 {
     let n = cause_number(cause);
     let numbers = word(out, at, b"(refused ");
@@ -41,7 +41,7 @@ pub(crate) fn refused_line(out: &mut [u8], at: usize, line: usize, cause: Refusa
 
 // Writes `(tie hold)` or `(tie place)`: an accepted tie event as it came. Answers the next place.
 fn tie_line(out: &mut [u8], at: usize, hold: bool) -> usize
-    ensures { Wrote out.old at (print (tieLine hold)) out.new result }
+    ensures { Wrote out.old at (print (tie_line hold)) out.new result }
 {
     if hold {
         return word(out, at, b"(tie hold)\n");
@@ -51,7 +51,7 @@ fn tie_line(out: &mut [u8], at: usize, hold: bool) -> usize
 
 // Writes the line of an answer: `(now T)`, `(tie hold)` or `(tie place)`, `(taken K)`, or the refused line. Answers the next place.
 pub(crate) fn answer_line(out: &mut [u8], at: usize, line: usize, answer: Answer) -> usize
-    ensures { Wrote out.old at (answerLine line (answer_in answer)) out.new result }
+    ensures { Wrote out.old at (answer_line line (answer_in answer)) out.new result }
 {
     match answer {
         Answer::Now(t) => number_line(out, at, b"(now ", t),
@@ -63,7 +63,7 @@ pub(crate) fn answer_line(out: &mut [u8], at: usize, line: usize, answer: Answer
 
 // Writes `(granted N G)`, a preset's number and how many optional slots it has. Answers the next place.
 pub(crate) fn granted_line(out: &mut [u8], at: usize, preset: usize, slots: usize) -> usize
-    ensures { Wrote out.old at (grantedLine preset slots) out.new result }
+    ensures { Wrote out.old at (granted_line preset slots) out.new result }
 {
     let numbers = word(out, at, b"(granted ");
     numbers_end(out, numbers, preset, slots)
@@ -77,8 +77,8 @@ fn first_granted(
     grants: [u8; MOST_PRESETS],
     count: usize,
 ) -> usize
-    requires { count ≤ mostPresets }
-    ensures { Wrote out.old at (grantedLines grants 0 (presetsIn count presets)) out.new result }
+    requires { count ≤ most_presets }
+    ensures { Wrote out.old at (granted_lines grants 0 (presets_in count presets)) out.new result }
 {
     let mut position = at;
     let mut i = 0;
@@ -99,7 +99,7 @@ pub(crate) fn granted_lines(
     grants: [u8; MOST_PRESETS],
     count: usize,
 ) -> usize
-    ensures { Wrote out.old at (grantedLines grants 0 (presetsIn count presets)) out.new result }
+    ensures { Wrote out.old at (granted_lines grants 0 (presets_in count presets)) out.new result }
 {
     if MOST_PRESETS < count {
         return first_granted(out, at, presets, grants, MOST_PRESETS);
@@ -109,7 +109,7 @@ pub(crate) fn granted_lines(
 
 // The letter of a kind of cell that has a number.
 fn letter(kind: u16) -> u8
-    ensures { result ≡ letterOf kind }
+    ensures { result ≡ letter_of kind }
 {
     if kind == MANDATORY_KIND {
         return b'm';
@@ -132,7 +132,7 @@ fn cell_at(table: &[Cell], position: usize) -> Cell
 
 // Writes a blank and a cell: `0` empty, `-` busy, else the kind's letter and the number. Answers the next place.
 fn next_cell(out: &mut [u8], at: usize, value: Cell) -> usize
-    ensures { Wrote out.old at (bytes " " then cellText (kind_of value) (numberIn value)) out.new result }
+    ensures { Wrote out.old at (bytes " " then cell_text (kind_of value) (number_in value)) out.new result }
 {
     let kind = kind_of(value);
     if kind == 0 {
@@ -147,8 +147,8 @@ fn next_cell(out: &mut [u8], at: usize, value: Cell) -> usize
 
 // Writes the cells of a slot, counted from 0, each after a blank. Answers the next place: the end of the line is left to write.
 fn slot_cells(out: &mut [u8], at: usize, bridges: usize, table: &[Cell], slot: usize) -> usize
-    requires { (slot < mostSlots) × (bridges ≤ mostBridges) }
-    ensures { Left out.old at (cellTexts (ofBridges bridges) table.now slot 0 bridges) out.new result (bytes ")\n") }
+    requires { (slot < most_slots) × (bridges ≤ most_bridges) }
+    ensures { Left out.old at (cell_texts (of_bridges bridges) table.now slot 0 bridges) out.new result (bytes ")\n") }
 {
     let start = slot * bridges;
     let mut position = at;
@@ -170,7 +170,7 @@ pub(crate) fn slot_line(
     table: &[Cell],
     slot: usize,
 ) -> usize
-    ensures { Wrote out.old at (lineOfSlot bridges table.now slot) out.new result }
+    ensures { Wrote out.old at (line_of_slot bridges table.now slot) out.new result }
 {
     if MOST_SLOTS <= slot {
         return at;
@@ -186,8 +186,8 @@ pub(crate) fn slot_line(
 
 // Writes the lines of the first `slots` slots. Answers the next place.
 fn first_slots(out: &mut [u8], at: usize, slots: usize, bridges: usize, table: &[Cell]) -> usize
-    requires { (slots ≤ mostSlots) × (bridges ≤ mostBridges) }
-    ensures { Wrote out.old at (slotLines (ofBridges bridges) table.now 0 slots) out.new result }
+    requires { (slots ≤ most_slots) × (bridges ≤ most_bridges) }
+    ensures { Wrote out.old at (slot_lines (of_bridges bridges) table.now 0 slots) out.new result }
 {
     let mut position = at;
     let mut s = 0;
@@ -206,7 +206,7 @@ pub(crate) fn slot_lines(
     bridges: usize,
     table: &[Cell],
 ) -> usize
-    ensures { Wrote out.old at (linesOfSlots slots bridges table.now) out.new result }
+    ensures { Wrote out.old at (lines_of_slots slots bridges table.now) out.new result }
 {
     if MOST_SLOTS < slots {
         return at;

@@ -1,6 +1,6 @@
 // What the entry calls: a text with its first 32 preset records by value, where the list has as many records as are counted, and the parts of what it leaves.
 ghost use Rattle.std.specs.Prelude.{◌≡◌};
-ghost use Rattle.frame.specs.method.TextParts.{refusedRun};
+ghost use Rattle.frame.specs.method.TextParts.{refused_run};
 ghost use Rattle.frame.specs.TextEntry.{TextOnSlice, answer_of};
 
 use crate::text::{Ended, TextAnswer, TextRun, run_text_by_value};
@@ -16,7 +16,7 @@ fn refused_at_start(
     clock: usize,
     hold: bool,
 ) -> TextRun
-    ensures { result ≡ refusedRun 0 cause head copied clock hold }
+    ensures { result ≡ refused_run 0 cause head copied clock hold }
 {
     TextRun {
         ended: Ended::Refused(0, cause),

@@ -1,5 +1,5 @@
 // The lines of a text, or those after its head: each is one event, and has one line of answer.
-ghost use Rattle.station.specs.Types.{headIn};
+ghost use Rattle.station.specs.Types.{head_in};
 ghost use Rattle.placing.specs.State.{state_of};
 ghost use Rattle.frame.specs.method.TextLines.{LinesStart, RanLines};
 
@@ -34,7 +34,7 @@ pub(crate) fn run_lines(
     position: usize,
 ) -> Lines
     requires { LinesStart head presets text.now from first (state_of table.old start order) }
-    ensures { RanLines (headIn head presets) text.now from first (state_of table.old start order) out.old position table.new out.new result }
+    ensures { RanLines (head_in head presets) text.now from first (state_of table.old start order) out.old position table.new out.new result }
 {
     let mut at = from;
     let mut n = first;

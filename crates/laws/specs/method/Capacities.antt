@@ -12,10 +12,10 @@ pub record AtLeast (l : List ℕ) (n : ℕ) (x : ℕ → ℕ) : Type 0 where
   pub each : (r : ℕ) → r < 8 → get_or l r 0 ≡ count n (λ s. leb (r + 1) (x s))
 
 -- the capacity for r from it: the sum of the entries 1 to r
-abbrev pub capacityFrom : List ℕ → ℕ → ℕ
-capacityFrom l r = sum r (at l)
+abbrev pub capacity_from : List ℕ → ℕ → ℕ
+capacity_from l r = sum r (at l)
 
 -- By how much needs exceed such capacities at the worst, from the sums of the r largest for r up to
 -- 8 and all of them together: these against the capacity for 8, which is that for more.
-abbrev pub excessOver : (ℕ → ℕ) → ℕ → (ℕ → ℕ) → ℕ
-excessOver sums total limit = max (greatest 8 (λ r. sums r - limit r)) (total - limit 8)
+abbrev pub excess_over : (ℕ → ℕ) → ℕ → (ℕ → ℕ) → ℕ
+excess_over sums total limit = max (greatest 8 (λ r. sums r - limit r)) (total - limit 8)

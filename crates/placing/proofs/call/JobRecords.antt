@@ -18,15 +18,15 @@ use Rattle.station.proofs.types.Job.TheLaws as T'
 abbrev pub Jobs : RattleType
 Jobs = Array T.the_row 8
 
-abbrev pub jobs-val : List Job → Val
-jobs-val js = array_val (map (LL.val T.the_type T'.the_laws) js)
+abbrev pub jobs_val : List Job → Val
+jobs_val js = array_val (map (LL.val T.the_type T'.the_laws) js)
 
-pub jobs-tells : Tells Jobs (Is Jobs) (λ js. jobs-val js ∷ [])
-jobs-tells = Array-Tells T.the_row (LL.vals T.the_type T'.the_laws) (LL.tells T.the_type T'.the_laws) 8
+pub jobs_tells : Tells Jobs (Is Jobs) (λ js. jobs_val js ∷ [])
+jobs_tells = Array-Tells T.the_row (LL.vals T.the_type T'.the_laws) (LL.tells T.the_type T'.the_laws) 8
 
 module _ {M : Type 1} {𝓤 : Ura M} (𝓛 : Logic 𝓤) where
-  pub jobs-makes : Makes 𝓛 Jobs (Is Jobs)
-  jobs-makes = Array-Makes 𝓛 T.the_row (LL.makes T.the_type T'.the_plain 𝓛) 8
+  pub jobs_makes : Makes 𝓛 Jobs (Is Jobs)
+  jobs_makes = Array-Makes 𝓛 T.the_row (LL.makes T.the_type T'.the_plain 𝓛) 8
 
-  pub jobs-typed : (js : List Job) → Is Jobs js (jobs-val js ∷ []) → Holds (has_ty (ty_array T'.mir 8) (jobs-val js)) × WT (jobs-val js)
-  jobs-typed js is = ((Array-Lawful 𝓛 T.the_row (LL.lawful T.the_type T'.the_laws 𝓛) 8).typed js _ is).0
+  pub jobs_typed : (js : List Job) → Is Jobs js (jobs_val js ∷ []) → Holds (has_ty (ty_array T'.mir 8) (jobs_val js)) × WT (jobs_val js)
+  jobs_typed js is = ((Array-Lawful 𝓛 T.the_row (LL.lawful T.the_type T'.the_laws 𝓛) 8).typed js _ is).0

@@ -1,7 +1,7 @@
 -- The causes as the code tries them, src/check.rt: a law for each answer, and what is known where none is met.
 --
--- In order: the causes of a head record (`causes-none`), and of a running frame (`frame-..`), against those of the head that it stands for (`same-frame`, `frame-running`,
--- `running-frame`).
+-- In order: the causes of a head record (`causes_none`), and of a running frame (`frame-..`), against those of the head that it stands for (`same_frame`, `frame_running`,
+-- `running_frame`).
 -- Assumes nothing.
 use Prim.Native.Nat.{ℕ, ◌≤◌, ◌<◌}
 use mathlib.Core.Path.{◌≡◌, sym, ◌∙◌}
@@ -10,75 +10,75 @@ use mathlib.Core.Option.{Option, none, some}
 use mathlib.Core.List.{List, [], ◌∷◌}
 use lib.ListN.{length}
 use lib.Dec.{ltb}
-use Rattle.laws.proofs.Tests.{not-is-true, not-is-false, true_of_not}
-use Rattle.laws.proofs.Comparisons.{ge-of, ltb_yes, ltb_no}
+use Rattle.laws.proofs.Tests.{not_is_true, not_is_false, true_of_not}
+use Rattle.laws.proofs.Comparisons.{ge_of, ltb_yes, ltb_no}
 use Rattle.station.specs.Head.{Head}
-use Rattle.station.specs.Refusal.{Refusal, outOfLimits, tooShort, notWellFormed, try, first_of}
-use Rattle.station.proofs.Theorems.{first-of-none, passed, first-none, append-none, append-left-none}
-use Rattle.station.specs.Types.{headIn, validRecord}
+use Rattle.station.specs.Refusal.{Refusal, out_of_limits, too_short, not_well_formed, try, first_of}
+use Rattle.station.proofs.Theorems.{first_of_none, passed, first_none, append_none, append_left_none}
+use Rattle.station.specs.Types.{head_in, valid_record}
 use Rattle.station.specs.declared.types.Preset as record-of-preset
 use Rattle.station.specs.declared.types.Head as record-of-head
-use Rattle.placing.specs.State.{State, wellFormedFrame}
-use Rattle.placing.specs.Outcomes.{frameCauses}
-use Rattle.placing.specs.Causes.{causesOf, frameCausesOf}
+use Rattle.placing.specs.State.{State, well_formed_frame}
+use Rattle.placing.specs.Outcomes.{frame_causes}
+use Rattle.placing.specs.Causes.{causes_of, frame_causes_of}
 use Rattle.placing.specs.Claims.{Running}
-use Rattle.placing.proofs.Causes.{met, recordCauses, no-record-cause, running-of, of-running}
-use Rattle.placing.proofs.HeadRecord.{record-valid}
+use Rattle.placing.proofs.Causes.{met, record_causes, no_record_cause, running_of, of_running}
+use Rattle.placing.proofs.HeadRecord.{record_valid}
 
 -- ---- the causes of a head record
 
-pub causes-none : (head : record-of-head.Head) (ps : List record-of-preset.Preset) (t : List ℕ) → 512 ≤ length t → validRecord head ps ≡ true
-    → first_of (causesOf head ps t) ≡ none
-causes-none head ps t l v =
-    passed tooShort (ltb (length t) 512) _ (ltb_no (length t) 512 l)
-    ∙ passed outOfLimits (not (validRecord head ps)) [] (not-is-false _ v)
-    ∙ first-of-none
+pub causes_none : (head : record-of-head.Head) (ps : List record-of-preset.Preset) (t : List ℕ) → 512 ≤ length t → valid_record head ps ≡ true
+    → first_of (causes_of head ps t) ≡ none
+causes_none head ps t l v =
+    passed too_short (ltb (length t) 512) _ (ltb_no (length t) 512 l)
+    ∙ passed out_of_limits (not (valid_record head ps)) [] (not_is_false _ v)
+    ∙ first_of_none
 
 -- ---- the causes of a running frame
 
 module _ (head : record-of-head.Head) (ps : List record-of-preset.Preset) (st : State) where
   abbrev h : Head
-  h = headIn head ps
+  h = head_in head ps
 
   abbrev pub eleven : List (Option Refusal)
-  eleven = try notWellFormed (not (wellFormedFrame h st)) ∷ []
+  eleven = try not_well_formed (not (well_formed_frame h st)) ∷ []
 
-  pub frame-short : length st.table < 512 → some tooShort ≡ first_of (frameCausesOf head ps st)
-  frame-short l = sym (met tooShort (ltb (length st.table) 512) _ (ltb_yes (length st.table) 512 l))
+  pub frame_short : length st.table < 512 → some too_short ≡ first_of (frame_causes_of head ps st)
+  frame_short l = sym (met too_short (ltb (length st.table) 512) _ (ltb_yes (length st.table) 512 l))
 
-  pub frame-invalid : 512 ≤ length st.table → validRecord head ps ≡ false → some outOfLimits ≡ first_of (frameCausesOf head ps st)
-  frame-invalid l v =
-      sym (passed tooShort (ltb (length st.table) 512) _ (ltb_no (length st.table) 512 l) ∙ met outOfLimits (not (validRecord head ps)) _ (not-is-true _ v))
+  pub frame_invalid : 512 ≤ length st.table → valid_record head ps ≡ false → some out_of_limits ≡ first_of (frame_causes_of head ps st)
+  frame_invalid l v =
+      sym (passed too_short (ltb (length st.table) 512) _ (ltb_no (length st.table) 512 l) ∙ met out_of_limits (not (valid_record head ps)) _ (not_is_true _ v))
 
-  module _ (l : 512 ≤ length st.table) (v : validRecord head ps ≡ true) where
-    frame-last : first_of (frameCausesOf head ps st) ≡ first_of eleven
-    frame-last = append-none (causesOf head ps st.table) eleven (causes-none head ps st.table l v)
+  module _ (l : 512 ≤ length st.table) (v : valid_record head ps ≡ true) where
+    frame_last : first_of (frame_causes_of head ps st) ≡ first_of eleven
+    frame_last = append_none (causes_of head ps st.table) eleven (causes_none head ps st.table l v)
 
-    pub frame-fault : wellFormedFrame h st ≡ false → some notWellFormed ≡ first_of (frameCausesOf head ps st)
-    frame-fault e = sym (frame-last ∙ met notWellFormed (not (wellFormedFrame h st)) [] (not-is-true _ e))
+    pub frame_fault : well_formed_frame h st ≡ false → some not_well_formed ≡ first_of (frame_causes_of head ps st)
+    frame_fault e = sym (frame_last ∙ met not_well_formed (not (well_formed_frame h st)) [] (not_is_true _ e))
 
-    pub frame-passed : wellFormedFrame h st ≡ true → none ≡ first_of (frameCausesOf head ps st)
-    frame-passed e = sym (frame-last ∙ passed notWellFormed (not (wellFormedFrame h st)) [] (not-is-false _ e) ∙ first-of-none)
+    pub frame_passed : well_formed_frame h st ≡ true → none ≡ first_of (frame_causes_of head ps st)
+    frame_passed e = sym (frame_last ∙ passed not_well_formed (not (well_formed_frame h st)) [] (not_is_false _ e) ∙ first_of_none)
 
   -- what is known where no cause is met
-  pub frame-known : first_of (frameCausesOf head ps st) ≡ none → (512 ≤ length st.table) × (validRecord head ps ≡ true)
-  frame-known e =
-      let eight = first-none tooShort (ltb (length st.table) 512) _ (append-left-none (causesOf head ps st.table) eleven e) in
-      let two = first-none outOfLimits (not (validRecord head ps)) [] eight.1 in
-      (ge-of (length st.table) 512 eight.0, true_of_not _ two.0)
+  pub frame_known : first_of (frame_causes_of head ps st) ≡ none → (512 ≤ length st.table) × (valid_record head ps ≡ true)
+  frame_known e =
+      let eight = first_none too_short (ltb (length st.table) 512) _ (append_left_none (causes_of head ps st.table) eleven e) in
+      let two = first_none out_of_limits (not (valid_record head ps)) [] eight.1 in
+      (ge_of (length st.table) 512 eight.0, true_of_not _ two.0)
 
   -- where the table and the head record meet no cause, the causes of the frame are those of the head
-  pub same-frame : first_of (causesOf head ps st.table) ≡ none → first_of (frameCausesOf head ps st) ≡ first_of (frameCauses h st)
-  same-frame e =
-      let eight = first-none tooShort (ltb (length st.table) 512) _ e in
-      let two = first-none outOfLimits (not (validRecord head ps)) [] eight.1 in
-      append-none (causesOf head ps st.table) eleven e
-      ∙ sym (append-none (recordCauses h st.table) eleven
-      (no-record-cause h st.table (ge-of (length st.table) 512 eight.0) (record-valid head ps (true_of_not _ two.0))))
+  pub same_frame : first_of (causes_of head ps st.table) ≡ none → first_of (frame_causes_of head ps st) ≡ first_of (frame_causes h st)
+  same_frame e =
+      let eight = first_none too_short (ltb (length st.table) 512) _ e in
+      let two = first_none out_of_limits (not (valid_record head ps)) [] eight.1 in
+      append_none (causes_of head ps st.table) eleven e
+      ∙ sym (append_none (record_causes h st.table) eleven
+      (no_record_cause h st.table (ge_of (length st.table) 512 eight.0) (record_valid head ps (true_of_not _ two.0))))
 
   -- a frame that meets none is a running one, and a running one meets none
-  pub frame-running : first_of (frameCausesOf head ps st) ≡ none → (validRecord head ps ≡ true) × Running h st
-  frame-running e = ((frame-known e).1, running-of h st (sym (same-frame (append-left-none (causesOf head ps st.table) eleven e)) ∙ e))
+  pub frame_running : first_of (frame_causes_of head ps st) ≡ none → (valid_record head ps ≡ true) × Running h st
+  frame_running e = ((frame_known e).1, running_of h st (sym (same_frame (append_left_none (causes_of head ps st.table) eleven e)) ∙ e))
 
-  pub running-frame : validRecord head ps ≡ true → Running h st → first_of (frameCausesOf head ps st) ≡ none
-  running-frame v run = same-frame (causes-none head ps st.table run.long v) ∙ of-running h st run
+  pub running_frame : valid_record head ps ≡ true → Running h st → first_of (frame_causes_of head ps st) ≡ none
+  running_frame v run = same_frame (causes_none head ps st.table run.long v) ∙ of_running h st run

@@ -4,54 +4,54 @@ use Rattle.std.specs.Prelude.{ℕ, suc, ◌+◌, ◌-◌, ◌≤◌, ◌<◌, mi
 use Rattle.laws.specs.Sums.{bit, only, sum, count}
 use Rattle.laws.specs.Lists.{at}
 use Rattle.laws.specs.Placement.{largest}
-use Rattle.laws.specs.method.Capacities.{AtLeast, capacityFrom}
+use Rattle.laws.specs.method.Capacities.{AtLeast, capacity_from}
 use Rattle.laws.specs.method.Least.{lowest}
-use Rattle.station.specs.Limits.{mostSlots, mostBridges, mostPresets}
-use Rattle.station.specs.Head.{Head, hasBit}
+use Rattle.station.specs.Limits.{most_slots, most_bridges, most_presets}
+use Rattle.station.specs.Head.{Head, has_bit}
 use Rattle.station.specs.declared.types.Preset as types
 use Rattle.station.specs.declared.types.Head as record-of-head
-use Rattle.station.specs.Types.{headIn, validRecord}
-use Rattle.placing.specs.method.Limits.{capacityCount, mostPlaced}
+use Rattle.station.specs.Types.{head_in, valid_record}
+use Rattle.placing.specs.method.Limits.{capacity_count, most_placed}
 use Rattle.placing.specs.declared.grants.Granted as answer
-use Rattle.placing.specs.method.Mask.{bridgeMask}
-use Rattle.placing.specs.method.Records.{recordAt, priorities, rankIn}
-use Rattle.placing.specs.Plan.{planFits, planFreeCount, mandatories, needs}
-use Rattle.placing.specs.Table.{presetCount}
+use Rattle.placing.specs.method.Mask.{bridge_mask}
+use Rattle.placing.specs.method.Records.{record_at, priorities, rank_in}
+use Rattle.placing.specs.Plan.{plan_fits, plan_free_count, mandatories, needs}
+use Rattle.placing.specs.Table.{preset_count}
 use Rattle.placing.specs.Types.{filled}
 
 -- "A slot's free bridges are kept as one bit each": of slot s, from the masks of the busy slots of each bridge.
-abbrev pub freeMask : List ℕ → ℕ → ℕ → ℕ
-freeMask busy bridges s = bridgeMask bridges (λ b. not (hasBit (get_or busy b 0) s))
+abbrev pub free_mask : List ℕ → ℕ → ℕ → ℕ
+free_mask busy bridges s = bridge_mask bridges (λ b. not (has_bit (get_or busy b 0) s))
 
 -- those of each slot of the frame, and 0 past it
-abbrev pub freeMasks : ℕ → ℕ → List ℕ → List ℕ
-freeMasks slots bridges busy = filled mostSlots slots (freeMask busy bridges)
+abbrev pub free_masks : ℕ → ℕ → List ℕ → List ℕ
+free_masks slots bridges busy = filled most_slots slots (free_mask busy bridges)
 
 -- "the r largest needs together" for r up to 8, of the first k needs
 pub record Sums (k : ℕ) (needs : ℕ → ℕ) (sums : List ℕ) : Type 0 where
-  pub long : length sums ≡ capacityCount
-  pub each : (r : ℕ) → r < capacityCount → get_or sums r 0 ≡ largest k needs r
+  pub long : length sums ≡ capacity_count
+  pub each : (r : ℕ) → r < capacity_count → get_or sums r 0 ≡ largest k needs r
 
 -- the r largest needs of the others together, from the sums of all and the need m of one preset
-abbrev pub otherSum : List ℕ → ℕ → ℕ → ℕ
-otherSum sums m r = min (at sums r) (at sums (suc r) - m)
+abbrev pub other_sum : List ℕ → ℕ → ℕ → ℕ
+other_sum sums m r = min (at sums r) (at sums (suc r) - m)
 
 -- the highest need up to `limit` that fits beside the needs of the others
-abbrev pub highestIn : List ℕ → ℕ → ℕ → List ℕ → ℕ → ℕ
-highestIn sums total m entries limit =
-    min (lowest mostBridges (λ r. capacityFrom entries (suc r) - otherSum sums m r) limit) (capacityFrom entries mostBridges - (total - m))
+abbrev pub highest_in : List ℕ → ℕ → ℕ → List ℕ → ℕ → ℕ
+highest_in sums total m entries limit =
+    min (lowest most_bridges (λ r. capacity_from entries (suc r) - other_sum sums m r) limit) (capacity_from entries most_bridges - (total - m))
 
 -- the sums after one need was raised from m to `top`
 pub record Raised (sums : List ℕ) (m top : ℕ) (r : List ℕ) : Type 0 where
-  pub long : length r ≡ capacityCount
+  pub long : length r ≡ capacity_count
   pub none : at r 0 ≡ at sums 0
-  pub each : (q : ℕ) → q < mostBridges → at r (suc q) ≡ max (at sums (suc q)) (otherSum sums m q + top)
+  pub each : (q : ℕ) → q < most_bridges → at r (suc q) ≡ max (at sums (suc q)) (other_sum sums m q + top)
 
 -- what raising a need asks of the sums: the need is part of each but the first, and none is too large to add a need to it
 pub record Raisable (sums : List ℕ) (m top : ℕ) : Type 0 where
-  pub long : length sums ≡ capacityCount
-  pub part : (q : ℕ) → q < mostBridges → m ≤ at sums (suc q)
-  pub low : (q : ℕ) → q < capacityCount → at sums q ≤ 65535
+  pub long : length sums ≡ capacity_count
+  pub part : (q : ℕ) → q < most_bridges → m ≤ at sums (suc q)
+  pub low : (q : ℕ) → q < capacity_count → at sums q ≤ 65535
   pub small : top ≤ 255
 
 -- whether preset j comes before a preset of priority p on line i
@@ -60,51 +60,51 @@ earlier ps p i j = ltb (priorities ps j) (p + bit (ltb j i))
 
 -- an order of n presets: those that come before priority p and line i, each at its rank
 pub record Ordered (ps : List types.Preset) (k p i n : ℕ) (order : List ℕ) : Type 0 where
-  pub long : length order ≡ mostPresets
+  pub long : length order ≡ most_presets
   pub many : n ≡ count k (earlier ps p i)
-  pub stands : (j : ℕ) → j < k → earlier ps p i j ≡ true → get_or order (rankIn ps k j) 0 ≡ j
+  pub stands : (j : ℕ) → j < k → earlier ps p i j ≡ true → get_or order (rank_in ps k j) 0 ≡ j
 
 -- the first k presets, each at its rank
 abbrev pub OrderOf : List types.Preset → ℕ → List ℕ → Type 0
-OrderOf ps k order = (i : ℕ) → i < k → get_or order (rankIn ps k i) 0 ≡ i
+OrderOf ps k order = (i : ℕ) → i < k → get_or order (rank_in ps k i) 0 ≡ i
 
 -- What the presets of a head get in all, "in file order", in an array of 64: their mandatory slots and their grants where the mandatory slots
 -- fit, and zeros where they do not.
-abbrev pub needsOf : Head → List ℕ
-needsOf h = filled mostPlaced (only (planFits h (mandatories h)) (presetCount h)) (at (needs h))
+abbrev pub needs_of : Head → List ℕ
+needs_of h = filled most_placed (only (plan_fits h (mandatories h)) (preset_count h)) (at (needs h))
 
 -- What the loop over the ranks stands on: a head record that some text yields, its slots by their free numbers, and mandatory slots that fit.
 pub record Fitting (head : record-of-head.Head) (presets : List types.Preset) (entries : List ℕ) : Type 0 where
-  pub valid : validRecord head presets ≡ true
-  pub known : AtLeast entries head.slots (planFreeCount (headIn head presets))
-  pub start : planFits (headIn head presets) (mandatories (headIn head presets)) ≡ true
+  pub valid : valid_record head presets ≡ true
+  pub known : AtLeast entries head.slots (plan_free_count (head_in head presets))
+  pub start : plan_fits (head_in head presets) (mandatories (head_in head presets)) ≡ true
 
 -- what it starts from: the mandatory slots, their sums, and all of them together
 pub record Started (head : record-of-head.Head) (presets : List types.Preset) (mandatory start : List ℕ) (all : ℕ) : Type 0 where
-  pub needs : mandatory ≡ filled mostPlaced head.count (λ i. (recordAt presets i).mandatory)
+  pub needs : mandatory ≡ filled most_placed head.count (λ i. (record_at presets i).mandatory)
   pub sums : Sums head.count (at mandatory) start
   pub total : all ≡ sum head.count (at mandatory)
 
 -- What a head is granted: whether the mandatory slots fit, and what each preset gets.
 pub record GrantedTo (h : Head) (r : answer.Granted) : Type 0 where
-  pub fits : r.fits ≡ planFits h (mandatories h)
-  pub needs : r.needs ≡ needsOf h
+  pub fits : r.fits ≡ plan_fits h (mandatories h)
+  pub needs : r.needs ≡ needs_of h
 
 -- What `grant` answers for a head record that some text yields: what the head is granted, and for the placing the mandatory slots of its presets, the
 -- free bridges of its slots and how many of them are filled at the most.
 pub record GrantedValid (head : record-of-head.Head) (presets : List types.Preset) (r : answer.Granted) : Type 0 where
   pub valid : r.valid ≡ true
-  pub granted : GrantedTo (headIn head presets) r
-  pub mandatory : r.mandatory ≡ filled mostPlaced head.count (λ i. (recordAt presets i).mandatory)
-  pub free : r.free ≡ freeMasks head.slots head.bridges head.busy
-  pub counts : (s : ℕ) → s < head.slots → get_or r.counts s 0 ≡ planFreeCount (headIn head presets) s
+  pub granted : GrantedTo (head_in head presets) r
+  pub mandatory : r.mandatory ≡ filled most_placed head.count (λ i. (record_at presets i).mandatory)
+  pub free : r.free ≡ free_masks head.slots head.bridges head.busy
+  pub counts : (s : ℕ) → s < head.slots → get_or r.counts s 0 ≡ plan_free_count (head_in head presets) s
 
 -- and for "a head record that no text yields": nothing
-abbrev pub grantedNothing : answer.Granted
-grantedNothing = record { valid = false; fits = false; needs = replicate mostPlaced 0; mandatory = replicate mostPlaced 0; free = replicate mostSlots 0; counts = replicate mostSlots 0 }
+abbrev pub granted_nothing : answer.Granted
+granted_nothing = record { valid = false; fits = false; needs = replicate most_placed 0; mandatory = replicate most_placed 0; free = replicate most_slots 0; counts = replicate most_slots 0 }
 
 -- What `grant` answers for a head record and its preset records.
 pub record GrantedFor (head : record-of-head.Head) (presets : List types.Preset) (r : answer.Granted) : Type 0 where
-  pub valid : r.valid ≡ validRecord head presets
-  pub granted : validRecord head presets ≡ true → GrantedValid head presets r
-  pub refused : validRecord head presets ≡ false → r ≡ grantedNothing
+  pub valid : r.valid ≡ valid_record head presets
+  pub granted : valid_record head presets ≡ true → GrantedValid head presets r
+  pub refused : valid_record head presets ≡ false → r ≡ granted_nothing

@@ -2,29 +2,29 @@
 -- Assumes nothing.
 use Rattle.std.specs.Prelude.{ℕ, Bool, not, ◌&&◌, List, get_or, ltb, eqb}
 use Rattle.laws.specs.Sums.{every}
-use Rattle.station.specs.Jobs.{jobInLimits}
-use Rattle.station.specs.Types.{jobIn}
+use Rattle.station.specs.Jobs.{job_in_limits}
+use Rattle.station.specs.Types.{job_in}
 use Rattle.station.specs.declared.types.Job as record-job
 
 -- the job record at i, with what stands past the last, and its number
-abbrev pub jobRecord : List record-job.Job → ℕ → record-job.Job
-jobRecord js i = get_or js i (record { number = 0; slots = 0 })
+abbrev pub job_record : List record-job.Job → ℕ → record-job.Job
+job_record js i = get_or js i (record { number = 0; slots = 0 })
 
-abbrev pub jobNumber : List record-job.Job → ℕ → ℕ
-jobNumber js i = (jobRecord js i).number
+abbrev pub job_number : List record-job.Job → ℕ → ℕ
+job_number js i = (job_record js i).number
 
 -- the job record at i is within its limits
-abbrev pub withinAt : List record-job.Job → ℕ → Bool
-withinAt js i = jobInLimits (jobIn (jobRecord js i))
+abbrev pub within_at : List record-job.Job → ℕ → Bool
+within_at js i = job_in_limits (job_in (job_record js i))
 
 -- the number is marked in an array that has one place for each
 abbrev pub marked : List ℕ → ℕ → Bool
 marked used n = ltb 0 (get_or used n 0)
 
 -- job j has not the number n
-abbrev pub isOther : List record-job.Job → ℕ → ℕ → Bool
-isOther js n j = not (eqb (jobNumber js j) n)
+abbrev pub is_other : List record-job.Job → ℕ → ℕ → Bool
+is_other js n j = not (eqb (job_number js j) n)
 
 -- job i has a number that is not marked as used, and that no job before it has
-abbrev pub jobNew : List ℕ → List record-job.Job → ℕ → Bool
-jobNew used js i = not (marked used (jobNumber js i)) && every i (isOther js (jobNumber js i))
+abbrev pub job_new : List ℕ → List record-job.Job → ℕ → Bool
+job_new used js i = not (marked used (job_number js i)) && every i (is_other js (job_number js i))

@@ -1,11 +1,11 @@
 // The check of a table.
 ghost use Rattle.std.specs.Prelude.{◌≡◌, true, ◌+◌, ◌*◌, ◌<◌, ◌≤◌, length};
 ghost use Rattle.laws.specs.Sums.{every, count};
-ghost use Rattle.station.specs.Limits.{mostSlots, mostBridges, mostPresets, leastCells};
-ghost use Rattle.station.specs.Types.{headIn, presetIn, validRecord};
-ghost use Rattle.placing.specs.method.Check.{tally, numbered, cellFits, FirstFault, isMet, presetMet, hasCall};
-ghost use Rattle.placing.specs.method.Limits.{motorsIn};
-ghost use Rattle.placing.specs.Table.{cell, wellFormed};
+ghost use Rattle.station.specs.Limits.{most_slots, most_bridges, most_presets, least_cells};
+ghost use Rattle.station.specs.Types.{head_in, preset_in, valid_record};
+ghost use Rattle.placing.specs.method.Check.{tally, numbered, cell_fits, FirstFault, is_met, preset_met, has_call};
+ghost use Rattle.placing.specs.method.Limits.{motors_in};
+ghost use Rattle.placing.specs.Table.{cell, well_formed};
 
 use crate::cells::{BUSY, CALL, Cell, MANDATORY, OPTIONAL, VALUES, number_in};
 use crate::limits::motors;
@@ -22,7 +22,7 @@ const CALLS: usize = 512;
 
 // Whether a cell may hold v, by the counts of the presets' numbers and of the cells before it: busy just where the head says so.
 fn cell_fits(v: Cell, busy: bool, numbers: &[u8; 256], counts: &[u16; COUNTS]) -> bool
-    ensures { result ≡ cellFits numbers.now counts.now busy v }
+    ensures { result ≡ cell_fits numbers.now counts.now busy v }
 {
     if busy {
         return v == BUSY;
@@ -55,8 +55,8 @@ fn cell_fits(v: Cell, busy: bool, numbers: &[u8; 256], counts: &[u16; COUNTS]) -
 // slot's mark in `last`, so that a number which has it already stands in the slot twice. `held` counts the cells of the slot that have numbers, those that
 // presets and calls hold: where it has reached the motors that the supply feeds, one more is at fault.
 fn scan(head: Head, numbers: &[u8; 256], table: &[Cell], counts: &mut [u16; COUNTS]) -> usize
-    requires { (head.slots ≤ mostSlots) × (head.bridges ≤ mostBridges) × (leastCells ≤ length table.now) × (counts.old ≡ tally table.now 0) }
-    ensures { FirstFault head.slots head.bridges (motorsIn head) head.busy numbers.now table.now result × (counts.new ≡ tally table.now result) }
+    requires { (head.slots ≤ most_slots) × (head.bridges ≤ most_bridges) × (least_cells ≤ length table.now) × (counts.old ≡ tally table.now 0) }
+    ensures { FirstFault head.slots head.bridges (motors_in head) head.busy numbers.now table.now result × (counts.new ≡ tally table.now result) }
 {
     let slots = head.slots;
     let bridges = head.bridges;
@@ -94,8 +94,8 @@ fn scan(head: Head, numbers: &[u8; 256], table: &[Cell], counts: &mut [u16; COUN
 
 // How many presets have each number.
 fn preset_numbers(head: Head, presets: [Preset; MOST_PRESETS]) -> [u8; 256]
-    requires { head.count ≤ mostPresets }
-    ensures { result ≡ numbered (headIn head presets).presets head.count }
+    requires { head.count ≤ most_presets }
+    ensures { result ≡ numbered (head_in head presets).presets head.count }
 {
     let count = head.count;
     let mut numbers = [0u8; 256];
@@ -111,7 +111,7 @@ fn preset_numbers(head: Head, presets: [Preset; MOST_PRESETS]) -> [u8; 256]
 
 // Whether the preset has just its mandatory cells and at most its optional ones, by the counts of the table.
 fn preset_met(preset: Preset, counts: &[u16; COUNTS]) -> bool
-    ensures { result ≡ isMet counts.now (presetIn preset) }
+    ensures { result ≡ is_met counts.now (preset_in preset) }
 {
     let mandatory = preset.number as usize;
     if counts[mandatory] != preset.mandatory as u16 {
@@ -123,8 +123,8 @@ fn preset_met(preset: Preset, counts: &[u16; COUNTS]) -> bool
 
 // The same of every preset.
 fn presets_met(head: Head, presets: [Preset; MOST_PRESETS], counts: &[u16; COUNTS]) -> bool
-    requires { head.count ≤ mostPresets }
-    ensures { result ≡ every head.count (presetMet (headIn head presets).presets counts.now) }
+    requires { head.count ≤ most_presets }
+    ensures { result ≡ every head.count (preset_met (head_in head presets).presets counts.now) }
 {
     let count = head.count;
     let mut i = 0;
@@ -139,7 +139,7 @@ fn presets_met(head: Head, presets: [Preset; MOST_PRESETS], counts: &[u16; COUNT
 
 // How many job numbers the table has.
 fn job_count(counts: &[u16; COUNTS]) -> usize
-    ensures { result ≡ count 256 (hasCall counts.now) }
+    ensures { result ≡ count 256 (has_call counts.now) }
 {
     let mut jobs = 0;
     let mut n = 0;
@@ -155,8 +155,8 @@ fn job_count(counts: &[u16; COUNTS]) -> usize
 
 // Whether the table is well-formed: no cell at fault, then the presets' counts, then the number of jobs.
 pub(crate) fn well_formed(head: Head, presets: [Preset; MOST_PRESETS], table: &[Cell]) -> bool
-    requires { (validRecord head presets ≡ true) × (leastCells ≤ length table.now) }
-    ensures { result ≡ wellFormed (headIn head presets) (cell (headIn head presets) table.now) }
+    requires { (valid_record head presets ≡ true) × (least_cells ≤ length table.now) }
+    ensures { result ≡ well_formed (head_in head presets) (cell (head_in head presets) table.now) }
 {
     let cells = head.slots * head.bridges;
     let numbers = preset_numbers(head, presets);

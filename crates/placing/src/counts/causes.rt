@@ -3,12 +3,12 @@ ghost use Rattle.std.specs.Prelude.{ℕ, ◌+◌, ◌*◌, ◌<◌, ◌≤◌, �
 ghost use Rattle.std.proofs.Math.Option.{none};
 ghost use Rattle.laws.specs.Sums.{every};
 ghost use Rattle.laws.specs.Lists.{at};
-ghost use Rattle.station.specs.Limits.{mostJobs, mostFrameJobs, mostLength};
-ghost use Rattle.placing.specs.Types.{jobsIn};
-ghost use Rattle.placing.specs.Outcomes.{jobsOutside};
-ghost use Rattle.placing.specs.Causes.{causeIn, callJobs};
-ghost use Rattle.placing.specs.method.Limits.{capacityCount};
-ghost use Rattle.placing.specs.method.Jobs.{jobNumber, isOther, jobNew};
+ghost use Rattle.station.specs.Limits.{most_jobs, most_frame_jobs, most_length};
+ghost use Rattle.placing.specs.Types.{jobs_in};
+ghost use Rattle.placing.specs.Outcomes.{jobs_outside};
+ghost use Rattle.placing.specs.Causes.{cause_in, call_jobs};
+ghost use Rattle.placing.specs.method.Limits.{capacity_count};
+ghost use Rattle.placing.specs.method.Jobs.{job_number, is_other, job_new};
 ghost use Rattle.placing.specs.method.Counts.{FitBeside, CountedFit, OwnCause, CountedCause};
 
 use crate::capacities::lacks;
@@ -22,8 +22,8 @@ use station::types::{Job, Refusal};
 
 // Whether the first n jobs are no call's: none at all, or one outside its limits.
 fn jobs_outside(jobs: [Job; MOST_JOBS], n: usize) -> bool
-    requires { n ≤ mostJobs }
-    ensures { result ≡ jobsOutside (jobsIn n jobs) }
+    requires { n ≤ most_jobs }
+    ensures { result ≡ jobs_outside (jobs_in n jobs) }
 {
     if n == 0 {
         return true;
@@ -40,8 +40,8 @@ fn jobs_outside(jobs: [Job; MOST_JOBS], n: usize) -> bool
 
 // Whether no job before job i has the number of job i.
 fn is_first(jobs: [Job; MOST_JOBS], i: usize) -> bool
-    requires { i < mostJobs }
-    ensures { result ≡ every i (isOther jobs (jobNumber jobs i)) }
+    requires { i < most_jobs }
+    ensures { result ≡ every i (is_other jobs (job_number jobs i)) }
 {
     let job = jobs[i];
     let number = job.number;
@@ -58,8 +58,8 @@ fn is_first(jobs: [Job; MOST_JOBS], i: usize) -> bool
 
 // Whether one of the first n jobs has a number that is used, or that a job before it has.
 fn jobs_used(used: &[u8; 256], jobs: [Job; MOST_JOBS], n: usize) -> bool
-    requires { (n ≤ mostJobs) × (jobsOutside (jobsIn n jobs) ≡ false) }
-    ensures { result ≡ not (every n (jobNew used.now jobs)) }
+    requires { (n ≤ most_jobs) × (jobs_outside (jobs_in n jobs) ≡ false) }
+    ensures { result ≡ not (every n (job_new used.now jobs)) }
 {
     let mut i = 0;
     while i < n {
@@ -85,8 +85,8 @@ fn fits_by_counts(
     jobs: [Job; MOST_JOBS],
     n: usize,
 ) -> bool
-    requires { (n ≤ mostJobs) × (jobsOutside (jobsIn n jobs) ≡ false) × ((r : ℕ) → r < capacityCount → at sums r ≤ mostFrameJobs * mostLength) × (total ≤ mostFrameJobs * mostLength) }
-    ensures { FitBeside sums total entries.now (jobsIn n jobs) result }
+    requires { (n ≤ most_jobs) × (jobs_outside (jobs_in n jobs) ≡ false) × ((r : ℕ) → r < capacity_count → at sums r ≤ most_frame_jobs * most_length) × (total ≤ most_frame_jobs * most_length) }
+    ensures { FitBeside sums total entries.now (jobs_in n jobs) result }
 {
     let mut all = sums;
     let mut together = total;
@@ -104,8 +104,8 @@ fn fits_by_counts(
 // Whether the first n jobs fit into slots of which it is given how many have at least one, two, up to eight free bridges. Nothing is unfinished beside them, so that one job alone fits
 // where as many slots as it is long have a free bridge: the first entry.
 fn jobs_fit(entries: &[u8; MOST_BRIDGES], jobs: [Job; MOST_JOBS], n: usize) -> bool
-    requires { (n ≤ mostJobs) × (jobsOutside (jobsIn n jobs) ≡ false) }
-    ensures { CountedFit entries.now (jobsIn n jobs) result }
+    requires { (n ≤ most_jobs) × (jobs_outside (jobs_in n jobs) ≡ false) }
+    ensures { CountedFit entries.now (jobs_in n jobs) result }
 {
     if n == 1 {
         let job = jobs[0];
@@ -118,7 +118,7 @@ fn jobs_fit(entries: &[u8; MOST_BRIDGES], jobs: [Job; MOST_JOBS], n: usize) -> b
 // The causes of the first n jobs of a call, by the numbers that are used and how many of them the call cells have: 2 for a ninth job, for none, or for one outside its
 // limits, 4 for a number that is used or twice in the call, 9 for more than 64 job numbers.
 fn own_cause(used: &[u8; 256], admitted: usize, jobs: [Job; MOST_JOBS], n: usize) -> Cause
-    ensures { OwnCause used.now admitted (callJobs n jobs) result × (causeIn result ≡ none → (admitted + n ≤ mostFrameJobs) × (n ≤ mostJobs) × (jobsOutside (jobsIn n jobs) ≡ false)) }
+    ensures { OwnCause used.now admitted (call_jobs n jobs) result × (cause_in result ≡ none → (admitted + n ≤ most_frame_jobs) × (n ≤ most_jobs) × (jobs_outside (jobs_in n jobs) ≡ false)) }
 {
     if MOST_JOBS < n {
         return Cause::Met(Refusal::OutOfLimits);
@@ -143,7 +143,7 @@ pub(crate) fn cause_by_counts(
     jobs: [Job; MOST_JOBS],
     n: usize,
 ) -> Cause
-    ensures { CountedCause used.now admitted entries.now (callJobs n jobs) result × (causeIn result ≡ none → admitted + n ≤ mostFrameJobs) }
+    ensures { CountedCause used.now admitted entries.now (call_jobs n jobs) result × (cause_in result ≡ none → admitted + n ≤ most_frame_jobs) }
 {
     if let Cause::Met(r) = own_cause(used, admitted, jobs, n) {
         return Cause::Met(r);

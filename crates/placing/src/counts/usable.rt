@@ -2,9 +2,9 @@
 ghost use Rattle.std.specs.Prelude.{◌+◌, ◌≤◌, ◌≡◌, true, length};
 ghost use Rattle.laws.specs.Sums.{bit};
 ghost use Rattle.laws.specs.method.Capacities.{AtLeast};
-ghost use Rattle.station.specs.Limits.{mostBridges};
-ghost use Rattle.placing.specs.method.Limits.{sizesInLimits, motorsIn};
-ghost use Rattle.placing.specs.method.Counts.{freeCell, stayingCell, usableIn, slotFree};
+ghost use Rattle.station.specs.Limits.{most_bridges};
+ghost use Rattle.placing.specs.method.Limits.{sizes_in_limits, motors_in};
+ghost use Rattle.placing.specs.method.Counts.{free_cell, staying_cell, usable_in, slot_free};
 
 use crate::capacities::{enter_slot, leave_slot};
 use crate::cells::{Cell, is_evictable, is_held};
@@ -16,7 +16,7 @@ use station::types::Head;
 
 // 1 for a cell that stays whatever the call evicts: one that is held and that it may not evict; else 0.
 fn staying_cell(v: Cell) -> u16
-    ensures { (result ≡ bit (stayingCell v)) × (result ≤ 1) }
+    ensures { (result ≡ bit (staying_cell v)) × (result ≤ 1) }
 {
     if !is_held(v) {
         return 0;
@@ -29,7 +29,7 @@ fn staying_cell(v: Cell) -> u16
 
 // 1 for a cell that a call may use, an empty one or one that it may evict; else 0.
 fn free_cell(v: Cell) -> u16
-    ensures { (result ≡ bit (freeCell v)) × (result ≤ 1) }
+    ensures { (result ≡ bit (free_cell v)) × (result ≤ 1) }
 {
     if v == 0 {
         return 1;
@@ -43,8 +43,8 @@ fn free_cell(v: Cell) -> u16
 // How many cells of the slot whose first cell is at `from` a call may fill: the smaller of those that it may use and of the motors without the cells that stay. Always eight cells are looked
 // at, so that one vector instruction looks at all; those past the slot count for nothing.
 fn usable_in(table: &[Cell], from: usize, bridges: usize, motors: usize) -> usize
-    requires { (bridges ≤ mostBridges) × (from + mostBridges ≤ length table.now) }
-    ensures { (result ≡ usableIn table.now from bridges motors) × (result ≤ mostBridges) }
+    requires { (bridges ≤ most_bridges) × (from + most_bridges ≤ length table.now) }
+    ensures { (result ≡ usable_in table.now from bridges motors) × (result ≤ most_bridges) }
 {
     let mut free: u16 = 0;
     let mut staying: u16 = 0;
@@ -64,7 +64,7 @@ fn usable_in(table: &[Cell], from: usize, bridges: usize, motors: usize) -> usiz
 
 // How many slots above the clock have at least one, two, up to eight cells that a call may fill, of a table within the limits. The other slots are not entered.
 pub(crate) fn count_slots(head: Head, table: &[Cell], clock: usize) -> [u8; MOST_BRIDGES]
-    ensures { sizesInLimits head.slots head.bridges 0 (length table.now) ≡ true → AtLeast result head.slots (slotFree table.now head.bridges (motorsIn head) clock) }
+    ensures { sizes_in_limits head.slots head.bridges 0 (length table.now) ≡ true → AtLeast result head.slots (slot_free table.now head.bridges (motors_in head) clock) }
 {
     let slots = head.slots;
     let bridges = head.bridges;
@@ -91,8 +91,8 @@ pub fn pass_slots(
     to: usize,
     entries: &mut [u8; MOST_BRIDGES],
 )
-    ensures { sizesInLimits head.slots head.bridges 0 (length table.now) ≡ true → from ≤ to
-        → AtLeast entries.old head.slots (slotFree table.now head.bridges (motorsIn head) from) → AtLeast entries.new head.slots (slotFree table.now head.bridges (motorsIn head) to) }
+    ensures { sizes_in_limits head.slots head.bridges 0 (length table.now) ≡ true → from ≤ to
+        → AtLeast entries.old head.slots (slot_free table.now head.bridges (motors_in head) from) → AtLeast entries.new head.slots (slot_free table.now head.bridges (motors_in head) to) }
 {
     let slots = head.slots;
     let bridges = head.bridges;

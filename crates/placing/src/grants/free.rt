@@ -1,25 +1,25 @@
 // A slot's free bridges as one bit each.
 ghost use Rattle.std.specs.Prelude.{◌≡◌, not, ◌≤◌, ◌<◌};
 ghost use Rattle.laws.specs.Sums.{bit};
-ghost use Rattle.station.specs.Limits.{mostSlots, mostBridges};
-ghost use Rattle.station.specs.Head.{hasBit};
-ghost use Rattle.placing.specs.method.Grants.{freeMask, freeMasks};
+ghost use Rattle.station.specs.Limits.{most_slots, most_bridges};
+ghost use Rattle.station.specs.Head.{has_bit};
+ghost use Rattle.placing.specs.method.Grants.{free_mask, free_masks};
 
 use station::limits::{MOST_BRIDGES, MOST_SLOTS};
 use station::types::Head;
 
 // 1 where slot `s` is not among the busy ones, else 0.
 fn free_bit(busy: u64, s: usize) -> u8
-    requires { s < mostSlots }
-    ensures { (result ≡ bit (not (hasBit busy s))) × (result ≤ 1) }
+    requires { s < most_slots }
+    ensures { (result ≡ bit (not (has_bit busy s))) × (result ≤ 1) }
 {
     if (busy >> s) % 2 == 1 { 0 } else { 1 }
 }
 
 // The bridges that are not busy in slot `s`, from the busy slots of each bridge: the last bridge first, so that each step doubles the mask.
 fn slot_free(busy: &[u64; MOST_BRIDGES], bridges: usize, s: usize) -> u8
-    requires { (bridges ≤ mostBridges) × (s < mostSlots) }
-    ensures { result ≡ freeMask busy.now bridges s }
+    requires { (bridges ≤ most_bridges) × (s < most_slots) }
+    ensures { result ≡ free_mask busy.now bridges s }
 {
     let mut mask: u8 = 0;
     let mut b = bridges;
@@ -32,8 +32,8 @@ fn slot_free(busy: &[u64; MOST_BRIDGES], bridges: usize, s: usize) -> u8
 
 // The bridges that a plan may use in each slot of the frame; 0 past the frame.
 pub(crate) fn plan_free(head: Head) -> [u8; MOST_SLOTS]
-    requires { (head.slots ≤ mostSlots) × (head.bridges ≤ mostBridges) }
-    ensures { result ≡ freeMasks head.slots head.bridges head.busy }
+    requires { (head.slots ≤ most_slots) × (head.bridges ≤ most_bridges) }
+    ensures { result ≡ free_masks head.slots head.bridges head.busy }
 {
     let slots = head.slots;
     let bridges = head.bridges;

@@ -3,9 +3,9 @@
 ghost use Rattle.std.specs.Prelude.{◌≡◌, ◌&&◌, cond, ℕ, ◌-◌, ◌<◌, ◌≤◌, length, replicate, ltb, eqb};
 ghost use Rattle.laws.specs.Sums.{count};
 ghost use Rattle.laws.specs.Lists.{at};
-ghost use Rattle.station.specs.Head.{hasBit};
-ghost use Rattle.placing.specs.method.Limits.{mostPlaced, levelCount};
-ghost use Rattle.placing.specs.method.Rule.{without, firstFew, firstHeld, Levelled, Served};
+ghost use Rattle.station.specs.Head.{has_bit};
+ghost use Rattle.placing.specs.method.Limits.{most_placed, level_count};
+ghost use Rattle.placing.specs.method.Rule.{without, first_few, first_held, Levelled, Served};
 
 use crate::limits::MOST_PLACED;
 use crate::numbers::wide;
@@ -17,18 +17,18 @@ pub(crate) const LEVELS: usize = MOST_LENGTH as usize + 1;
 
 // The level of job i: what it needs.
 fn level_of(needs: &[u8; MOST_PLACED], i: usize) -> usize
-    requires { (i < mostPlaced) × (at needs.now i < levelCount) }
-    ensures { (result ≡ at needs.now i) × (result < levelCount) }
+    requires { (i < most_placed) × (at needs.now i < level_count) }
+    ensures { (result ≡ at needs.now i) × (result < level_count) }
 {
     wide(needs[i])
 }
 
 // Puts the first k jobs into levels in which nobody stands, and answers the highest level of a job, or 0.
 pub(crate) fn enter(levels: &mut [u64; LEVELS], needs: &[u8; MOST_PLACED], k: usize) -> usize
-    requires { (k ≤ mostPlaced) × ((i : ℕ) → i < k → at needs.now i < levelCount) × (levels.old ≡ replicate levelCount 0) }
-    ensures { (length levels.new ≡ levelCount)
-        × ((l i : ℕ) → hasBit (at levels.new l) i ≡ (ltb i k && eqb (at needs.now i) l))
-        × (result < levelCount) × ((i : ℕ) → i < k → at needs.now i ≤ result) }
+    requires { (k ≤ most_placed) × ((i : ℕ) → i < k → at needs.now i < level_count) × (levels.old ≡ replicate level_count 0) }
+    ensures { (length levels.new ≡ level_count)
+        × ((l i : ℕ) → has_bit (at levels.new l) i ≡ (ltb i k && eqb (at needs.now i) l))
+        × (result < level_count) × ((i : ℕ) → i < k → at needs.now i ≤ result) }
 {
     let mut top = 0;
     for i in 0..k {
@@ -43,7 +43,7 @@ pub(crate) fn enter(levels: &mut [u64; LEVELS], needs: &[u8; MOST_PLACED], k: us
 
 // The highest level from `from` down in which somebody stands that is not in the mask `served`, or 0.
 pub(crate) fn highest(levels: &[u64; LEVELS], from: usize, served: u64) -> usize
-    requires { from < levelCount }
+    requires { from < level_count }
     ensures { (result ≤ from) × ((l : ℕ) → result < l → l ≤ from → without (at levels.now l) served ≡ 0) }
 {
     let mut l = from;
@@ -66,7 +66,7 @@ pub(crate) struct First {
 
 // The first d jobs of a mask, or all of it: "Equal ones: the earlier line first". The lowest bits go one by one, which costs less than to count them.
 fn first_of(mask: u64, d: usize) -> First
-    ensures { ((i : ℕ) → i < mostPlaced → hasBit result.jobs i ≡ firstFew (hasBit mask) d i) × (result.more ≡ d - count mostPlaced (hasBit mask)) }
+    ensures { ((i : ℕ) → i < most_placed → has_bit result.jobs i ≡ first_few (has_bit mask) d i) × (result.more ≡ d - count most_placed (has_bit mask)) }
 {
     let mut rest = mask;
     let mut more = d;
@@ -88,7 +88,7 @@ fn first_of(mask: u64, d: usize) -> First
 
 // The first d jobs of a mask, those that are held before the others, or all of it.
 fn first_held(mask: u64, held: u64, d: usize) -> First
-    ensures { ((i : ℕ) → i < mostPlaced → hasBit result.jobs i ≡ firstHeld (hasBit held) (hasBit mask) d i) × (result.more ≡ d - count mostPlaced (hasBit mask)) }
+    ensures { ((i : ℕ) → i < most_placed → has_bit result.jobs i ≡ first_held (has_bit held) (has_bit mask) d i) × (result.more ≡ d - count most_placed (has_bit mask)) }
 {
     let stay = first_of(mask & held, d);
     let come = first_of(mask ^ (mask & held), stay.more);
@@ -101,9 +101,9 @@ fn first_held(mask: u64, held: u64, d: usize) -> First
 // The jobs that get one of d cells, where nobody stands above level `top`; of those that need the same the held ones go first. Each of them moves to the level below; there it is passed
 // over, since it has got a cell.
 pub(crate) fn choose(levels: &mut [u64; LEVELS], top: usize, d: usize, held: u64) -> u64
-    requires { (top < levelCount) × (length levels.old ≡ levelCount) }
-    ensures { (length levels.new ≡ levelCount)
-        × ((c : ℕ → ℕ) → Levelled levels.old c → ((i : ℕ) → i < mostPlaced → c i ≤ top) → Served levels.new c (hasBit held) d result) }
+    requires { (top < level_count) × (length levels.old ≡ level_count) }
+    ensures { (length levels.new ≡ level_count)
+        × ((c : ℕ → ℕ) → Levelled levels.old c → ((i : ℕ) → i < most_placed → c i ≤ top) → Served levels.new c (has_bit held) d result) }
 {
     let mut served: u64 = 0;
     let mut rest = d;

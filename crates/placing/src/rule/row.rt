@@ -2,11 +2,11 @@
 ghost use Rattle.std.specs.Prelude.{◌≡◌, false, ℕ, ◌+◌, ◌-◌, ◌<◌, ◌≤◌, length, set};
 ghost use Rattle.laws.specs.Sums.{bit};
 ghost use Rattle.laws.specs.Lists.{at};
-ghost use Rattle.laws.specs.Cells.{slotCell};
-ghost use Rattle.station.specs.Limits.{mostBridges};
-ghost use Rattle.station.specs.Head.{hasBit};
-ghost use Rattle.placing.specs.method.Limits.{mostPlaced};
-ghost use Rattle.placing.specs.method.Rule.{dueCells, RowWritten, emptied, EmptyRow};
+ghost use Rattle.laws.specs.Cells.{slot_cell};
+ghost use Rattle.station.specs.Limits.{most_bridges};
+ghost use Rattle.station.specs.Head.{has_bit};
+ghost use Rattle.placing.specs.method.Limits.{most_placed};
+ghost use Rattle.placing.specs.method.Rule.{due_cells, RowWritten, emptied, EmptyRow};
 
 use crate::cells::Cell;
 use crate::limits::MOST_PLACED;
@@ -19,8 +19,8 @@ fn next_cell(
     late: &[Cell; MOST_PLACED],
     i: usize,
 ) -> Cell
-    requires { (i < mostPlaced) × (length due.old ≡ mostPlaced) }
-    ensures { (result ≡ dueCells due.old early.now late.now i)
+    requires { (i < most_placed) × (length due.old ≡ most_placed) }
+    ensures { (result ≡ due_cells due.old early.now late.now i)
         × (due.new ≡ set due.old i (at due.old i - 1)) }
 {
     let rest = due[i];
@@ -34,9 +34,9 @@ fn next_cell(
 // Empties those bridges of the row that starts at `start` which are left in the mask; the others keep their cells. Where the supply feeds every bridge, the jobs have taken every free one of most slots,
 // so that it goes from one bridge of the mask to the next.
 fn empty_row(table: &mut [Cell], start: usize, bridges: usize, mask: u8)
-    requires { (bridges ≤ mostBridges) × (start + bridges ≤ length table.old) }
+    requires { (bridges ≤ most_bridges) × (start + bridges ≤ length table.old) }
     ensures { RowWritten table.old table.new start bridges
-        (emptied (hasBit mask) (λ b. at table.old (start + b))) }
+        (emptied (has_bit mask) (λ b. at table.old (start + b))) }
 {
     let mut rest = mask;
     while 0 < rest {
@@ -61,12 +61,12 @@ pub(crate) fn write_row(
     late: &[Cell; MOST_PLACED],
     empties: bool,
 )
-    requires { (bridges ≤ mostBridges) × (start + bridges ≤ length table.old) × (length due.old ≡ mostPlaced) }
-    ensures { (length table.new ≡ length table.old) × (length due.new ≡ mostPlaced)
-        × ((i : ℕ) → at due.new i ≡ at due.old i - bit (hasBit chosen i))
-        × ((empties ≡ false → EmptyRow table.old start bridges (hasBit mask))
+    requires { (bridges ≤ most_bridges) × (start + bridges ≤ length table.old) × (length due.old ≡ most_placed) }
+    ensures { (length table.new ≡ length table.old) × (length due.new ≡ most_placed)
+        × ((i : ℕ) → at due.new i ≡ at due.old i - bit (has_bit chosen i))
+        × ((empties ≡ false → EmptyRow table.old start bridges (has_bit mask))
         → RowWritten table.old table.new start bridges
-        (slotCell mostPlaced (hasBit chosen) (hasBit mask) (dueCells due.old early.now late.now)
+        (slot_cell most_placed (has_bit chosen) (has_bit mask) (due_cells due.old early.now late.now)
         (λ b. at table.old (start + b)))) }
 {
     let mut free = mask;

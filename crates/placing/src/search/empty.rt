@@ -1,9 +1,9 @@
 // The empty cells that a call may use: a mask for each slot, and how many motors it has to spare.
 ghost use Rattle.std.specs.Prelude.{ℕ, ◌+◌, ◌*◌, ◌-◌, ◌^◌, ◌%◌, ◌<◌, ◌≤◌, min, ◌≡◌, length, get_or, ltb};
 ghost use Rattle.laws.specs.Sums.{bit, only};
-ghost use Rattle.station.specs.Limits.{mostSlots, mostBridges, leastCells};
+ghost use Rattle.station.specs.Limits.{most_slots, most_bridges, least_cells};
 ghost use Rattle.placing.specs.Table.{is_held};
-ghost use Rattle.placing.specs.method.Search.{firstSlot, emptyMask, heldFrom, slotMask};
+ghost use Rattle.placing.specs.method.Search.{first_slot, empty_mask, held_from, slot_mask};
 
 use crate::cells::{Cell, is_held};
 use crate::numbers::{less, smaller};
@@ -11,7 +11,7 @@ use station::limits::{MOST_BRIDGES, MOST_SLOTS};
 
 // The bit of a bridge in a mask.
 pub(crate) fn bridge_bit(b: usize) -> u8
-    requires { b < mostBridges }
+    requires { b < most_bridges }
     ensures { result ≡ 2 ^ b }
 {
     1u8 << b
@@ -26,7 +26,7 @@ pub(crate) struct Found {
 
 // Of a mask the bits of the first bridges. (2 to the power of 8 is no number of a byte.)
 fn first_bridges(mask: u8, bridges: usize) -> u8
-    requires { bridges ≤ mostBridges }
+    requires { bridges ≤ most_bridges }
     ensures { result ≡ mask % 2 ^ bridges }
 {
     if bridges == MOST_BRIDGES {
@@ -48,8 +48,8 @@ fn held_cell(v: Cell) -> usize
 // What stands in the bridges from a place of the table on. Eight cells are looked at whatever the number of bridges, since a loop of a fixed
 // length takes half the time; of those past the slot nothing is kept.
 fn found_in(table: &[Cell], from: usize, bridges: usize) -> Found
-    requires { (bridges ≤ mostBridges) × (from + mostBridges ≤ length table.now) }
-    ensures { (result.empty ≡ emptyMask table.now from bridges) × (result.held ≡ heldFrom table.now from bridges) }
+    requires { (bridges ≤ most_bridges) × (from + most_bridges ≤ length table.now) }
+    ensures { (result.empty ≡ empty_mask table.now from bridges) × (result.held ≡ held_from table.now from bridges) }
 {
     let mut mask = 0u8;
     let mut held = 0;
@@ -72,7 +72,7 @@ fn found_in(table: &[Cell], from: usize, bridges: usize) -> Found
 
 // The first slot above the clock, counted from 0, and `slots` where there is none.
 pub(crate) fn first_slot(clock: usize, slots: usize) -> usize
-    ensures { result ≡ min (firstSlot clock) slots }
+    ensures { result ≡ min (first_slot clock) slots }
 {
     smaller(clock, slots)
 }
@@ -86,8 +86,8 @@ pub(crate) fn slot_masks(
     slots: usize,
     spare: &mut [usize; MOST_SLOTS],
 ) -> [u8; MOST_SLOTS]
-    requires { (bridges ≤ mostBridges) × (slots ≤ mostSlots) × (leastCells ≤ length table.now) × (length spare.old ≡ mostSlots) }
-    ensures { ((s : ℕ) → get_or result s 0 ≡ only (ltb s slots) (slotMask table.now bridges clock s)) × ((s : ℕ) → firstSlot clock ≤ s → s < slots → get_or spare.new s 0 ≡ motors - heldFrom table.now (s * bridges) bridges) }
+    requires { (bridges ≤ most_bridges) × (slots ≤ most_slots) × (least_cells ≤ length table.now) × (length spare.old ≡ most_slots) }
+    ensures { ((s : ℕ) → get_or result s 0 ≡ only (ltb s slots) (slot_mask table.now bridges clock s)) × ((s : ℕ) → first_slot clock ≤ s → s < slots → get_or spare.new s 0 ≡ motors - held_from table.now (s * bridges) bridges) }
 {
     let mut out = [0u8; MOST_SLOTS];
     let mut s = first_slot(clock, slots);

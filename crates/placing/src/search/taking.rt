@@ -1,11 +1,11 @@
 // The walk over the optional cells in eviction order: a cell that lowers the shortage is evicted.
 ghost use Rattle.std.specs.Prelude.{ℕ, ◌+◌, ◌*◌, ◌-◌, ◌<◌, ◌≤◌, ◌≡◌, true, List, [], ◌∷◌, length, get_or};
-ghost use Rattle.station.specs.Limits.{mostBridges, mostPresets};
-ghost use Rattle.station.specs.Types.{headIn};
-ghost use Rattle.placing.specs.method.Limits.{sizesInLimits};
+ghost use Rattle.station.specs.Limits.{most_bridges, most_presets};
+ghost use Rattle.station.specs.Types.{head_in};
+ghost use Rattle.placing.specs.method.Limits.{sizes_in_limits};
 ghost use Rattle.placing.specs.Table.{cell};
-ghost use Rattle.placing.specs.Call.{CellPlace, downward, evictionOrder};
-ghost use Rattle.placing.specs.method.Search.{searchOf, Stands, shortFor, keptIn, walked, Walked, Chain, Chains, Linked, answered};
+ghost use Rattle.placing.specs.Call.{CellPlace, downward, eviction_order};
+ghost use Rattle.placing.specs.method.Search.{search_of, Stands, short_for, kept_in, walked, Walked, Chain, Chains, Linked, answered};
 
 use crate::capacities::lacks;
 use crate::cells::Cell;
@@ -34,8 +34,8 @@ fn try_cell(
     slot: usize,
     bridge: usize,
 ) -> Tally
-    requires { (slot < demand.slots) × (bridge < mostBridges) × (0 < kept.short) × Stands demand (searchOf free.old counts.old entries.old kept) }
-    ensures { Walked demand (record { slot = slot; bridge = bridge } ∷ []) (searchOf free.old counts.old entries.old kept) (searchOf free.new counts.new entries.new result) }
+    requires { (slot < demand.slots) × (bridge < most_bridges) × (0 < kept.short) × Stands demand (search_of free.old counts.old entries.old kept) }
+    ensures { Walked demand (record { slot = slot; bridge = bridge } ∷ []) (search_of free.old counts.old entries.old kept) (search_of free.new counts.new entries.new result) }
 {
     let sums = demand.sums;
     let x = counts[slot];
@@ -65,8 +65,8 @@ fn through_chain(
     entries: &mut [u8; MOST_BRIDGES],
     kept: Tally,
 ) -> Tally
-    requires { (from ≤ demand.slots * mostBridges) × ((c : ℕ) → get_or next.now c 0 ≤ c) × Stands demand (searchOf free.old counts.old entries.old kept) }
-    ensures { Stands demand (searchOf free.new counts.new entries.new result) × ((zs : List CellPlace) → Chain next.now from zs → Walked demand zs (searchOf free.old counts.old entries.old kept) (searchOf free.new counts.new entries.new result)) }
+    requires { (from ≤ demand.slots * most_bridges) × ((c : ℕ) → get_or next.now c 0 ≤ c) × Stands demand (search_of free.old counts.old entries.old kept) }
+    ensures { Stands demand (search_of free.new counts.new entries.new result) × ((zs : List CellPlace) → Chain next.now from zs → Walked demand zs (search_of free.old counts.old entries.old kept) (search_of free.new counts.new entries.new result)) }
 {
     let mut current = kept;
     let mut c = from;
@@ -102,8 +102,8 @@ fn through_ranks(
     entries: &mut [u8; MOST_BRIDGES],
     kept: Tally,
 ) -> Tally
-    requires { (n ≤ mostPresets) × Linked first.now next.now (demand.slots * mostBridges) × Stands demand (searchOf free.old counts.old entries.old kept) }
-    ensures { (of : ℕ → List CellPlace) → Chains first.now next.now of → Walked demand (downward n of) (searchOf free.old counts.old entries.old kept) (searchOf free.new counts.new entries.new result) }
+    requires { (n ≤ most_presets) × Linked first.now next.now (demand.slots * most_bridges) × Stands demand (search_of free.old counts.old entries.old kept) }
+    ensures { (of : ℕ → List CellPlace) → Chains first.now next.now of → Walked demand (downward n of) (search_of free.old counts.old entries.old kept) (search_of free.new counts.new entries.new result) }
 {
     let mut current = kept;
     let mut r = n;
@@ -135,8 +135,8 @@ pub(crate) fn walk(
     demand: Demand,
     start: Search,
 ) -> Evicted
-    requires { (sizesInLimits head.slots head.bridges head.count (length table.now) ≡ true) × (demand.slots ≡ head.slots) × Stands demand start }
-    ensures { result ≡ answered demand (walked (shortFor demand) (evictionOrder (headIn head presets) clock (cell (headIn head presets) table.now)) (keptIn start)) }
+    requires { (sizes_in_limits head.slots head.bridges head.count (length table.now) ≡ true) × (demand.slots ≡ head.slots) × Stands demand start }
+    ensures { result ≡ answered demand (walked (short_for demand) (eviction_order (head_in head presets) clock (cell (head_in head presets) table.now)) (kept_in start)) }
 {
     let count = head.count;
     let mut free = start.free;

@@ -1,6 +1,6 @@
 -- `head_rows` meets its contract: no cause refuses the writing. Assumes nothing.
 use borrow.Author.Rules.{rules}
-use Rattle.rows.proofs.Outputs.{rows-stand}
+use Rattle.rows.proofs.Outputs.{rows_stand}
 use Rattle.rows.proofs.head_rows.Statement.{statement}
 use Rattle.rows.proofs.head_rows.Tie as tie
 
@@ -18,7 +18,7 @@ returns c =
     let w = c.before.before.before in
     let s = w.before.before.before in
     let a = s.args in
-    rows-stand a.out.now s.requires.1 a.head a.presets s.requires.0 w.write-rows-by-value.result w.write-rows-by-value.ensures c.length-in.ensures
+    rows_stand a.out.now s.requires.1 a.head a.presets s.requires.0 w.write-rows-by-value.result w.write-rows-by-value.ensures c.length-in.ensures
 
-pub head-rows-spec : {M : Type 1} → statement M
-head-rows-spec = tie.close (tie.spec write-rows-by-value-requires length-in-requires same_length returns)
+pub head_rows_spec : {M : Type 1} → statement M
+head_rows_spec = tie.close (tie.spec write-rows-by-value-requires length-in-requires same_length returns)

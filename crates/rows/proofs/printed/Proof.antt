@@ -2,8 +2,8 @@
 use mathlib.Core.Path.{sym, ◌∙◌}
 use borrow.Author.Rules.{rules}
 use lib.Seq.{length-take-le}
-use Rattle.station.proofs.Theorems.{read-accepted, read-refused}
-use Rattle.rows.proofs.Outputs.{read-record, printed-refused, printed-rows, printed-alone}
+use Rattle.station.proofs.Theorems.{read_accepted, read_refused}
+use Rattle.rows.proofs.Outputs.{read_record, printed_refused, printed_rows, printed_alone}
 use Rattle.rows.proofs.printed.Statement.{statement}
 use Rattle.rows.proofs.printed.Tie as tie
 
@@ -32,9 +32,9 @@ returns c =
     let f = c.before.before in
     let r = f.before.before.before.before.before.before.before in
     let e = r.before.before in
-    let h = read-refused _ _ _ r.read-head-by-value.result _ _ r.read-head-by-value.ensures f.before.before.before.answer.given.1 in
+    let h = read_refused _ _ _ r.read-head-by-value.result _ _ r.read-head-by-value.ensures f.before.before.before.answer.given.1 in
     let w = f.refused.ensures in
-    (w.inside, w.bytes ∙ sym (printed-refused _ _ e.empty-line.ensures.1 _ _ h.reads))
+    (w.inside, w.bytes ∙ sym (printed_refused _ _ e.empty-line.ensures.1 _ _ h.reads))
 
 enum_told : tie.Need-enum-told
 enum_told c = search rules
@@ -55,8 +55,8 @@ rows-in-place-requires : tie.Need-rows-in-place-requires
 rows-in-place-requires c κs =
     let d = c.before.before.before in
     let r = d.before.before.before.before in
-    let h = read-accepted _ _ _ r.read-head-by-value.result _ _ r.read-head-by-value.ensures d.enum_told.given.1 in
-    (read-record h, r.before.before.before.before.before.requires)
+    let h = read_accepted _ _ _ r.read-head-by-value.result _ _ r.read-head-by-value.ensures d.enum_told.given.1 in
+    (read_record h, r.before.before.before.before.before.requires)
 
 same-length-2 : tie.Need-same-length-2
 same-length-2 c = search rules
@@ -68,16 +68,16 @@ returns-2 c =
     let d = i.before in
     let r = d.before.before.before.before in
     let e = r.before.before in
-    let h = read-accepted _ _ _ r.read-head-by-value.result _ _ r.read-head-by-value.ensures d.enum_told.given.1 in
+    let h = read_accepted _ _ _ r.read-head-by-value.result _ _ r.read-head-by-value.ensures d.enum_told.given.1 in
     let w = f.rows-in-place.ensures in
-    (w.inside, w.bytes ∙ sym (printed-rows _ _ e.empty-line.ensures.1 _ _ i.if1.true h.reads))
+    (w.inside, w.bytes ∙ sym (printed_rows _ _ e.empty-line.ensures.1 _ _ i.if1.true h.reads))
 
 head-rows-requires : tie.Need-head-rows-requires
 head-rows-requires c κs =
     let d = c.before.before in
     let r = d.before.before.before.before in
-    let h = read-accepted _ _ _ r.read-head-by-value.result _ _ r.read-head-by-value.ensures d.enum_told.given.1 in
-    (read-record h, r.before.before.before.before.before.requires)
+    let h = read_accepted _ _ _ r.read-head-by-value.result _ _ r.read-head-by-value.ensures d.enum_told.given.1 in
+    (read_record h, r.before.before.before.before.before.requires)
 
 same-length-3 : tie.Need-same-length-3
 same-length-3 c = search rules
@@ -89,12 +89,12 @@ returns-3 c =
     let d = i.before in
     let r = d.before.before.before.before in
     let e = r.before.before in
-    let h = read-accepted _ _ _ r.read-head-by-value.result _ _ r.read-head-by-value.ensures d.enum_told.given.1 in
+    let h = read_accepted _ _ _ r.read-head-by-value.result _ _ r.read-head-by-value.ensures d.enum_told.given.1 in
     let w = f.head_rows.ensures in
-    (w.inside, w.bytes ∙ sym (printed-alone _ _ e.empty-line.ensures.1 _ _ i.if1.false h.reads))
+    (w.inside, w.bytes ∙ sym (printed_alone _ _ e.empty-line.ensures.1 _ _ i.if1.false h.reads))
 
-pub printed-spec : {M : Type 1} → statement M
-printed-spec =
+pub printed_spec : {M : Type 1} → statement M
+printed_spec =
     tie.close
     (tie.spec
     empty-line-requires

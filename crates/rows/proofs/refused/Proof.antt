@@ -1,6 +1,6 @@
 -- `refused` meets its contract: an output as long as this has room for the line. Assumes nothing.
 use borrow.Author.Rules.{rules}
-use Rattle.rows.proofs.Outputs.{refusal-stands}
+use Rattle.rows.proofs.Outputs.{refusal_stands}
 use Rattle.rows.proofs.refused.Statement.{statement}
 use Rattle.rows.proofs.refused.Tie as tie
 
@@ -18,7 +18,7 @@ returns c =
     let w = c.before.before.before in
     let s = w.before.before.before in
     let a = s.args in
-    refusal-stands a.out.now s.requires a.line a.cause w.write-answer.result w.write-answer.ensures c.length-in.ensures
+    refusal_stands a.out.now s.requires a.line a.cause w.write-answer.result w.write-answer.ensures c.length-in.ensures
 
-pub refused-spec : {M : Type 1} → statement M
-refused-spec = tie.close (tie.spec write-answer-requires length-in-requires same_length returns)
+pub refused_spec : {M : Type 1} → statement M
+refused_spec = tie.close (tie.spec write-answer-requires length-in-requires same_length returns)

@@ -1,6 +1,6 @@
 -- `rows_in_place` meets its contract: by what the reading of the rows tells, for each of its two answers. Assumes nothing.
 use borrow.Author.Rules.{rules}
-use Rattle.rows.proofs.Outputs.{rows-refused, rows-accepted}
+use Rattle.rows.proofs.Outputs.{rows_refused_lem, rows_accepted_lem}
 use Rattle.rows.proofs.rows_in_place.Statement.{statement}
 use Rattle.rows.proofs.rows_in_place.Tie as tie
 
@@ -21,7 +21,7 @@ head-text-requires c κs =
     let r = c.before.before.before.before in
     let s = r.before.before.before in
     let a = s.args in
-    ((rows-accepted a.head a.presets s.requires.0 a.rows.now r.read-rows-by-value.result r.read-rows-by-value.ensures _ c.before.enum_told.given.1).1, s.requires.1)
+    ((rows_accepted_lem a.head a.presets s.requires.0 a.rows.now r.read-rows-by-value.result r.read-rows-by-value.ensures _ c.before.enum_told.given.1).1, s.requires.1)
 
 same_length : tie.Need-same-length
 same_length c = search rules
@@ -32,7 +32,7 @@ returns c =
     let r = f.before.before.before.before.before.before in
     let s = r.before.before.before in
     let a = s.args in
-    let e = rows-refused a.head a.presets s.requires.0 a.rows.now r.read-rows-by-value.result r.read-rows-by-value.ensures _ _ f.before.before.before.answer.given.1 in
+    let e = rows_refused_lem a.head a.presets s.requires.0 a.rows.now r.read-rows-by-value.result r.read-rows-by-value.ensures _ _ f.before.before.before.answer.given.1 in
     rw e f.refused.ensures
 
 same-length-2 : tie.Need-same-length-2
@@ -44,11 +44,11 @@ returns-2 c =
     let r = f.before.before.before.before.before in
     let s = r.before.before.before in
     let a = s.args in
-    let e = (rows-accepted a.head a.presets s.requires.0 a.rows.now r.read-rows-by-value.result r.read-rows-by-value.ensures _ f.before.before.enum_told.given.1).0 in
+    let e = (rows_accepted_lem a.head a.presets s.requires.0 a.rows.now r.read-rows-by-value.result r.read-rows-by-value.ensures _ f.before.before.enum_told.given.1).0 in
     rw e f.head-text.ensures
 
-pub rows-in-place-spec : {M : Type 1} → statement M
-rows-in-place-spec =
+pub rows_in_place_spec : {M : Type 1} → statement M
+rows_in_place_spec =
     tie.close
     (tie.spec
     read-rows-by-value-requires

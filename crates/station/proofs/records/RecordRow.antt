@@ -15,7 +15,7 @@ use denote.RattleType.{RattleType}
 use denote.Array.{Array, array_val, Array-Tells, Array-Lawful, Array-Makes}
 use denote.Laws.{Is, Tells, Makes, Copy}
 use denote.Struct.Laws as LL
-use Rattle.station.specs.Types.{noRecord}
+use Rattle.station.specs.Types.{no_record}
 use Rattle.station.specs.declared.types.Preset.{Preset}
 use Rattle.station.specs.declared.types.Head.{Head}
 use Rattle.station.specs.contracts.types.Head as Hd
@@ -45,45 +45,45 @@ typed r is = let fields = LL.owed T.the_type T'.the_laws r (vals r) is in
     (tt, (record { fits = fields.0.1 }, (record { fits = fields.1.0.1 }, (record { fits = fields.1.1.0.1 }, (record { fits = fields.1.1.1.0.1 }, tt)))))
 
 -- the record of zeros is one
-pub zeros-are : Is T.the_row noRecord (vals noRecord)
-zeros-are = LL.owes T.the_type T'.the_laws noRecord ((refl, lit< tt), ((refl, lit< tt), ((refl, lit< tt), ((refl, lit< tt), tt))))
+pub zeros_are : Is T.the_row no_record (vals no_record)
+zeros_are = LL.owes T.the_type T'.the_laws no_record ((refl, lit< tt), ((refl, lit< tt), ((refl, lit< tt), ((refl, lit< tt), tt))))
 
 -- ---- the copied
 
 abbrev pub Bank : RattleType
 Bank = Array T.the_row 32
 
-abbrev pub copied-mir : Ty
-copied-mir = ty_array T'.mir 32
+abbrev pub copied_mir : Ty
+copied_mir = ty_array T'.mir 32
 
-abbrev pub copied-val : List Preset → Val
-copied-val ps = array_val (map val ps)
+abbrev pub copied_val : List Preset → Val
+copied_val ps = array_val (map val ps)
 
-pub copied-tells : Tells Bank (Is Bank) (λ ps. copied-val ps ∷ [])
-copied-tells = Array-Tells T.the_row vals tells 32
+pub copied_tells : Tells Bank (Is Bank) (λ ps. copied_val ps ∷ [])
+copied_tells = Array-Tells T.the_row vals tells 32
 
 module _ {M : Type 1} {𝓤 : Ura M} (𝓛 : Logic 𝓤) where
-  pub copied-makes : Makes 𝓛 Bank (Is Bank)
-  copied-makes = Array-Makes 𝓛 T.the_row (makes 𝓛) 32
+  pub copied_makes : Makes 𝓛 Bank (Is Bank)
+  copied_makes = Array-Makes 𝓛 T.the_row (makes 𝓛) 32
 
-  pub copied-typed : (ps : List Preset) → Is Bank ps (copied-val ps ∷ []) → Holds (has_ty copied-mir (copied-val ps)) × WT (copied-val ps)
-  copied-typed ps is = ((Array-Lawful 𝓛 T.the_row (LL.lawful T.the_type T'.the_laws 𝓛) 32).typed ps _ is).0
+  pub copied_typed : (ps : List Preset) → Is Bank ps (copied_val ps ∷ []) → Holds (has_ty copied_mir (copied_val ps)) × WT (copied_val ps)
+  copied_typed ps is = ((Array-Lawful 𝓛 T.the_row (LL.lawful T.the_type T'.the_laws 𝓛) 32).typed ps _ is).0
 
 -- a copied has 32 records
-pub copied-length : (ps : List Preset) → Is Bank ps (copied-val ps ∷ []) → length ps ≡ 32
-copied-length ps is = is.1.0.1
+pub copied_length : (ps : List Preset) → Is Bank ps (copied_val ps ∷ []) → length ps ≡ 32
+copied_length ps is = is.1.0.1
 
 -- ---- the head record
 
-abbrev pub head-val : Head → Val
-head-val = Hd'.lowered
+abbrev pub head_val : Head → Val
+head_val = Hd'.lowered
 
-pub head-tells : Tells Hd.the_row (Is Hd.the_row) (λ h. head-val h ∷ [])
-head-tells = (Hd'.lowers).val_is
+pub head_tells : Tells Hd.the_row (Is Hd.the_row) (λ h. head_val h ∷ [])
+head_tells = (Hd'.lowers).val_is
 
 module _ {M : Type 1} {𝓤 : Ura M} (𝓛 : Logic 𝓤) where
-  pub head-makes : Makes 𝓛 Hd.the_row (Is Hd.the_row)
-  head-makes = LL.makes Hd.the_type Hd'.the_plain 𝓛
+  pub head_makes : Makes 𝓛 Hd.the_row (Is Hd.the_row)
+  head_makes = LL.makes Hd.the_type Hd'.the_plain 𝓛
 
-  pub head-typed : (h : Head) → Is Hd.the_row h (head-val h ∷ []) → Holds (has_ty Hd'.mir (head-val h)) × WT (head-val h)
-  head-typed h is = ((LL.lawful Hd.the_type Hd'.the_laws 𝓛).typed h _ is).0
+  pub head_typed : (h : Head) → Is Hd.the_row h (head_val h ∷ []) → Holds (has_ty Hd'.mir (head_val h)) × WT (head_val h)
+  head_typed h is = ((LL.lawful Hd.the_type Hd'.the_laws 𝓛).typed h _ is).0

@@ -1,9 +1,9 @@
 -- Rows by computing: the lines that have a row's form and those that have none; texts read into a head, accepted with its masks or refused at the first row at fault; what
 -- is written of masks; what the entries try before any row.
 --
--- In order: what computes (`readsRow`, `readsRows`, `writesRows`, `triesRecord`, for `unfolding` lines); lines read (`lines-read`); where a text is cut (`text-cut`); whole
--- texts read into a head of 4 slots and 2 bridges with a busy slot (`texts-read`), and into one of 64 slots and 8 bridges (`widest-read`); what is written (`masks-written`,
--- `rows-longest`); the entries (`entries-too-long`, `entries-tried`, `entries-left`, `entries-wrote`).
+-- In order: what computes (`reads_row`, `reads_rows`, `writes_rows`, `tries_record`, for `unfolding` lines); lines read (`lines_read`); where a text is cut (`text_cut`); whole
+-- texts read into a head of 4 slots and 2 bridges with a busy slot (`texts_read`), and into one of 64 slots and 8 bridges (`widest_read`); what is written (`masks_written`,
+-- `rows_longest`); the entries (`entries_too_long`, `entries_tried`, `entries_left`, `entries_wrote`).
 -- Assumes nothing.
 use Prim.Native.Nat.{ℕ}
 use Prim.Native.String.{String}
@@ -12,44 +12,44 @@ use mathlib.Core.Bool.{Bool, true}
 use mathlib.Core.Option.{Option, none, some}
 use mathlib.Core.List.{List, [], ◌∷◌, ◌++◌, map}
 use lib.ListN.{length, replicate}
-use Rattle.station.specs.Head.{Head, presetOf, bareHead, withSupply, withTie, withBusy, withPresets, valid, hasNumber, allInLimits, allDistinct, masksIn}
-use Rattle.station.specs.Refusal.{Refusal, no_row, outOfLimits, tooShort, textTooLong, first_of}
+use Rattle.station.specs.Head.{Head, preset_of, bare_head, with_supply, with_tie, with_busy, with_presets, valid, has_number, all_in_limits, all_distinct, masks_in}
+use Rattle.station.specs.Refusal.{Refusal, no_row, out_of_limits, too_short, text_too_long, first_of}
 use Rattle.station.specs.Text.{bytes, lines}
-use Rattle.station.specs.Decimal.{digits, digitsIn, digitCount, plain, valueFrom}
+use Rattle.station.specs.Decimal.{digits, digits_in, digit_count, plain, value_from}
 use Rattle.station.specs.Form.{starts, word, number}
 use Rattle.station.specs.Reading.{Reading, accepted, refused}
 use Rattle.station.specs.Writing.{stretches}
-use Rattle.station.specs.Row.{Row, row, printRow, fieldIn, row_of, cutsAfter, cuts, with_row, stretchRows, maskRows, bare, rowsText}
-use Rattle.station.specs.ReadRows.{readRowsFrom, readRows}
+use Rattle.station.specs.Row.{Row, row, print_row, field_in, row_of, cuts_after, cuts, with_row, stretch_rows, mask_rows, bare, rows_text}
+use Rattle.station.specs.ReadRows.{read_rows_from, read_rows}
 use Rattle.station.specs.declared.types.Preset as record-of-preset
 use Rattle.station.specs.declared.types.Head as record-of-head
 use Rattle.station.specs.declared.types.Refusal.TheVariants as code
 use Rattle.station.specs.declared.rows.RowsAnswer.TheVariants.{Accepted, Refused}
 use Rattle.station.specs.declared.rows.RowsRead.{RowsRead}
 use Rattle.station.specs.declared.write.Writing.{Writing}
-use Rattle.station.specs.Types.{validRecord}
+use Rattle.station.specs.Types.{valid_record}
 use Rattle.station.specs.WriteHead as write
 use Rattle.station.specs.WriteHead.{answer_in}
-use Rattle.station.specs.RowEntries.{rowsReading, rowsRead, WroteRows}
-use Rattle.station.proofs.Examples.{recordsTo}
+use Rattle.station.specs.RowEntries.{rows_reading, rows_read, WroteRows}
+use Rattle.station.proofs.Examples.{records_to}
 
 -- ---- what computes
 
-unfoldable pub readsRow : List ℕ → Option Row
-unfolding bytes plain digitCount valueFrom starts word number fieldIn row_of
-readsRow l = row_of l
+unfoldable pub reads_row : List ℕ → Option Row
+unfolding bytes plain digit_count value_from starts word number field_in row_of
+reads_row l = row_of l
 
-unfoldable pub readsRows : Head → List ℕ → Reading
-unfolding readsRow lines first_of with_row readRowsFrom readRows
-readsRows h t = readRows h t
+unfoldable pub reads_rows : Head → List ℕ → Reading
+unfolding reads_row lines first_of with_row read_rows_from read_rows
+reads_rows h t = read_rows h t
 
-unfoldable pub writesRows : List ℕ → List ℕ
-unfolding bytes digits digitsIn printRow stretches stretchRows maskRows bare rowsText
-writesRows ms = rowsText ms
+unfoldable pub writes_rows : List ℕ → List ℕ
+unfolding bytes digits digits_in print_row stretches stretch_rows mask_rows bare rows_text
+writes_rows ms = rows_text ms
 
-unfoldable pub triesRecord : record-of-head.Head → List record-of-preset.Preset → Bool
-unfolding recordsTo valid hasNumber allInLimits allDistinct masksIn first_of
-triesRecord h ps = validRecord h ps
+unfoldable pub tries_record : record-of-head.Head → List record-of-preset.Preset → Bool
+unfolding records_to valid has_number all_in_limits all_distinct masks_in first_of
+tries_record h ps = valid_record h ps
 
 -- ---- lines
 
@@ -60,8 +60,8 @@ record Line : Type 0 where
 abbrev reads : String → Option Row → Line
 reads t r = record { text = t; said = r }
 
-abbrev someLines : List Line
-someLines =
+abbrev some_lines : List Line
+some_lines =
     -- bare, quoted, and both in one row; any value has the form, also 0, a bridge past the frame, first above last, twenty digits
     reads "2,3,4\r\n" (some (row 2 3 4))
     ∷ reads "\"2\",\"1\",\"4\"\r\n" (some (row 2 1 4))
@@ -98,21 +98,21 @@ someLines =
     ∷ reads "1,1,1\r\r\n" none
     ∷ []
 
-pub lines-read : map (λ c. row_of (bytes c.text)) someLines ≡ map (λ c. c.said) someLines
-unfolding readsRow
-lines-read = refl
+pub lines_read : map (λ c. row_of (bytes c.text)) some_lines ≡ map (λ c. c.said) some_lines
+unfolding reads_row
+lines_read = refl
 
 -- ---- where a text is cut: after byte 10 that follows byte 13, and nowhere else
 
-pub text-cut : cuts (bytes "1,1,1\r\n1,2,2\n1,3,3\r1\r\n\r\n\n1") ≡ map bytes ("1,1,1\r\n" ∷ "1,2,2\n1,3,3\r1\r\n" ∷ "\r\n" ∷ "\n1" ∷ [])
-unfolding bytes cutsAfter
-text-cut = refl
+pub text_cut : cuts (bytes "1,1,1\r\n1,2,2\n1,3,3\r1\r\n\r\n\n1") ≡ map bytes ("1,1,1\r\n" ∷ "1,2,2\n1,3,3\r1\r\n" ∷ "\r\n" ∷ "\n1" ∷ [])
+unfolding bytes cuts_after
+text_cut = refl
 
 -- ---- whole texts: the head is that of `(frame 4 2)`, `(busy 1 (4 4))` and a preset
 
 -- 4 slots and 2 bridges, with these slots of bridge 1 and of bridge 2 busy
-abbrev busyOn : ℕ → ℕ → Head
-busyOn m n = withPresets (withBusy (bareHead 4 2) (m ∷ n ∷ replicate 6 0)) (presetOf 7 1 2 3 ∷ [])
+abbrev busy_on : ℕ → ℕ → Head
+busy_on m n = with_presets (with_busy (bare_head 4 2) (m ∷ n ∷ replicate 6 0)) (preset_of 7 1 2 3 ∷ [])
 
 -- a text, and what the paper says of it
 record Text : Type 0 where
@@ -121,14 +121,14 @@ record Text : Type 0 where
 
 -- so many rows, and the slots that are busy then
 abbrev takes : String → ℕ → ℕ → ℕ → Text
-takes t n m₁ m₂ = record { text = t; said = accepted (busyOn m₁ m₂) n }
+takes t n m₁ m₂ = record { text = t; said = accepted (busy_on m₁ m₂) n }
 
 -- the row at fault, and its cause
 abbrev fails : String → ℕ → Refusal → Text
 fails t n c = record { text = t; said = refused n c }
 
-abbrev someTexts : List Text
-someTexts =
+abbrev some_texts : List Text
+some_texts =
     -- no rows at all: no busy line is left; nor is it by rows of another bridge
     takes "" 0 0 0
     ∷ takes "2,1,1\r\n" 1 0 1
@@ -139,22 +139,22 @@ someTexts =
     ∷ takes "1,2,3\r\n1,3,4\r\n1,2,2\r\n" 3 14 0
     ∷ takes "1,4,4\r\n1,1,2\r\n1,4,4\r\n" 3 11 0
     -- bridge from 1 to 2, first from 1, last to 4, first not above last: at the edge and one past it
-    ∷ fails "0,1,1\r\n" 1 outOfLimits
+    ∷ fails "0,1,1\r\n" 1 out_of_limits
     ∷ takes "1,1,1\r\n" 1 1 0
     ∷ takes "2,4,4\r\n" 1 0 8
-    ∷ fails "3,1,1\r\n" 1 outOfLimits
-    ∷ fails "1,0,1\r\n" 1 outOfLimits
+    ∷ fails "3,1,1\r\n" 1 out_of_limits
+    ∷ fails "1,0,1\r\n" 1 out_of_limits
     ∷ takes "1,1,4\r\n" 1 15 0
-    ∷ fails "1,1,5\r\n" 1 outOfLimits
-    ∷ fails "1,5,5\r\n" 1 outOfLimits
-    ∷ fails "1,0,0\r\n" 1 outOfLimits
+    ∷ fails "1,1,5\r\n" 1 out_of_limits
+    ∷ fails "1,5,5\r\n" 1 out_of_limits
+    ∷ fails "1,0,0\r\n" 1 out_of_limits
     ∷ takes "1,3,3\r\n" 1 4 0
-    ∷ fails "1,3,2\r\n" 1 outOfLimits
+    ∷ fails "1,3,2\r\n" 1 out_of_limits
     -- a number of any length never wraps
-    ∷ fails "18446744073709551617,1,1\r\n" 1 outOfLimits
-    ∷ fails "1,18446744073709551617,1\r\n" 1 outOfLimits
-    ∷ fails "1,1,18446744073709551617\r\n" 1 outOfLimits
-    ∷ fails "1,1,99999999999999999999\r\n" 1 outOfLimits
+    ∷ fails "18446744073709551617,1,1\r\n" 1 out_of_limits
+    ∷ fails "1,18446744073709551617,1\r\n" 1 out_of_limits
+    ∷ fails "1,1,18446744073709551617\r\n" 1 out_of_limits
+    ∷ fails "1,1,99999999999999999999\r\n" 1 out_of_limits
     -- no three decimal fields with CR LF
     ∷ fails "9,9\r\n" 1 no_row
     ∷ fails "1,01,1\r\n" 1 no_row
@@ -170,9 +170,9 @@ someTexts =
     ∷ fails "9,9,9\n" 1 no_row
     ∷ fails "3,2,1,\r\n" 1 no_row
     -- the first row at fault decides
-    ∷ fails "3,1,1\r\n1,1\r\n" 1 outOfLimits
+    ∷ fails "3,1,1\r\n1,1\r\n" 1 out_of_limits
     ∷ fails "1,1\r\n3,1,1\r\n" 1 no_row
-    ∷ fails "1,1,1\r\n2,1,1\r\n1,5,5\r\n1,1\r\n" 3 outOfLimits
+    ∷ fails "1,1,1\r\n2,1,1\r\n1,5,5\r\n1,1\r\n" 3 out_of_limits
     ∷ fails "1,1,1\r\n2,1,1\r\n1,1\r\n1,5,5\r\n" 3 no_row
     -- a last row without its end; an empty row; byte 10 without 13, byte 13 without 10
     ∷ fails "1,1,1\r\n1,2,2" 2 no_row
@@ -184,35 +184,35 @@ someTexts =
     ∷ fails "1,1,1\r\n1,\"2\r\n\",2\r\n" 2 no_row
     ∷ []
 
-pub texts-read : map (λ c. readRows (busyOn 8 0) (bytes c.text)) someTexts ≡ map (λ c. c.said) someTexts
-unfolding readsRows
-texts-read = refl
+pub texts_read : map (λ c. read_rows (busy_on 8 0) (bytes c.text)) some_texts ≡ map (λ c. c.said) some_texts
+unfolding reads_rows
+texts_read = refl
 
 -- every slot of the most, and the last of the most bridges; one past each
-pub widest-read :
-    map (λ t. readRows (bareHead 64 8) (bytes t)) ("1,1,64\r\n" ∷ "8,64,64\r\n8,1,1\r\n" ∷ "1,1,65\r\n" ∷ "9,1,1\r\n" ∷ [])
-    ≡ accepted (withBusy (bareHead 64 8) (18446744073709551615 ∷ replicate 7 0)) 1
-    ∷ accepted (withBusy (bareHead 64 8) (replicate 7 0 ++ (9223372036854775809 ∷ []))) 2
-    ∷ refused 1 outOfLimits
-    ∷ refused 1 outOfLimits
+pub widest_read :
+    map (λ t. read_rows (bare_head 64 8) (bytes t)) ("1,1,64\r\n" ∷ "8,64,64\r\n8,1,1\r\n" ∷ "1,1,65\r\n" ∷ "9,1,1\r\n" ∷ [])
+    ≡ accepted (with_busy (bare_head 64 8) (18446744073709551615 ∷ replicate 7 0)) 1
+    ∷ accepted (with_busy (bare_head 64 8) (replicate 7 0 ++ (9223372036854775809 ∷ []))) 2
+    ∷ refused 1 out_of_limits
+    ∷ refused 1 out_of_limits
     ∷ []
-unfolding readsRows
-widest-read = refl
+unfolding reads_rows
+widest_read = refl
 
 -- ---- what is written of masks: by bridge, then by slot, bare
 
-pub masks-written :
-    map (λ ms. rowsText (ms ++ replicate 6 0))
+pub masks_written :
+    map (λ ms. rows_text (ms ++ replicate 6 0))
     ((0 ∷ 0 ∷ []) ∷ (15 ∷ 0 ∷ []) ∷ (1 ∷ 15 ∷ []) ∷ (11 ∷ 8 ∷ []) ∷ (18446744073709551615 ∷ 0 ∷ []) ∷ (9223372036854775809 ∷ 1 ∷ []) ∷ [])
     ≡ map bytes
     ("" ∷ "1,1,4\r\n" ∷ "1,1,1\r\n2,1,4\r\n" ∷ "1,1,2\r\n1,4,4\r\n2,4,4\r\n" ∷ "1,1,64\r\n" ∷ "1,1,1\r\n1,64,64\r\n2,1,1\r\n" ∷ [])
-unfolding writesRows
-masks-written = refl
+unfolding writes_rows
+masks_written = refl
 
 -- the longest: slots 2, 4 and so on to 64 of every bridge, each alone
-pub rows-longest : length (rowsText (replicate 8 12297829382473034410)) ≡ 2240
-unfolding writesRows
-rows-longest = refl
+pub rows_longest : length (rows_text (replicate 8 12297829382473034410)) ≡ 2240
+unfolding writes_rows
+rows_longest = refl
 
 -- ---- the entries over a list of records: 10, then 8, then 2 of the head record, all at row 0 before any row
 
@@ -220,44 +220,44 @@ rows-longest = refl
 abbrev counting : ℕ → ℕ → record-of-head.Head
 counting m n = record { slots = 4; bridges = 2; supply = 3; hold = true; busy = m ∷ replicate 7 0; count = n }
 
-pub entries-too-long : (rowsReading 31 (counting 16 0) [] (replicate 40000 10) ≡ refused 0 textTooLong)
-    × (rowsReading 32 (counting 16 0) [] (replicate 40000 10) ≡ refused 0 textTooLong)
-    × (rowsReading 31 (counting 8 0) [] (replicate 32769 10) ≡ refused 0 textTooLong)
-    × (rowsReading 32 (counting 8 0) [] (replicate 32769 10) ≡ refused 0 textTooLong)
-    × (rowsReading 31 (counting 8 0) [] (replicate 32768 10) ≡ refused 0 tooShort)
-    × (rowsReading 32 (counting 8 0) [] (replicate 32768 10) ≡ refused 1 no_row)
-unfolding readsRows triesRecord
-entries-too-long = (refl, refl, refl, refl, refl, refl)
+pub entries_too_long : (rows_reading 31 (counting 16 0) [] (replicate 40000 10) ≡ refused 0 text_too_long)
+    × (rows_reading 32 (counting 16 0) [] (replicate 40000 10) ≡ refused 0 text_too_long)
+    × (rows_reading 31 (counting 8 0) [] (replicate 32769 10) ≡ refused 0 text_too_long)
+    × (rows_reading 32 (counting 8 0) [] (replicate 32769 10) ≡ refused 0 text_too_long)
+    × (rows_reading 31 (counting 8 0) [] (replicate 32768 10) ≡ refused 0 too_short)
+    × (rows_reading 32 (counting 8 0) [] (replicate 32768 10) ≡ refused 1 no_row)
+unfolding reads_rows tries_record
+entries_too_long = (refl, refl, refl, refl, refl, refl)
 
-pub entries-tried : (rowsReading 31 (counting 16 0) [] (bytes "nonsense") ≡ refused 0 tooShort)
-    × (rowsReading 32 (counting 16 0) [] (bytes "nonsense") ≡ refused 0 outOfLimits)
-    × (rowsReading 32 (counting 15 0) [] (bytes "nonsense") ≡ refused 1 no_row)
-    × (rowsReading 31 (counting 8 0) [] (bytes "1,1,2\r\n") ≡ refused 0 tooShort)
-    × (rowsReading 32 (counting 8 1) (recordsTo 32) (bytes "1,1,2\r\n")
-    ≡ accepted (withPresets (withBusy (withTie (withSupply (bareHead 4 2) 3) true) (3 ∷ replicate 7 0)) (presetOf 32 0 0 0 ∷ [])) 1)
-    × (rowsReading 33 (counting 8 33) (recordsTo 33) (bytes "1,1,2\r\n") ≡ refused 0 outOfLimits)
-    × (rowsReading 32 (counting 8 33) (recordsTo 32) [] ≡ refused 0 outOfLimits)
-unfolding readsRows triesRecord
-entries-tried = (refl, refl, refl, refl, refl, refl, refl)
+pub entries_tried : (rows_reading 31 (counting 16 0) [] (bytes "nonsense") ≡ refused 0 too_short)
+    × (rows_reading 32 (counting 16 0) [] (bytes "nonsense") ≡ refused 0 out_of_limits)
+    × (rows_reading 32 (counting 15 0) [] (bytes "nonsense") ≡ refused 1 no_row)
+    × (rows_reading 31 (counting 8 0) [] (bytes "1,1,2\r\n") ≡ refused 0 too_short)
+    × (rows_reading 32 (counting 8 1) (records_to 32) (bytes "1,1,2\r\n")
+    ≡ accepted (with_presets (with_busy (with_tie (with_supply (bare_head 4 2) 3) true) (3 ∷ replicate 7 0)) (preset_of 32 0 0 0 ∷ [])) 1)
+    × (rows_reading 33 (counting 8 33) (records_to 33) (bytes "1,1,2\r\n") ≡ refused 0 out_of_limits)
+    × (rows_reading 32 (counting 8 33) (records_to 32) [] ≡ refused 0 out_of_limits)
+unfolding reads_rows tries_record
+entries_tried = (refl, refl, refl, refl, refl, refl, refl)
 
 -- what is answered, and the head record afterwards: other masks, or the one handed in
-abbrev entryLeaves : ℕ → List ℕ → RowsRead
-entryLeaves records t = rowsRead (rowsReading records (counting 8 32) (recordsTo 32) t) (counting 8 32)
+abbrev entry_leaves : ℕ → List ℕ → RowsRead
+entry_leaves records t = rows_read (rows_reading records (counting 8 32) (records_to 32) t) (counting 8 32)
 
-pub entries-left : (entryLeaves 32 (bytes "2,1,2\r\n2,4,4\r\n")
+pub entries_left : (entry_leaves 32 (bytes "2,1,2\r\n2,4,4\r\n")
     ≡ record { answer = Accepted 2; head = record { slots = 4; bridges = 2; supply = 3; hold = true; busy = 0 ∷ 11 ∷ replicate 6 0; count = 32 } })
-    × (entryLeaves 32 (bytes "2,1,2\r\n2,5,5\r\n") ≡ record { answer = Refused 2 code.OutOfLimits; head = counting 8 32 })
-    × (entryLeaves 32 (bytes "2,1,2\n") ≡ record { answer = Refused 1 code.NoRow; head = counting 8 32 })
-    × (entryLeaves 31 [] ≡ record { answer = Refused 0 code.TooShort; head = counting 8 32 })
-unfolding readsRows triesRecord
-entries-left = (refl, refl, refl, refl)
+    × (entry_leaves 32 (bytes "2,1,2\r\n2,5,5\r\n") ≡ record { answer = Refused 2 code.OutOfLimits; head = counting 8 32 })
+    × (entry_leaves 32 (bytes "2,1,2\n") ≡ record { answer = Refused 1 code.NoRow; head = counting 8 32 })
+    × (entry_leaves 31 [] ≡ record { answer = Refused 0 code.TooShort; head = counting 8 32 })
+unfolding reads_rows tries_record
+entries_left = (refl, refl, refl, refl)
 
 -- what is written: the length of the rows, and the rows before the bytes that stay; or 8, then 2, and the output as it was
-pub entries-wrote : (r : Writing) (after : List ℕ)
+pub entries_wrote : (r : Writing) (after : List ℕ)
     → (WroteRows 32 (counting 11 0) [] (replicate 8192 7) r after → (answer_in r ≡ write.written 14) × (after ≡ bytes "1,1,2\r\n1,4,4\r\n" ++ replicate 8178 7))
-    × (WroteRows 32 (counting 16 0) [] (replicate 8192 7) r after → (answer_in r ≡ write.refused 0 outOfLimits) × (after ≡ replicate 8192 7))
-    × (WroteRows 32 (counting 16 0) [] (replicate 8191 7) r after → (answer_in r ≡ write.refused 0 tooShort) × (after ≡ replicate 8191 7))
-    × (WroteRows 31 (counting 16 0) [] (replicate 8192 7) r after → (answer_in r ≡ write.refused 0 tooShort) × (after ≡ replicate 8192 7))
-unfolding writesRows triesRecord
-entries-wrote r after =
+    × (WroteRows 32 (counting 16 0) [] (replicate 8192 7) r after → (answer_in r ≡ write.refused 0 out_of_limits) × (after ≡ replicate 8192 7))
+    × (WroteRows 32 (counting 16 0) [] (replicate 8191 7) r after → (answer_in r ≡ write.refused 0 too_short) × (after ≡ replicate 8191 7))
+    × (WroteRows 31 (counting 16 0) [] (replicate 8192 7) r after → (answer_in r ≡ write.refused 0 too_short) × (after ≡ replicate 8192 7))
+unfolding writes_rows tries_record
+entries_wrote r after =
     (λ w. (w.answer, w.output), λ w. (w.answer, w.output), λ w. (w.answer, w.output), λ w. (w.answer, w.output))

@@ -2,14 +2,14 @@
 -- `read_head_by_value` are held to. A line's numbers are as they are read. Document 01, "The
 -- station text" and "Causes".
 --
--- In order: the answers (`acceptedRead`, `refusedRead`); the state between two lines and what it
--- stands for (`noState`, `stageIn`, `soFarIn`); one line more, by its form (`frameStep`,
--- `supplyStep`, `headTieStep`, `tieStep`, `busyStep`, `presetStep`), on line 1 (`firstStep`), after
--- it (`nextStep`), and anywhere (`step_of`). That a step is what `readFrom` makes of the line is
+-- In order: the answers (`accepted_read`, `refused_read`); the state between two lines and what it
+-- stands for (`no_state`, `stage_in`, `so_far_in`); one line more, by its form (`frame_step`,
+-- `supply_step`, `head_tie_step`, `tie_step`, `busy_step`, `preset_step`), on line 1 (`first_step`), after
+-- it (`next_step`), and anywhere (`step_of`). That a step is what `read_from` makes of the line is
 -- shown in proofs/heads/StepMeaning.antt. Assumes nothing.
 use Rattle.std.specs.Prelude.{ℕ, ◌+◌, ◌-◌, Bool, true, false, not, ◌&&◌, List, [], ◌∷◌, map, take, set, leb}
 use Rattle.std.proofs.Math.Option.{Option, none, some}
-use Rattle.station.specs.Limits.{mostMotors, mostPresets}
+use Rattle.station.specs.Limits.{most_motors, most_presets}
 use Rattle.station.specs.declared.types.Preset.{Preset}
 use Rattle.station.specs.declared.types.Head.{Head}
 use Rattle.station.specs.declared.types.Refusal.{Refusal}
@@ -23,40 +23,40 @@ use Rattle.station.specs.declared.heads.steps.State.{State}
 use Rattle.station.specs.declared.heads.steps.Verdict.TheVariants.{Goes, Ends, Fails}
 use Rattle.station.specs.declared.heads.steps.Step.{Step}
 use Rattle.station.specs.Head as meant
-use Rattle.station.specs.Head.{presetOf}
+use Rattle.station.specs.Head.{preset_of}
 use Rattle.station.specs.Refusal as meant-refusal
-use Rattle.station.specs.Refusal.{try, first_of, noForm, outOfLimits, outOfPlace, numberUsed, tooMany}
-use Rattle.station.specs.Reading.{Stage, atFrame, atSupply, atTie, atBusy, atPresets, begun, supplyMisplaced, busyMisplaced, SoFar}
-use Rattle.station.specs.Types.{refusalOf, presetIn, bareRecord, withSupplied, withHold, withMasks, withCount, headIn}
-use Rattle.station.specs.ReadHead.{recordOf}
+use Rattle.station.specs.Refusal.{try, first_of, no_form, out_of_limits, out_of_place, number_used, too_many}
+use Rattle.station.specs.Reading.{Stage, at_frame, at_supply, at_tie, at_busy, at_presets, begun, supply_misplaced, busy_misplaced, SoFar}
+use Rattle.station.specs.Types.{refusal_of, preset_in, bare_record, with_supplied, with_hold, with_masks, with_count, head_in}
+use Rattle.station.specs.ReadHead.{record_of}
 
 -- ---- the answers, in the code's values
 
 -- the lines and bytes of a head that was read, and its state
-abbrev pub acceptedRead : State → ℕ → ℕ → HeadRead
-acceptedRead s lines bytes = record { answer = Accepted lines bytes; head = s.head; presets = s.presets }
+abbrev pub accepted_read : State → ℕ → ℕ → HeadRead
+accepted_read s lines bytes = record { answer = Accepted lines bytes; head = s.head; presets = s.presets }
 
 -- the cause and its line, and what was handed in
-abbrev pub refusedRead : ℕ → Refusal → Head → List Preset → HeadRead
-refusedRead line c head presets = record { answer = Refused line c; head = head; presets = presets }
+abbrev pub refused_read : ℕ → Refusal → Head → List Preset → HeadRead
+refused_read line c head presets = record { answer = Refused line c; head = head; presets = presets }
 
 -- ---- the state between two lines
 
 -- before line 1
-abbrev pub noState : List Preset → State
-noState presets = record { stage = Frame; head = bareRecord 0 0; presets = presets }
+abbrev pub no_state : List Preset → State
+no_state presets = record { stage = Frame; head = bare_record 0 0; presets = presets }
 
 -- what the code's stage stands for
-abbrev pub stageIn : code.Stage → Stage
-stageIn Frame = atFrame
-stageIn Supply = atSupply
-stageIn Tie = atTie
-stageIn (Busy b) = atBusy b
-stageIn Presets = atPresets
+abbrev pub stage_in : code.Stage → Stage
+stage_in Frame = at_frame
+stage_in Supply = at_supply
+stage_in Tie = at_tie
+stage_in (Busy b) = at_busy b
+stage_in Presets = at_presets
 
 -- what the state stands for
-abbrev pub soFarIn : State → SoFar
-soFarIn s = record { stage = stageIn s.stage; head = headIn s.head s.presets }
+abbrev pub so_far_in : State → SoFar
+so_far_in s = record { stage = stage_in s.stage; head = head_in s.head s.presets }
 
 -- ---- one line more, its numbers as they are read
 
@@ -66,119 +66,119 @@ stopped s c = record { verdict = Fails c; state = s }
 
 -- the same for a cause of the definitions
 abbrev pub failed : State → meant-refusal.Refusal → Step
-failed s c = stopped s (refusalOf c)
+failed s c = stopped s (refusal_of c)
 
 -- "The head ends before the first line that has an event's form"
 abbrev pub ended : State → Step
 ended s = record { verdict = Ends; state = s }
 
 -- the line is refused for the first cause that holds; where none does, the state is `next`
-abbrev pub stepBy : Option meant-refusal.Refusal → State → State → Step
-stepBy none s next = record { verdict = Goes; state = next }
-stepBy (some c) s next = failed s c
+abbrev pub step_by : Option meant-refusal.Refusal → State → State → Step
+step_by none s next = record { verdict = Goes; state = next }
+step_by (some c) s next = failed s c
 
 -- the state after the frame line
-abbrev pub afterFrame : State → ℕ → ℕ → State
-afterFrame s slots bridges = record { stage = Supply; head = bareRecord slots bridges; presets = s.presets }
+abbrev pub after_frame : State → ℕ → ℕ → State
+after_frame s slots bridges = record { stage = Supply; head = bare_record slots bridges; presets = s.presets }
 
 -- a frame line on line 1
-abbrev pub frameStep : State → ℕ → ℕ → Step
-frameStep s slots bridges =
-    stepBy (first_of (try outOfLimits (not (meant.frameInLimits slots bridges)) ∷ [])) s (afterFrame s slots bridges)
+abbrev pub frame_step : State → ℕ → ℕ → Step
+frame_step s slots bridges =
+    step_by (first_of (try out_of_limits (not (meant.frame_in_limits slots bridges)) ∷ [])) s (after_frame s slots bridges)
 
 -- the causes of a supply line after the frame line
-abbrev pub supplyCauses : State → ℕ → List (Option meant-refusal.Refusal)
-supplyCauses s k = try outOfPlace (supplyMisplaced (stageIn s.stage)) ∷ try outOfLimits (not (meant.within 1 mostMotors k)) ∷ []
+abbrev pub supply_causes : State → ℕ → List (Option meant-refusal.Refusal)
+supply_causes s k = try out_of_place (supply_misplaced (stage_in s.stage)) ∷ try out_of_limits (not (meant.within 1 most_motors k)) ∷ []
 
 -- the state after the supply line
-abbrev pub afterSupply : State → ℕ → State
-afterSupply s k = record { stage = Tie; head = withSupplied s.head k; presets = s.presets }
+abbrev pub after_supply : State → ℕ → State
+after_supply s k = record { stage = Tie; head = with_supplied s.head k; presets = s.presets }
 
 -- a supply line after the frame line
-abbrev pub supplyStep : State → ℕ → Step
-supplyStep s k = stepBy (first_of (supplyCauses s k)) s (afterSupply s k)
+abbrev pub supply_step : State → ℕ → Step
+supply_step s k = step_by (first_of (supply_causes s k)) s (after_supply s k)
 
 -- the state after the head's tie line
-abbrev pub afterTie : State → State
-afterTie s = record { stage = Busy 0; head = withHold s.head true; presets = s.presets }
+abbrev pub after_tie : State → State
+after_tie s = record { stage = Busy 0; head = with_hold s.head true; presets = s.presets }
 
 -- a tie line directly after the frame line or its supply line is one of the head, where place is
 -- out of its place
-abbrev pub headTieStep : State → Bool → Step
-headTieStep s true = record { verdict = Goes; state = afterTie s }
-headTieStep s false = failed s outOfPlace
+abbrev pub head_tie_step : State → Bool → Step
+head_tie_step s true = record { verdict = Goes; state = after_tie s }
+head_tie_step s false = failed s out_of_place
 
 -- a tie line after the frame line: anywhere but directly after it or its supply line, it has an
 -- event's form and ends the head
-abbrev pub tieStepAt : code.Stage → State → Bool → Step
-tieStepAt Frame s hold = failed s outOfPlace
-tieStepAt Supply s hold = headTieStep s hold
-tieStepAt Tie s hold = headTieStep s hold
-tieStepAt (Busy b) s hold = ended s
-tieStepAt Presets s hold = ended s
+abbrev pub tie_step_at : code.Stage → State → Bool → Step
+tie_step_at Frame s hold = failed s out_of_place
+tie_step_at Supply s hold = head_tie_step s hold
+tie_step_at Tie s hold = head_tie_step s hold
+tie_step_at (Busy b) s hold = ended s
+tie_step_at Presets s hold = ended s
 
-abbrev pub tieStep : State → Bool → Step
-tieStep s hold = tieStepAt s.stage s hold
+abbrev pub tie_step : State → Bool → Step
+tie_step s hold = tie_step_at s.stage s hold
 
 -- the causes of a busy line after the frame line: its bridge, and whether its stretches are in
 -- order in the frame
-abbrev pub busyCauses : State → ℕ → Bool → List (Option meant-refusal.Refusal)
-busyCauses s b ordered =
-    try outOfPlace (busyMisplaced (stageIn s.stage) b) ∷ try outOfLimits (not (meant.within 1 s.head.bridges b && ordered)) ∷ []
+abbrev pub busy_causes : State → ℕ → Bool → List (Option meant-refusal.Refusal)
+busy_causes s b ordered =
+    try out_of_place (busy_misplaced (stage_in s.stage) b) ∷ try out_of_limits (not (meant.within 1 s.head.bridges b && ordered)) ∷ []
 
 -- the state after a busy line
-abbrev pub afterBusy : State → ℕ → ℕ → State
-afterBusy s b mask = record { stage = Busy (b + 1); head = withMasks s.head (set s.head.busy (b - 1) mask); presets = s.presets }
+abbrev pub after_busy : State → ℕ → ℕ → State
+after_busy s b mask = record { stage = Busy (b + 1); head = with_masks s.head (set s.head.busy (b - 1) mask); presets = s.presets }
 
 -- a busy line after the frame line
-abbrev pub busyStep : State → ℕ → ℕ → Bool → Step
-busyStep s b mask ordered = stepBy (first_of (busyCauses s b ordered)) s (afterBusy s b mask)
+abbrev pub busy_step : State → ℕ → ℕ → Bool → Step
+busy_step s b mask ordered = step_by (first_of (busy_causes s b ordered)) s (after_busy s b mask)
 
 -- the causes of a preset line after the frame line
-abbrev pub presetCauses : State → meant.Preset → List (Option meant-refusal.Refusal)
-presetCauses s p =
-    try outOfLimits (not (meant.presetInLimits p)) ∷ try numberUsed (meant.hasNumber p.number (map presetIn (take s.head.count s.presets)))
-    ∷ try tooMany (leb mostPresets s.head.count) ∷ []
+abbrev pub preset_causes : State → meant.Preset → List (Option meant-refusal.Refusal)
+preset_causes s p =
+    try out_of_limits (not (meant.preset_in_limits p)) ∷ try number_used (meant.has_number p.number (map preset_in (take s.head.count s.presets)))
+    ∷ try too_many (leb most_presets s.head.count) ∷ []
 
 -- the state after a preset line
-abbrev pub afterPreset : State → meant.Preset → State
-afterPreset s p = record {
+abbrev pub after_preset : State → meant.Preset → State
+after_preset s p = record {
   stage = Presets;
-  head = withCount s.head (s.head.count + 1);
-  presets = set s.presets s.head.count (recordOf p);
+  head = with_count s.head (s.head.count + 1);
+  presets = set s.presets s.head.count (record_of p);
 }
 
 -- a preset line after the frame line
-abbrev pub presetStep : State → meant.Preset → Step
-presetStep s p = stepBy (first_of (presetCauses s p)) s (afterPreset s p)
+abbrev pub preset_step : State → meant.Preset → Step
+preset_step s p = step_by (first_of (preset_causes s p)) s (after_preset s p)
 
 -- line 1: "no frame on line 1" is out of place
-abbrev pub firstStep : State → Line → Step
-firstStep s line.NoForm = failed s noForm
-firstStep s (line.Frame slots bridges) = frameStep s slots bridges
-firstStep s (line.Busy b mask ordered) = failed s outOfPlace
-firstStep s (line.Preset n p m o) = failed s outOfPlace
-firstStep s (line.Clock t) = failed s outOfPlace
-firstStep s (line.Call n) = failed s outOfPlace
-firstStep s (line.Tie hold) = failed s outOfPlace
-firstStep s (line.Supply k) = failed s outOfPlace
+abbrev pub first_step : State → Line → Step
+first_step s line.NoForm = failed s no_form
+first_step s (line.Frame slots bridges) = frame_step s slots bridges
+first_step s (line.Busy b mask ordered) = failed s out_of_place
+first_step s (line.Preset n p m o) = failed s out_of_place
+first_step s (line.Clock t) = failed s out_of_place
+first_step s (line.Call n) = failed s out_of_place
+first_step s (line.Tie hold) = failed s out_of_place
+first_step s (line.Supply k) = failed s out_of_place
 
 -- a line after line 1
-abbrev pub nextStep : State → Line → Step
-nextStep s line.NoForm = failed s noForm
-nextStep s (line.Frame slots bridges) = failed s outOfPlace
-nextStep s (line.Busy b mask ordered) = busyStep s b mask ordered
-nextStep s (line.Preset n p m o) = presetStep s (presetOf n p m o)
-nextStep s (line.Clock t) = ended s
-nextStep s (line.Call n) = ended s
-nextStep s (line.Tie hold) = tieStep s hold
-nextStep s (line.Supply k) = supplyStep s k
+abbrev pub next_step : State → Line → Step
+next_step s line.NoForm = failed s no_form
+next_step s (line.Frame slots bridges) = failed s out_of_place
+next_step s (line.Busy b mask ordered) = busy_step s b mask ordered
+next_step s (line.Preset n p m o) = preset_step s (preset_of n p m o)
+next_step s (line.Clock t) = ended s
+next_step s (line.Call n) = ended s
+next_step s (line.Tie hold) = tie_step s hold
+next_step s (line.Supply k) = supply_step s k
 
 -- by whether the frame line was read
-abbrev pub stepWhere : Bool → State → Line → Step
-stepWhere false s l = firstStep s l
-stepWhere true s l = nextStep s l
+abbrev pub step_where : Bool → State → Line → Step
+step_where false s l = first_step s l
+step_where true s l = next_step s l
 
 -- one line more
 abbrev pub step_of : State → Line → Step
-step_of s l = stepWhere (begun (stageIn s.stage)) s l
+step_of s l = step_where (begun (stage_in s.stage)) s l

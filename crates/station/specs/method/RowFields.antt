@@ -9,17 +9,17 @@ use Rattle.station.specs.Line.{line_of}
 use Rattle.station.specs.Form.{starts}
 use Rattle.station.specs.Jobs.{seen}
 use Rattle.station.specs.Row.{Row, row, quote, row_of}
-use Rattle.station.specs.method.Numeral.{numeralAt, numeralThen, pickNumeral}
+use Rattle.station.specs.method.Numeral.{numeral_at, numeral_then, pick_numeral}
 
 -- a field at a place: a number between quotes where a quote stands there, else a number; the place
 -- is that after the field
 abbrev pub field_at : List ℕ → ℕ → Numeral
-field_at t at = cond (starts quote (drop at t)) (numeralThen quote t (suc at)) (numeralAt t at)
+field_at t at = cond (starts quote (drop at t)) (numeral_then quote t (suc at)) (numeral_at t at)
 
 -- a field and a comma after it; the place is that after the comma
-abbrev pub fieldThen : List ℕ → ℕ → Numeral
-fieldThen t at =
-    pickNumeral ((field_at t at).found && starts (bytes ",") (drop (field_at t at).next t))
+abbrev pub field_then : List ℕ → ℕ → Numeral
+field_then t at =
+    pick_numeral ((field_at t at).found && starts (bytes ",") (drop (field_at t at).next t))
     (record { found = true; value = (field_at t at).value; next = suc (field_at t at).next })
 
 -- a row as it is read, and the place after it, if there is one
@@ -32,5 +32,5 @@ abbrev pub fields_at : List ℕ → ℕ → Fields
 fields_at t at = fields_of (at + length (line_of (drop at t))) (row_of (line_of (drop at t)))
 
 -- the row of its fields
-abbrev pub rowIs : Fields → Row
-rowIs f = row f.bridge f.first f.last
+abbrev pub row_is : Fields → Row
+row_is f = row f.bridge f.first f.last

@@ -1,8 +1,8 @@
 // What the entries call: a head or its rows read or written with its first 32 preset records by
 // value, where the list has as many records as are counted.
 ghost use Rattle.std.specs.Prelude.{◌≡◌};
-ghost use Rattle.station.specs.Entries.{WroteEntry, entryRead, refusedAtStart, answer_of};
-ghost use Rattle.station.specs.RowEntries.{rowsReading, rowsRead, rowsRefused, WroteRows};
+ghost use Rattle.station.specs.Entries.{WroteEntry, entry_read, refused_at_start, answer_of};
+ghost use Rattle.station.specs.RowEntries.{rows_reading, rows_read, rows_refused, WroteRows};
 
 use crate::entries::HeadAnswer;
 use crate::heads::{HeadRead, ReadAnswer, read_head_by_value};
@@ -29,7 +29,7 @@ pub(crate) fn write_counted(
 
 // A refusal at line 0, which leaves the head and the records as they were handed in.
 fn refuse_at_start(cause: Refusal, head: Head, copied: [Preset; MOST_PRESETS]) -> HeadRead
-    ensures { result ≡ refusedAtStart cause head copied }
+    ensures { result ≡ refused_at_start cause head copied }
 {
     HeadRead {
         answer: ReadAnswer::Refused(0, cause),
@@ -46,7 +46,7 @@ pub(crate) fn read_counted(
     head: Head,
     copied: [Preset; MOST_PRESETS],
 ) -> HeadRead
-    ensures { result ≡ entryRead records text.now head copied }
+    ensures { result ≡ entry_read records text.now head copied }
 {
     if MOST_BYTES < text.len() {
         return refuse_at_start(Refusal::TextTooLong, head, copied);
@@ -75,7 +75,7 @@ pub(crate) fn answer_of(read: HeadRead) -> HeadAnswer
 
 // A refusal at row 0, which leaves the head as it was handed in.
 fn refuse_rows(cause: Refusal, head: Head) -> RowsRead
-    ensures { result ≡ rowsRefused 0 cause head }
+    ensures { result ≡ rows_refused 0 cause head }
 {
     RowsRead {
         answer: RowsAnswer::Refused(0, cause),
@@ -91,7 +91,7 @@ pub(crate) fn read_rows_counted(
     head: Head,
     copied: [Preset; MOST_PRESETS],
 ) -> RowsRead
-    ensures { result ≡ rowsRead (rowsReading records head copied text.now) head }
+    ensures { result ≡ rows_read (rows_reading records head copied text.now) head }
 {
     if MOST_BYTES < text.len() {
         return refuse_rows(Refusal::TextTooLong, head);

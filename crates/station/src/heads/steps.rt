@@ -1,13 +1,13 @@
 // One line of a head, held against what the lines before it make.
 ghost use Rattle.std.specs.Prelude.{◌≡◌, true, not, ◌&&◌, min, map, take, set};
-ghost use Rattle.station.specs.Limits.{mostSlots};
-ghost use Rattle.station.specs.Head.{presetOf, within, presetInLimits, hasNumber};
+ghost use Rattle.station.specs.Limits.{most_slots};
+ghost use Rattle.station.specs.Head.{preset_of, within, preset_in_limits, has_number};
 ghost use Rattle.station.specs.Form.{form};
-ghost use Rattle.station.specs.method.ReadLine.{lineIn};
-ghost use Rattle.station.specs.Reading.{begun, supplyMisplaced, busyMisplaced};
-ghost use Rattle.station.specs.Types.{presetIn};
-ghost use Rattle.station.specs.ReadHead.{recordOf};
-ghost use Rattle.station.specs.method.HeadStep.{stageIn, stopped, frameStep, supplyStep, headTieStep, tieStep, busyStep, presetStep, firstStep, nextStep, step_of};
+ghost use Rattle.station.specs.method.ReadLine.{line_in};
+ghost use Rattle.station.specs.Reading.{begun, supply_misplaced, busy_misplaced};
+ghost use Rattle.station.specs.Types.{preset_in};
+ghost use Rattle.station.specs.ReadHead.{record_of};
+ghost use Rattle.station.specs.method.HeadStep.{stage_in, stopped, frame_step, supply_step, head_tie_step, tie_step, busy_step, preset_step, first_step, next_step, step_of};
 
 use crate::check::{frame_in_limits, preset_in_limits, supply_in_limits};
 use crate::forms::{Line, read_line};
@@ -54,7 +54,7 @@ pub(crate) struct Step {
 
 // Whether the frame line was read.
 pub(crate) fn has_begun(stage: Stage) -> bool
-    ensures { result ≡ begun (stageIn stage) }
+    ensures { result ≡ begun (stage_in stage) }
 {
     match stage {
         Stage::Frame => false,
@@ -67,7 +67,7 @@ pub(crate) fn has_begun(stage: Stage) -> bool
 
 // Whether a supply line is out of its place: anywhere but directly after the frame line.
 fn supply_misplaced(stage: Stage) -> bool
-    ensures { result ≡ supplyMisplaced (stageIn stage) }
+    ensures { result ≡ supply_misplaced (stage_in stage) }
 {
     match stage {
         Stage::Frame => true,
@@ -81,7 +81,7 @@ fn supply_misplaced(stage: Stage) -> bool
 // Whether a busy line of that bridge is out of its place: after a preset line, or where its bridge
 // does not ascend.
 fn busy_misplaced(stage: Stage, bridge: usize) -> bool
-    ensures { result ≡ busyMisplaced (stageIn stage) bridge }
+    ensures { result ≡ busy_misplaced (stage_in stage) bridge }
 {
     match stage {
         Stage::Frame => true,
@@ -107,7 +107,7 @@ fn busy_outside(bridges: usize, bridge: u32, ordered: bool) -> bool
 
 // Whether one of the first `count` preset records has the number.
 fn number_used(presets: [Preset; MOST_PRESETS], count: usize, number: u32) -> bool
-    ensures { result ≡ hasNumber number (map presetIn (take count presets)) }
+    ensures { result ≡ has_number number (map preset_in (take count presets)) }
 {
     let mut i = 0;
     while i < count {
@@ -137,8 +137,8 @@ fn with_mask(busy: [u64; MOST_BRIDGES], at: usize, mask: u64) -> [u64; MOST_BRID
 
 // The record of a preset line within its limits, which all fit a byte.
 fn record_of(number: u32, priority: u32, mandatory: u32, optional: u32) -> Preset
-    requires { presetInLimits (presetOf number priority mandatory optional) ≡ true }
-    ensures { result ≡ recordOf (presetOf number priority mandatory optional) }
+    requires { preset_in_limits (preset_of number priority mandatory optional) ≡ true }
+    ensures { result ≡ record_of (preset_of number priority mandatory optional) }
 {
     Preset {
         number: number as u8,
@@ -160,7 +160,7 @@ fn stop(state: State, cause: Refusal) -> Step
 
 // A frame line on line 1: refused where a value is outside its limits, else the head begins.
 fn frame_step(state: State, slots: u32, bridges: u32) -> Step
-    ensures { result ≡ frameStep state slots bridges }
+    ensures { result ≡ frame_step state slots bridges }
 {
     if !frame_in_limits(slots as usize, bridges as usize) {
         return stop(state, Refusal::OutOfLimits);
@@ -183,7 +183,7 @@ fn frame_step(state: State, slots: u32, bridges: u32) -> Step
 // A supply line after the frame line: refused anywhere but directly after it, and where its number
 // is outside its limits; else the head has its number.
 fn supply_step(state: State, motors: u32) -> Step
-    ensures { result ≡ supplyStep state motors }
+    ensures { result ≡ supply_step state motors }
 {
     let stage = state.stage;
     if supply_misplaced(stage) {
@@ -209,7 +209,7 @@ fn supply_step(state: State, motors: u32) -> Step
 // The head's tie line, directly after the frame line or its supply line: place is out of its place
 // there.
 fn tie_in_head(state: State, hold: bool) -> Step
-    ensures { result ≡ headTieStep state hold }
+    ensures { result ≡ head_tie_step state hold }
 {
     if !hold {
         return stop(state, Refusal::OutOfPlace);
@@ -231,7 +231,7 @@ fn tie_in_head(state: State, hold: bool) -> Step
 // A tie line after the frame line: anywhere but directly after it or its supply line, it ends the
 // head before it, as an event does.
 fn tie_step(state: State, hold: bool) -> Step
-    ensures { result ≡ tieStep state hold }
+    ensures { result ≡ tie_step state hold }
 {
     let stage = state.stage;
     match stage {
@@ -252,7 +252,7 @@ fn tie_step(state: State, hold: bool) -> Step
 // A busy line after the frame line: refused after a preset line, where its bridge does not ascend,
 // and where its bridge or a stretch is outside the frame; else the bridge has its mask.
 fn busy_step(state: State, bridge: u32, mask: u64, ordered: bool) -> Step
-    ensures { result ≡ busyStep state bridge mask ordered }
+    ensures { result ≡ busy_step state bridge mask ordered }
 {
     let head = state.head;
     let stage = state.stage;
@@ -282,7 +282,7 @@ fn busy_step(state: State, bridge: u32, mask: u64, ordered: bool) -> Step
 // A preset line after the frame line: refused where a value is outside its limits, where its number
 // is used, and where it is the 33rd; else it is the last of the presets.
 fn preset_step(state: State, number: u32, priority: u32, mandatory: u32, optional: u32) -> Step
-    ensures { result ≡ presetStep state (presetOf number priority mandatory optional) }
+    ensures { result ≡ preset_step state (preset_of number priority mandatory optional) }
 {
     let head = state.head;
     let presets = state.presets;
@@ -313,7 +313,7 @@ fn preset_step(state: State, number: u32, priority: u32, mandatory: u32, optiona
 
 // Line 1: only a frame line is in its place.
 fn first_step(state: State, line: Line) -> Step
-    ensures { result ≡ firstStep state line }
+    ensures { result ≡ first_step state line }
 {
     match line {
         Line::NoForm => stop(state, Refusal::NoForm),
@@ -330,7 +330,7 @@ fn first_step(state: State, line: Line) -> Step
 // A line after line 1: an event ends the head before it, and so does a tie line that is not the
 // head's.
 fn next_step(state: State, line: Line) -> Step
-    ensures { result ≡ nextStep state line }
+    ensures { result ≡ next_step state line }
 {
     match line {
         Line::NoForm => stop(state, Refusal::NoForm),
@@ -355,7 +355,7 @@ fn next_step(state: State, line: Line) -> Step
 // One line more. The stretches of a busy line are held against the frame's slots.
 pub(crate) fn read_step(state: State, line: &[u8]) -> Step
     ensures { result ≡ step_of state
-        (lineIn (min state.head.slots mostSlots) (form line.now)) }
+        (line_in (min state.head.slots most_slots) (form line.now)) }
 {
     let head = state.head;
     let read = read_line(line, head.slots);

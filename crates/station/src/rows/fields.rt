@@ -1,7 +1,7 @@
 // One row of comma-separated text: three fields, each a number, bare or in quotes.
 ghost use Rattle.std.specs.Prelude.{◌≡◌};
 ghost use Rattle.std.proofs.Math.Option.{none};
-ghost use Rattle.station.specs.method.RowFields.{field_at, fieldThen, fields_of, fields_at};
+ghost use Rattle.station.specs.method.RowFields.{field_at, field_then, fields_of, fields_at};
 
 use crate::numbers::{Numeral, number_at, number_then, starts_at};
 
@@ -40,7 +40,7 @@ fn field_at(text: &[u8], at: usize) -> Numeral
 
 // The field at `at` with a comma after it, and the place after the comma.
 fn field_then(text: &[u8], at: usize) -> Numeral
-    ensures { result ≡ fieldThen text.now at }
+    ensures { result ≡ field_then text.now at }
 {
     let field = field_at(text, at);
     if !field.found {

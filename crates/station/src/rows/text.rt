@@ -1,9 +1,9 @@
 // Writing a head's busy times as rows, at the start of the borrowed output. The writers are total,
 // as those of output.rt are.
 ghost use Rattle.std.specs.Prelude.{false};
-ghost use Rattle.station.specs.Limits.{mostSlots, mostPresets};
+ghost use Rattle.station.specs.Limits.{most_slots, most_presets};
 ghost use Rattle.station.specs.Writing.{stretches};
-ghost use Rattle.station.specs.Row.{row, printRow, bridgeRows, bare, rowsText};
+ghost use Rattle.station.specs.Row.{row, print_row, bridge_rows, bare, rows_text};
 ghost use Rattle.station.specs.RowEntries.{WroteRows};
 ghost use Rattle.station.specs.Wrote.{Wrote};
 
@@ -16,7 +16,7 @@ use crate::write::{Writing, next_busy, next_free};
 // Writes one row, bare: `b,f,t` and CR LF. Answers the next place.
 fn bare_row(out: &mut [u8], at: usize, bridge: u8, first: u8, last: u8) -> usize
     ensures { Wrote out.old at
-        (printRow false false false (row bridge first last)) out.new result }
+        (print_row false false false (row bridge first last)) out.new result }
 {
     let comma = number(out, at, bridge as usize);
     let second = put(out, comma, b',');
@@ -29,7 +29,7 @@ fn bare_row(out: &mut [u8], at: usize, bridge: u8, first: u8, last: u8) -> usize
 // Writes a row for each run of busy slots of a bridge. Answers the next place.
 fn bridge_rows(out: &mut [u8], at: usize, bridge: u8, mask: u64) -> usize
     ensures { Wrote out.old at
-        (bare (bridgeRows bridge (stretches mostSlots 1 mask))) out.new result }
+        (bare (bridge_rows bridge (stretches most_slots 1 mask))) out.new result }
 {
     let mut position = at;
     let mut from = next_busy(mask, 0);
@@ -44,7 +44,7 @@ fn bridge_rows(out: &mut [u8], at: usize, bridge: u8, mask: u64) -> usize
 // Writes the rows of the bridges at the start of the output, in ascending order. Answers the place
 // after them.
 fn all_rows(out: &mut [u8], busy: [u64; MOST_BRIDGES]) -> usize
-    ensures { Wrote out.old 0 (rowsText busy) out.new result }
+    ensures { Wrote out.old 0 (rows_text busy) out.new result }
 {
     let mut position = 0;
     let mut b = 0;
@@ -59,7 +59,7 @@ fn all_rows(out: &mut [u8], busy: [u64; MOST_BRIDGES]) -> usize
 // them stay. Refused with 8 for an output below 8,192 bytes, whatever the frame, and with 2 for a
 // head record that no text yields; the output then stays as it was.
 pub fn write_rows_by_value(head: Head, presets: [Preset; MOST_PRESETS], out: &mut [u8]) -> Writing
-    ensures { WroteRows mostPresets head presets out.old result out.new }
+    ensures { WroteRows most_presets head presets out.old result out.new }
 {
     if out.len() < LEAST_OUTPUT {
         return Writing::Refused(0, Refusal::TooShort);

@@ -40,8 +40,8 @@ loop-again c = ⊎_elim (λ w. (omega arith, omega arith, omega arith)) (λ w. (
 returns : tie.Need-returns invariant-loop decreases-loop
 returns c = search rules
 
-pub last-line-spec : {M : Type 1} → statement M
-last-line-spec =
+pub last_line_spec : {M : Type 1} → statement M
+last_line_spec =
     tie.close
     (tie.spec
     invariant-loop

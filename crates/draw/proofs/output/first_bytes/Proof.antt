@@ -34,8 +34,8 @@ loop-again c = search rules
 returns : tie.Need-returns invariant-loop decreases-loop
 returns c = search rules
 
-pub first-bytes-spec : {M : Type 1} → statement M
-first-bytes-spec =
+pub first_bytes_spec : {M : Type 1} → statement M
+first_bytes_spec =
     tie.close
     (tie.spec
     invariant-loop

@@ -28,7 +28,7 @@ loop-again c = search rules
 returns : tie.Need-returns invariant-loop decreases-loop
 returns c = search rules
 
-pub first-bridges-spec : {M : Type 1} → statement M
-first-bridges-spec =
+pub first_bridges_spec : {M : Type 1} → statement M
+first_bridges_spec =
     tie.close
     (tie.spec invariant-loop decreases-loop loop-holds bridge-label-requires add-b loop-less loop-again returns)

@@ -34,8 +34,8 @@ loop-again c = search rules
 returns : tie.Need-returns invariant-loop decreases-loop
 returns c = search rules
 
-pub first-slots-spec : {M : Type 1} → statement M
-first-slots-spec =
+pub first_slots_spec : {M : Type 1} → statement M
+first_slots_spec =
     tie.close
     (tie.spec
     invariant-loop

@@ -40,8 +40,8 @@ loop-again c = search rules
 returns : tie.Need-returns invariant-loop decreases-loop
 returns c = search rules
 
-pub slot-cells-spec : {M : Type 1} → statement M
-slot-cells-spec =
+pub slot_cells_spec : {M : Type 1} → statement M
+slot_cells_spec =
     tie.close
     (tie.spec
     invariant-loop

@@ -1,27 +1,27 @@
--- `event::event_by_value` meets its contract: a law for each answer, the frame afterwards by `done-running`, and the claim by `demand-3`. Assumes nothing.
+-- `event::event_by_value` meets its contract: a law for each answer, the frame afterwards by `done_running`, and the claim by `demand_3`. Assumes nothing.
 use mathlib.Core.Path.{◌≡◌}
 use mathlib.Core.Option.{none}
 use mathlib.Core.List.{[], ◌∷◌}
 use borrow.Author.Rules.{rules}
 use Rattle.placing.specs.State.{state_of}
 use Rattle.station.specs.Refusal.{first_of}
-use Rattle.station.specs.Types.{headIn}
-use Rattle.placing.specs.Causes.{frameCausesOf}
-use Rattle.placing.proofs.Theorems.{frame-running}
+use Rattle.station.specs.Types.{head_in}
+use Rattle.placing.specs.Causes.{frame_causes_of}
+use Rattle.placing.proofs.Theorems.{frame_running}
 use Rattle.frame.specs.Event.{Event}
-use Rattle.frame.proofs.Demands.{demand-3}
-use Rattle.frame.proofs.event.EventAnswers.{frame-free, line-done, frame_refused, event-done, done-running}
+use Rattle.frame.proofs.Demands.{demand_3}
+use Rattle.frame.proofs.event.EventAnswers.{frame_free, line_done, frame_refused, event_done, done_running}
 use Rattle.frame.proofs.event.event_by_value.Statement.{statement}
 use Rattle.frame.proofs.event.event_by_value.Tie as tie
 
 -- no cause of the frame is met
 free : (c : tie.After-enum-told)
     → let a = c.before.before.before.before.before.before.args in
-    first_of (frameCausesOf a.head a.presets (state_of a.table.now a.clock a.hold)) ≡ none
+    first_of (frame_causes_of a.head a.presets (state_of a.table.now a.clock a.hold)) ≡ none
 free c =
     let f = c.before.before in
     let a = f.before.before.before.before.args in
-    frame-free a.head a.presets (state_of a.table.now a.clock a.hold) (f.frame-cause.ensures a.hold) c.enum_told.given.1
+    frame_free a.head a.presets (state_of a.table.now a.clock a.hold) (f.frame-cause.ensures a.hold) c.enum_told.given.1
 
 frame-cause-requires : tie.Need-frame-cause-requires
 frame-cause-requires c κs = search rules
@@ -38,7 +38,7 @@ returns c =
     let a = f.before.before.before.before.args in
     let e = Event.line a.line.now in
     let done = frame_refused a.head a.presets (state_of a.table.now a.clock a.hold) e c.before.r.given.0.0 (f.frame-cause.ensures a.hold) c.before.r.given.1 in
-    (done, (done-running a.head a.presets (state_of a.table.now a.clock a.hold) e done, demand-3 (headIn a.head a.presets) (state_of a.table.now a.clock a.hold) (e ∷ [])))
+    (done, (done_running a.head a.presets (state_of a.table.now a.clock a.hold) e done, demand_3 (head_in a.head a.presets) (state_of a.table.now a.clock a.hold) (e ∷ [])))
 
 enum_told : tie.Need-enum-told
 enum_told c = search rules
@@ -58,13 +58,13 @@ returns-2 c =
     let n = k.before.before in
     let a = n.before.before.before.before.before.before.args in
     let e = Event.line a.line.now in
-    let run = frame-running a.head a.presets (state_of a.table.now a.clock a.hold) (free n) in
-    let done = event-done a.head a.presets (state_of a.table.now a.clock a.hold) e (free n)
-    (line-done a.head a.presets (state_of a.table.now a.clock a.hold) (free n) a.line.now (c.before.before.event-by-counts.ensures run.0 run.1 (k.counts_of.ensures run.0 run.1.long)).0) in
-    (done, (done-running a.head a.presets (state_of a.table.now a.clock a.hold) e done, demand-3 (headIn a.head a.presets) (state_of a.table.now a.clock a.hold) (e ∷ [])))
+    let run = frame_running a.head a.presets (state_of a.table.now a.clock a.hold) (free n) in
+    let done = event_done a.head a.presets (state_of a.table.now a.clock a.hold) e (free n)
+    (line_done a.head a.presets (state_of a.table.now a.clock a.hold) (free n) a.line.now (c.before.before.event-by-counts.ensures run.0 run.1 (k.counts_of.ensures run.0 run.1.long)).0) in
+    (done, (done_running a.head a.presets (state_of a.table.now a.clock a.hold) e done, demand_3 (head_in a.head a.presets) (state_of a.table.now a.clock a.hold) (e ∷ [])))
 
-pub event-by-value-spec : {M : Type 1} → statement M
-event-by-value-spec =
+pub event_by_value_spec : {M : Type 1} → statement M
+event_by_value_spec =
     tie.close
     (tie.spec
     frame-cause-requires

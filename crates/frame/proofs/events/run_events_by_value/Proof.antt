@@ -1,8 +1,8 @@
--- `events::run_events_by_value` meets its contract: a law for each cause, the lines by the loop over them, and the claim by `events-claim`. Assumes nothing.
+-- `events::run_events_by_value` meets its contract: a law for each cause, the lines by the loop over them, and the claim by `events_claim`. Assumes nothing.
 use native.Mathlib.Omega.{arith}
 use borrow.Author.Rules.{rules}
 use Rattle.placing.specs.State.{state_of}
-use Rattle.frame.proofs.events.EventsRun.{events-long, events-short, events-stopped, events-start, events-ran, events-claim}
+use Rattle.frame.proofs.events.EventsRun.{events_long, events_short, events_stopped, events_start, events_ran, events_claim}
 use Rattle.frame.proofs.events.run_events_by_value.Statement.{statement}
 use Rattle.frame.proofs.events.run_events_by_value.Tie as tie
 
@@ -13,8 +13,8 @@ returns : tie.Need-returns
 returns c =
     let a = c.before.before.before.before.before.args in
     let st = state_of a.table.now a.clock a.hold in
-    let done = events-long 32 a.head a.presets st a.text.now a.out.now c.before.if1.true c.refused.ensures in
-    (done, events-claim 32 a.head a.presets st a.text.now a.out.now done)
+    let done = events_long 32 a.head a.presets st a.text.now a.out.now c.before.if1.true c.refused.ensures in
+    (done, events_claim 32 a.head a.presets st a.text.now a.out.now done)
 
 refused-requires-2 : tie.Need-refused-requires-2
 refused-requires-2 c κs = search rules
@@ -24,8 +24,8 @@ returns-2 c =
     let a = c.before.before.before.before.before.before.args in
     let st = state_of a.table.now a.clock a.hold in
     let done =
-    events-short 32 a.head a.presets st a.text.now a.out.now c.before.before.if1.false (omega arith) c.before.if2.true c.refused2.ensures in
-    (done, events-claim 32 a.head a.presets st a.text.now a.out.now done)
+    events_short 32 a.head a.presets st a.text.now a.out.now c.before.before.if1.false (omega arith) c.before.if2.true c.refused2.ensures in
+    (done, events_claim 32 a.head a.presets st a.text.now a.out.now done)
 
 frame-cause-requires : tie.Need-frame-cause-requires
 frame-cause-requires c κs = search rules
@@ -47,8 +47,8 @@ returns-3 c =
     let st = state_of a.table.now a.clock a.hold in
     let x = c.before.before.cause.given in
     let done =
-    events-stopped 32 a.head a.presets st a.text.now a.out.now i.before.if1.false (omega arith) i.if2.false x.0.0 (f.frame-cause.ensures a.hold) x.1 c.refused3.ensures in
-    (done, events-claim 32 a.head a.presets st a.text.now a.out.now done)
+    events_stopped 32 a.head a.presets st a.text.now a.out.now i.before.if1.false (omega arith) i.if2.false x.0.0 (f.frame-cause.ensures a.hold) x.1 c.refused3.ensures in
+    (done, events_claim 32 a.head a.presets st a.text.now a.out.now done)
 
 enum_told : tie.Need-enum-told
 enum_told c = search rules
@@ -59,7 +59,7 @@ run-lines-requires c κs =
     let f = t.before.before in
     let i = f.before.before in
     let a = i.before.before.before.before.before.args in
-    events-start 32 a.head a.presets (state_of a.table.now a.clock a.hold) a.text.now a.out.now i.before.if1.false (f.frame-cause.ensures a.hold) t.enum_told.given.1
+    events_start 32 a.head a.presets (state_of a.table.now a.clock a.hold) a.text.now a.out.now i.before.if1.false (f.frame-cause.ensures a.hold) t.enum_told.given.1
 
 same-length-2 : tie.Need-same-length-2
 same-length-2 c = search rules
@@ -76,11 +76,11 @@ returns-4 c =
     let a = i.before.before.before.before.before.args in
     let st = state_of a.table.now a.clock a.hold in
     let done =
-    events-ran 32 a.head a.presets st a.text.now a.out.now i.before.if1.false (omega arith) i.if2.false (f.frame-cause.ensures a.hold) t.enum_told.given.1 l.run-lines.ensures in
-    (done, events-claim 32 a.head a.presets st a.text.now a.out.now done)
+    events_ran 32 a.head a.presets st a.text.now a.out.now i.before.if1.false (omega arith) i.if2.false (f.frame-cause.ensures a.hold) t.enum_told.given.1 l.run-lines.ensures in
+    (done, events_claim 32 a.head a.presets st a.text.now a.out.now done)
 
-pub run-events-by-value-spec : {M : Type 1} → statement M
-run-events-by-value-spec =
+pub run_events_by_value_spec : {M : Type 1} → statement M
+run_events_by_value_spec =
     tie.close
     (tie.spec
     refused-requires

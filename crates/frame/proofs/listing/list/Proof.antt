@@ -1,7 +1,7 @@
 -- `listing::list` meets its contract: the listing of a text that ran stands there already, and the one line of a refusal is written. Assumes nothing.
 use borrow.Author.Rules.{rules}
-use Rattle.frame.specs.TextDone.{wholeWithOutput}
-use Rattle.frame.proofs.listing.WholeListing.{lists-ran, lists-refused}
+use Rattle.frame.specs.TextDone.{whole_with_output}
+use Rattle.frame.proofs.listing.WholeListing.{lists_ran, lists_refused}
 use Rattle.frame.proofs.listing.list.Statement.{statement}
 use Rattle.frame.proofs.listing.list.Tie as tie
 
@@ -28,7 +28,7 @@ returns c =
     let e = c.before in
     let t = e.before.before.before.before.before.before in
     let a = t.before.before.before.before.before.before.args in
-    lists-ran (wholeWithOutput a.text.now a.table.now a.out.now) t.run-text-by-value.ensures.0 e.ended.given.1
+    lists_ran (whole_with_output a.text.now a.table.now a.out.now) t.run-text-by-value.ensures.0 e.ended.given.1
 
 same-length-3 : tie.Need-same-length-3
 same-length-3 c = search rules
@@ -42,10 +42,10 @@ returns-2 c =
     let e = l.before.before.before in
     let t = e.before.before.before.before.before.before in
     let a = t.before.before.before.before.before.before.args in
-    lists-refused (wholeWithOutput a.text.now a.table.now a.out.now) t.run-text-by-value.ensures.0 e.ended2.given.1 l.refused-line.ensures
+    lists_refused (whole_with_output a.text.now a.table.now a.out.now) t.run-text-by-value.ensures.0 e.ended2.given.1 l.refused-line.ensures
 
-pub list-spec : {M : Type 1} → statement M
-list-spec =
+pub list_spec : {M : Type 1} → statement M
+list_spec =
     tie.close
     (tie.spec
     run-text-by-value-requires

@@ -1,7 +1,7 @@
 -- `text::run_head` meets its contract: the plan is refused, or granted lines, answers and slots make the listing. Assumes nothing.
 use mathlib.Core.Path.{refl}
 use borrow.Author.Rules.{rules}
-use Rattle.frame.proofs.text.WholeText.{run-refused, lines-may-start, run-done}
+use Rattle.frame.proofs.text.WholeText.{run_refused, lines_may_start, run_done}
 use Rattle.frame.proofs.text.run_head.Statement.{statement}
 use Rattle.frame.proofs.text.run_head.Tie as tie
 
@@ -21,7 +21,7 @@ returns : tie.Need-returns
 returns c =
     let p = c.before.before.before.before.before.before.before in
     let s = p.before.before.before.before.before in
-    run-refused s.requires p.plan-by-value.ensures.0 s.args.clock s.args.hold s.args.out.now c.before.before.answer.given.1 c.refused.ensures
+    run_refused s.requires p.plan-by-value.ensures.0 s.args.clock s.args.hold s.args.out.now c.before.before.answer.given.1 c.refused.ensures
 
 enum_told : tie.Need-enum-told
 enum_told c = search rules
@@ -33,7 +33,7 @@ run-lines-requires : tie.Need-run-lines-requires
 run-lines-requires c κs =
     let e = c.before.before.before.before.before.before in
     let p = e.before.before.before.before.before in
-    lines-may-start p.before.before.before.before.before.requires p.plan-by-value.ensures.0 e.enum_told.given.1
+    lines_may_start p.before.before.before.before.before.requires p.plan-by-value.ensures.0 e.enum_told.given.1
 
 slot-lines-requires : tie.Need-slot-lines-requires
 slot-lines-requires c κs = search rules
@@ -52,10 +52,10 @@ returns-2 c =
     let e = w.before.before in
     let p = e.before.before.before.before.before in
     let s = p.before.before.before.before.before in
-    run-done s.requires p.plan-by-value.ensures.0 e.enum_told.given.1 s.args.clock s.args.hold w.granted-lines.ensures r.run-lines.ensures d.slot-lines.ensures refl
+    run_done s.requires p.plan-by-value.ensures.0 e.enum_told.given.1 s.args.clock s.args.hold w.granted-lines.ensures r.run-lines.ensures d.slot-lines.ensures refl
 
-pub run-head-spec : {M : Type 1} → statement M
-run-head-spec =
+pub run_head_spec : {M : Type 1} → statement M
+run_head_spec =
     tie.close
     (tie.spec
     plan-by-value-requires

@@ -50,10 +50,10 @@ use Rattle.frame.specs.declared.text.TextAnswer.{TextAnswer}
 use Rattle.frame.specs.contracts.text.TextAnswer as Ta
 use Rattle.frame.proofs.text.TextAnswer.TheLaws as Ta'
 use Rattle.station.specs.Records.{loaded, saved}
-use Rattle.station.proofs.Walks.{Bank, copied-val, copied-tells, copied-makes, copied-typed, head-val, head-tells, head-makes, head-typed}
-use Rattle.station.proofs.Walks.{Reshared, reshares, is-back}
-use Rattle.station.proofs.Walks.{Counts, Loads, to-count, goes-count, to-load, goes_load}
-use Rattle.station.proofs.Walks.{asks, hands, hands-one, full, ◌&◌, none, leaves-fn, meets-by, hands-three}
+use Rattle.station.proofs.Walks.{Bank, copied_val, copied_tells, copied_makes, copied_typed, head_val, head_tells, head_makes, head_typed}
+use Rattle.station.proofs.Walks.{Reshared, reshares, is_back}
+use Rattle.station.proofs.Walks.{Counts, Loads, to_count, goes_count, to_load, goes_load}
+use Rattle.station.proofs.Walks.{asks, hands, hands_one, full, ◌&◌, none, leaves_fn, meets_by, hands_three}
 use Rattle.station.specs.contracts.records.record_count as record-count
 use Rattle.station.proofs.records.record_count.Symbol as record-count-def
 use Rattle.station.proofs.records.record_count.Symbol.{name as #record-count}
@@ -67,7 +67,7 @@ use Rattle.station.proofs.records.save.Symbol as save-def
 use Rattle.station.proofs.records.save.Symbol.{name as #save}
 use Rattle.station.proofs.records.save.Met as save-thm
 use Rattle.frame.specs.TextEntry.{TextOnSlice, TextEntry, answer_of}
-use Rattle.frame.proofs.text.ListOfRecords.{text-entry}
+use Rattle.frame.proofs.text.ListOfRecords.{text_entry}
 use Rattle.frame.specs.contracts.text.counted.text_counted as text-counted
 use Rattle.frame.proofs.text.counted.text_counted.Symbol as text-counted-def
 use Rattle.frame.proofs.text.counted.text_counted.Symbol.{name as #text-counted}
@@ -107,7 +107,7 @@ module _ {M : Type 1} {𝓤 : Ura M} (𝓛 : Logic 𝓤) (mem : Memory → SProp
 
 module _ {M : Type 1} {𝓤 : Ura M} (𝓛 : Logic 𝓤) (mem : Memory → SProp 𝓤) (run : Routine → Fun 𝓤) (κ₀ κ₁ κ₂ κ₃ : Lft) (q₀ q₁ q₂ q₃ : Share) (y : MutBor (List ℕ)) (h : Head)
     (b o : ℕ) (γ : GName) (ys : List Preset) (b₂ o₂ : ℕ) (γ₂ : GName) (t : List ℕ) (c : ℕ) (hold : Bool) (b₃ o₃ : ℕ) (γ₃ : GName) (out : List ℕ)
-    (is-head : Is Hd.the_row h (head-val h ∷ [])) (c-fits : c < 2 ^ 64) where
+    (is-head : Is Hd.the_row h (head_val h ∷ [])) (c-fits : c < 2 ^ 64) where
   -- the list under the name δ, the table and the output
   open 𝓛 use {H, A}
 
@@ -137,7 +137,7 @@ module _ {M : Type 1} {𝓤 : Ura M} (𝓛 : Logic 𝓤) (mem : Memory → SProp
   a = (y, (h, (s γ, (x₂, (c, (hold, (x₃, tt)))))))
 
   abbrev at : Vals run-text.signature (κ₀, (κ₁, (κ₂, (κ₃, tt))))
-  at = (v₀ ∷ [], (head-val h ∷ [], (v₁ ∷ [], (v₂ ∷ [], (vint w64 c ∷ [], (vbool hold ∷ [], (v₃ ∷ [], tt)))))))
+  at = (v₀ ∷ [], (head_val h ∷ [], (v₁ ∷ [], (v₂ ∷ [], (vint w64 c ∷ [], (vbool hold ∷ [], (v₃ ∷ [], tt)))))))
 
   -- what the triple binds outside
   abbrev bound : (walk_of 𝓛 run-text.ended stayed (run-text.clauses 𝓛 mem run)).Ghost
@@ -179,7 +179,7 @@ module _ {M : Type 1} {𝓤 : Ura M} (𝓛 : Logic 𝓤) (mem : Memory → SProp
       (q₀, (q₂, (q₃, tt))),
       tt,
       (length ys, (y, (h, (copied, (x₂, (c, (hold, (x₃, tt)))))))),
-      (vint w64 (length ys) ∷ [], (v₀ ∷ [], (head-val h ∷ [], (copied-val copied ∷ [], (v₂ ∷ [], (vint w64 c ∷ [], (vbool hold ∷ [], (v₃ ∷ [], tt)))))))),
+      (vint w64 (length ys) ∷ [], (v₀ ∷ [], (head_val h ∷ [], (copied_val copied ∷ [], (v₂ ∷ [], (vint w64 c ∷ [], (vbool hold ∷ [], (v₃ ∷ [], tt)))))))),
     ),
     tt,
   )
@@ -188,23 +188,23 @@ module _ {M : Type 1} {𝓤 : Ura M} (𝓛 : Logic 𝓤) (mem : Memory → SProp
   to-copied r = ((tt, tt, tt, (r, tt), (Tr'.lowered r ∷ [], tt)), tt)
 
   abbrev to-save : List Preset → (Save 𝓛 mem run).Ghost
-  to-save copied = (((κ₁, tt), (q₁, tt), tt, (s γ, (copied, (32, tt))), (v₁ ∷ [], (copied-val copied ∷ [], (vint w64 32 ∷ [], tt)))), tt)
+  to-save copied = (((κ₁, tt), (q₁, tt), tt, (s γ, (copied, (32, tt))), (v₁ ∷ [], (copied_val copied ∷ [], (vint w64 32 ∷ [], tt)))), tt)
 
   abbrev to-answer : TextRun → (AnswerOf 𝓛 mem run).Ghost
   to-answer r = ((tt, tt, tt, (r, tt), (Tr'.lowered r ∷ [], tt)), tt)
 
-  goes-text : (copied : List Preset) → length ys < 2 ^ 64 → Is Bank copied (copied-val copied ∷ [])
+  goes-text : (copied : List Preset) → length ys < 2 ^ 64 → Is Bank copied (copied_val copied ∷ [])
       → ent 𝓤 (sep 𝓤 (sep 𝓤 (sep 𝓤 (sep 𝓤 (sep 𝓤 (A.lft κ₀ q₀) (A.lft κ₂ q₂)) (A.lft κ₃ q₃)) (sem 𝓛 OwnText)) (sem 𝓛 OwnTable)) (sem 𝓛 OwnOut)) ((TextCounted 𝓛 mem run).pre (to-text copied))
   goes-text copied fits is =
       qed 𝓛 ((((((‵ (flft κ₀ q₀) ⊛ ‵ (flft κ₂ q₂)) ⊛ ‵ (flft κ₃ q₃)) ⊛ ‵ OwnText) ⊛ ‵ OwnTable) ⊛ ‵ OwnOut) ∷ []) ∵ split ! $ split ! $ split ! $ split ! $ split ! $
       -- [the three tokens; what the text owns, the table and the output]
       nothing ! $ move ! (6 ∷ 0 ∷ []) $ fjoin ! $ owned ! bool (Is bool) (bool_Makes 𝓛) hold _ refl $ fjoin ! $ owned ! usize (Is usize) (uint_Makes 𝓛 w64) c _ (refl, c-fits) $ fjoin ! $ move ! (5 ∷ 0 ∷ []) $ fjoin ! $
-      owned ! Bank (Is Bank) (copied-makes 𝓛) copied _ is $ fjoin ! $ owned ! Hd.the_row (Is Hd.the_row) (head-makes 𝓛) h _ is-head $ fjoin ! $ move ! (4 ∷ 0 ∷ []) $ fjoin ! $
-      owned ! usize (Is usize) (uint_Makes 𝓛 w64) (length ys) _ (refl, fits) $ fjoin ! $ hands-three !
+      owned ! Bank (Is Bank) (copied_makes 𝓛) copied _ is $ fjoin ! $ owned ! Hd.the_row (Is Hd.the_row) (head_makes 𝓛) h _ is-head $ fjoin ! $ move ! (4 ∷ 0 ∷ []) $ fjoin ! $
+      owned ! usize (Is usize) (uint_Makes 𝓛 w64) (length ys) _ (refl, fits) $ fjoin ! $ hands_three !
 
-  goes-save : (copied : List Preset) → Is Bank copied (copied-val copied ∷ []) → ent 𝓤 (sep 𝓤 (A.lft κ₁ q₁) (sem 𝓛 Own)) ((Save 𝓛 mem run).pre (to-save copied))
+  goes-save : (copied : List Preset) → Is Bank copied (copied_val copied ∷ []) → ent 𝓤 (sep 𝓤 (A.lft κ₁ q₁) (sem 𝓛 Own)) ((Save 𝓛 mem run).pre (to-save copied))
   goes-save copied is =
-      qed 𝓛 (‵ (flft κ₁ q₁) ∷ ‵ Own ∷ []) ∵ nothing ! $ owned ! usize (Is usize) (uint_Makes 𝓛 w64) 32 _ (refl, lit< tt) $ fjoin ! $ owned ! Bank (Is Bank) (copied-makes 𝓛) copied _ is $ fjoin ! $ move ! (2 ∷ 0 ∷ []) $ fjoin ! $ hands-one !
+      qed 𝓛 (‵ (flft κ₁ q₁) ∷ ‵ Own ∷ []) ∵ nothing ! $ owned ! usize (Is usize) (uint_Makes 𝓛 w64) 32 _ (refl, lit< tt) $ fjoin ! $ owned ! Bank (Is Bank) (copied_makes 𝓛) copied _ is $ fjoin ! $ move ! (2 ∷ 0 ∷ []) $ fjoin ! $ hands_one !
 
   module _ (𝓣 : Tables 𝓤 H) (known-count : Triple 𝓤 (𝓣.C #record-count) (Counts 𝓛 mem run)) (known-load : Triple 𝓤 (𝓣.C #load) (Loads 𝓛 mem run)) (known-text : Triple 𝓤 (𝓣.C #text-counted) (TextCounted 𝓛 mem run))
       (known-copied : Triple 𝓤 (𝓣.C #presets-of) (BankOf 𝓛 mem run)) (known-save : Triple 𝓤 (𝓣.C #save) (Save 𝓛 mem run)) (known-answer : Triple 𝓤 (𝓣.C #answer-of) (AnswerOf 𝓛 mem run)) where
@@ -212,13 +212,13 @@ module _ {M : Type 1} {𝓤 : Ura M} (𝓛 : Logic 𝓤) (mem : Memory → SProp
     fm = fm_of 𝓤 H 𝓛.laws 𝓣
 
     walk : length y.now < 2 ^ 64 → Room T.the_row (length ys) → Room u16 (length t) → Room u8 (length out)
-        → ent 𝓤 (on_entry 𝓛 run-text.signature (κ₀, (κ₁, (κ₂, (κ₃, tt)))) (q₀, (q₁, (q₂, (q₃, tt)))) a at) (WpFn 𝓤 H 𝓣.C 𝓣.Λ code.function (v₀ ∷ head-val h ∷ v₁ ∷ v₂ ∷ vint w64 c ∷ vbool hold ∷ v₃ ∷ []) Post)
+        → ent 𝓤 (on_entry 𝓛 run-text.signature (κ₀, (κ₁, (κ₂, (κ₃, tt)))) (q₀, (q₁, (q₂, (q₃, tt)))) a at) (WpFn 𝓤 H 𝓣.C 𝓣.Λ code.function (v₀ ∷ head_val h ∷ v₁ ∷ v₂ ∷ vint w64 c ∷ vbool hold ∷ v₃ ∷ []) Post)
     walk g₀ fit₁ fit₂ fit₃ =
         qed 𝓛 ((‵ (flft κ₀ q₀) ⊛ (‵ (flft κ₁ q₁) ⊛ (‵ (flft κ₂ q₂) ⊛ (‵ (flft κ₃ q₃) ⊛ ‵ ftrue)))) ∷ ‵ (owns (ShrSlice (named 0) κ₀ u8 ∷ Hd.the_row ∷ MutSlice (named 1) κ₁ T.the_row ∷ MutSlice (named 2) κ₂ u16 ∷ usize ∷ bool ∷ MutSlice (named 3) κ₃ u8 ∷ []) a at) ∷ []) ∵
-        enter ! 𝓣.C 𝓣.Λ code.function (v₀ ∷ head-val h ∷ v₁ ∷ v₂ ∷ vint w64 c ∷ vbool hold ∷ v₃ ∷ []) _ $
+        enter ! 𝓣.C 𝓣.Λ code.function (v₀ ∷ head_val h ∷ v₁ ∷ v₂ ∷ vint w64 c ∷ vbool hold ∷ v₃ ∷ []) _ $
         alloc1 ! (λ l₀. alloc1 ! (λ l₁. alloc1 ! (λ l₂. alloc1 ! (λ l₃. alloc1 ! (λ l₄. alloc1 ! (λ l₅. alloc1 ! (λ l₆. alloc1 ! (λ l₇. alloc1 ! (λ l₈. alloc1 ! (λ l₉. alloc1 ! (λ l₁₀.
         alloc1 ! (λ l₁₁. alloc1 ! (λ l₁₂. alloc1 ! (λ l₁₃. alloc1 ! (λ l₁₄. alloc1 ! (λ l₁₅. alloc1 ! (λ l₁₆. alloc1 ! (λ l₁₇. alloc1 ! (λ l₁₈. alloc1 ! (λ l₁₉. alloc1 ! (λ l₂₀. alloc1 ! (λ l₂₁. alloc1 ! (λ l₂₂. alloc0 ! $ params1 ! $
-        pass1 ! (init ! 42 refl (tt, (tt, (record { fits = g₀ }, tt)))) $ pass1 ! (init ! 40 refl (head-typed 𝓛 h is-head)) $ pass1 ! (init ! 38 refl (tt, (tt, (record { fits = fit₁.0 }, tt)))) $
+        pass1 ! (init ! 42 refl (tt, (tt, (record { fits = g₀ }, tt)))) $ pass1 ! (init ! 40 refl (head_typed 𝓛 h is-head)) $ pass1 ! (init ! 38 refl (tt, (tt, (record { fits = fit₁.0 }, tt)))) $
         pass1 ! (init ! 36 refl (tt, (tt, (record { fits = fit₂.0 }, tt)))) $ pass1 ! (init ! 34 refl (tt, record { fits = c-fits })) $ pass1 ! (init ! 32 refl (tt, tt)) $ pass1 ! (init ! 30 refl (tt, (tt, (record { fits = fit₃.0 }, tt)))) $ pass0 ! $
         -- [_22; …; _0; …; the tokens; what the parameters own]
         move ! (47 ∷ []) $ fsplit ! $ move ! (1 ∷ []) $ fsplit ! $ drop ! $ fsplit ! $ move ! (1 ∷ []) $ fsplit ! $ move ! (1 ∷ []) $ fsplit ! $ drop ! $ fsplit ! $ drop ! $ fsplit ! $
@@ -231,19 +231,19 @@ module _ {M : Type 1} {𝓤 : Ura M} (𝓛 : Logic 𝓤) (mem : Memory → SProp
         use2 𝓛 (later (some (λ (δ : GName). ‵ (Shared ν δ) ⊛ ‵ (Reshared T.the_row κ₁ (ν ∷ []) q₁ γ b o ys)))) (reshares T.the_row κ₁ (ν ∷ []) q₁ γ b o 𝓛 (named 0) (named 0) ys v₁) $ await ! tt $ pick ! (λ δ. split ! $
         use1 𝓛 (‵ (Shared ν δ) ⊛ ‵ (Shared ν δ)) ((shr_slice_copy 𝓛 (named 0) (ν ∷ []) T.the_row).twice (s δ) (v₁ ∷ [])) $ split ! $
         -- `record_count`
-        move ! (3 ∷ 0 ∷ []) $ use2 𝓛 (raw ((Counts 𝓛 mem run).pre (to-count 𝓛 mem run (ν ∷ []) full_share (s δ)))) (goes-count 𝓛 mem run (ν ∷ []) full_share (s δ)) $
-        asks ! fm record-count.ended (record-count.clauses 𝓛 mem run) known-count (to-count 𝓛 mem run (ν ∷ []) full_share (s δ)) (‵ (flft (ν ∷ []) full_share) ⊛ ‵ ftrue) refl (λ r ws. r ≡ length ys) (λ r ws. refl) (vint w64) (uint_Tells w64)
+        move ! (3 ∷ 0 ∷ []) $ use2 𝓛 (raw ((Counts 𝓛 mem run).pre (to_count 𝓛 mem run (ν ∷ []) full_share (s δ)))) (goes_count 𝓛 mem run (ν ∷ []) full_share (s δ)) $
+        asks ! fm record-count.ended (record-count.clauses 𝓛 mem run) known-count (to_count 𝓛 mem run (ν ∷ []) full_share (s δ)) (‵ (flft (ν ∷ []) full_share) ⊛ ‵ ftrue) refl (λ r ws. r ≡ length ys) (λ r ws. refl) (vint w64) (uint_Tells w64)
         (and_then ! (reads ! (from ! (stop !)) (look ! 31 refl)) (no_more !)) (λ m _ is_m e-m. land ! (from ! (stop !)) (init ! 40 refl (tt, record { fits = is_m.1 })) $
         rewrite ! 40 (λ (k : ℕ). ‵ (fat full_share (ty_int w64) l₈ 0 (vint w64 k))) e-m refl $
         -- [ν; nothing said; the list as a `&`; what its holder keeps; κ₃; true; κ₂; κ₀; the output; true; the table; the text; _22; …; _0; …]
         assigns ! (addr ! (from ! (fld ! refl (hop ! (look_in ! 50 (sub ! 0 refl (whole !))) (stop !))))) (from ! (stop !)) (init ! 30 refl (tt, tt)) $
         assigns ! (agg ! (and_then ! (reads ! (from ! (stop !)) (look ! 30 refl)) (and_then ! (reads ! (from ! (fld ! refl (stop !))) (look_in ! 50 (sub ! 1 refl (whole !)))) (no_more !)))) (from ! (stop !)) (init ! 28 refl (tt, (tt, (record { fits = fit₁.0 }, tt)))) $
         -- `load`
-        split ! $ move ! (0 ∷ 3 ∷ []) $ use2 𝓛 (raw ((Loads 𝓛 mem run).pre (to-load 𝓛 mem run (ν ∷ []) full_share (s δ)))) (goes_load 𝓛 mem run (ν ∷ []) full_share (s δ)) $
-        asks ! fm load.ended (load.clauses 𝓛 mem run) known-load (to-load 𝓛 mem run (ν ∷ []) full_share (s δ)) (‵ (flft (ν ∷ []) full_share) ⊛ ‵ ftrue) refl (λ r ws. r ≡ loaded ys) (λ r ws. refl) copied-val copied-tells
-        (and_then ! (reads ! (from ! (stop !)) (look ! 28 refl)) (no_more !)) (λ copied _ is-copied e-copied. land ! (from ! (stop !)) (init ! 39 refl (copied-typed 𝓛 copied is-copied)) $
+        split ! $ move ! (0 ∷ 3 ∷ []) $ use2 𝓛 (raw ((Loads 𝓛 mem run).pre (to_load 𝓛 mem run (ν ∷ []) full_share (s δ)))) (goes_load 𝓛 mem run (ν ∷ []) full_share (s δ)) $
+        asks ! fm load.ended (load.clauses 𝓛 mem run) known-load (to_load 𝓛 mem run (ν ∷ []) full_share (s δ)) (‵ (flft (ν ∷ []) full_share) ⊛ ‵ ftrue) refl (λ r ws. r ≡ loaded ys) (λ r ws. refl) copied_val copied_tells
+        (and_then ! (reads ! (from ! (stop !)) (look ! 28 refl)) (no_more !)) (λ copied _ is-copied e-copied. land ! (from ! (stop !)) (init ! 39 refl (copied_typed 𝓛 copied is-copied)) $
         -- the lifetime is ended, and the list is back
-        split ! $ lft_end ! tt $ move ! (0 ∷ 5 ∷ []) $ use2 𝓛 (later (‵ Own ⊛ ‵ (flft κ₁ q₁))) (is-back T.the_row κ₁ (ν ∷ []) q₁ γ b o 𝓛 (named 0) (named 0) ys v₁ refl fit₁) $ await ! tt $ split ! $
+        split ! $ lft_end ! tt $ move ! (0 ∷ 5 ∷ []) $ use2 𝓛 (later (‵ Own ⊛ ‵ (flft κ₁ q₁))) (is_back T.the_row κ₁ (ν ∷ []) q₁ γ b o 𝓛 (named 0) (named 0) ys v₁ refl fit₁) $ await ! tt $ split ! $
         -- [the list; κ₁; true; nothing said; true; nothing said; κ₃; true; κ₂; κ₀; the output; true; the table; the text; _22; …; _0; …]
         assigns ! (addr ! (from ! (fld ! refl (hop ! (look_in ! 50 (sub ! 0 refl (whole !))) (stop !))))) (from ! (stop !)) (init ! 28 refl (tt, tt)) $
         assigns ! (agg ! (and_then ! (reads ! (from ! (stop !)) (look ! 28 refl)) (and_then ! (reads ! (from ! (fld ! refl (stop !))) (look_in ! 50 (sub ! 1 refl (whole !)))) (no_more !)))) (from ! (stop !)) (init ! 26 refl (tt, (tt, (record { fits = fit₂.0 }, tt)))) $
@@ -262,8 +262,8 @@ module _ {M : Type 1} {𝓤 : Ura M} (𝓛 : Logic 𝓤) (mem : Memory → SProp
         assigns ! (agg ! (and_then ! (reads ! (from ! (stop !)) (look ! 14 refl)) (and_then ! (reads ! (from ! (fld ! refl (stop !))) (look_in ! 48 (sub ! 1 refl (whole !)))) (no_more !)))) (from ! (stop !)) (init ! 12 refl (tt, (tt, (record { fits = fit₁.0 }, tt)))) $
         -- `presets_of`
         use0 𝓛 (raw ((BankOf 𝓛 mem run).pre (to-copied r))) (hands 𝓛 presets-of.ended (presets-of.clauses 𝓛 mem run) (to-copied r) refl (SL.makes Tr.the_type Tr'.the_plain 𝓛, tt) (is-r, tt)) $
-        asks ! fm presets-of.ended (presets-of.clauses 𝓛 mem run) known-copied (to-copied r) (‵ ftrue) refl (λ k _. k ≡ r.presets) (λ k _. refl) copied-val copied-tells
-        (and_then ! (reads ! (from ! (stop !)) (look ! 35 refl)) (no_more !)) (λ k _ is-k e-k. land ! (from ! (stop !)) (init ! 12 refl (copied-typed 𝓛 k is-k)) $
+        asks ! fm presets-of.ended (presets-of.clauses 𝓛 mem run) known-copied (to-copied r) (‵ ftrue) refl (λ k _. k ≡ r.presets) (λ k _. refl) copied_val copied_tells
+        (and_then ! (reads ! (from ! (stop !)) (look ! 35 refl)) (no_more !)) (λ k _ is-k e-k. land ! (from ! (stop !)) (init ! 12 refl (copied_typed 𝓛 k is-k)) $
         -- `save`
         move ! (5 ∷ 4 ∷ []) $ use2 𝓛 (raw ((Save 𝓛 mem run).pre (to-save k))) (goes-save k is-k) $
         -- [what it asks; true; nothing said; κ₀, κ₂ and κ₃; the last table and output; true; nothing said; true; nothing said; true; true; _22; …; _0; …]
@@ -273,7 +273,7 @@ module _ {M : Type 1} {𝓤 : Ura M} (𝓛 : Logic 𝓤) (mem : Memory → SProp
         use0 𝓛 (raw ((AnswerOf 𝓛 mem run).pre (to-answer r))) (hands 𝓛 answer-of.ended (answer-of.clauses 𝓛 mem run) (to-answer r) refl (SL.makes Tr.the_type Tr'.the_plain 𝓛, tt) (is-r, tt)) $
         asks ! fm answer-of.ended (answer-of.clauses 𝓛 mem run) known-answer (to-answer r) (‵ ftrue) refl (λ p _. p ≡ answer_of r) (λ p _. refl) Ta'.lowered (Ta'.lowers).val_is
         (and_then ! (reads ! (from ! (stop !)) (look ! 37 refl)) (no_more !)) (λ p _ is-p e-p. land ! (from ! (stop !)) (init ! 58 refl ((SL.lawful Ta.the_type Ta'.the_laws 𝓛).typed p _ is-p).0) $
-        returns ! (look ! 58 refl) $ leaves-fn ! 14
+        returns ! (look ! 58 refl) $ leaves_fn ! 14
         (full refl refl & full refl refl & full refl refl & full refl refl & full refl refl & full refl refl & full refl refl & full refl refl & full refl refl & full refl refl & full refl refl & full refl refl
         & full refl refl & full refl refl & full refl refl & full refl refl & full refl refl & full refl refl & full refl refl & full refl refl & full refl refl & full refl refl & full refl refl & none) $
         -- [true; nothing said; κ₁; the last list; true; nothing said; κ₀, κ₂ and κ₃; the last table and output; …]
@@ -282,14 +282,14 @@ module _ {M : Type 1} {𝓤 : Ura M} (𝓛 : Logic 𝓤) (mem : Memory → SProp
         -- [the last output; true; the last table; the last list; …; true; nothing said; κ₁; true; nothing said; κ₀, κ₂ and κ₃; …]
         move ! (10 ∷ []) $ split ! $ move ! (1 ∷ []) $ split ! $ move ! (1 ∷ []) $ split ! $ move ! (11 ∷ []) $ split ! $ keep ! (5 ∷ 0 ∷ 4 ∷ 2 ∷ 9 ∷ 8 ∷ 6 ∷ []) $
         by ! (exits p zs.0 ws.1.1.1.1.0 ws.1.1.1.1.1.1.1.0 is-p
-        (text-entry ys y.now t out h c hold (subst (λ (ps : List Preset). TextOnSlice (length ys) y.now h ps t c hold out ws.1.1.1.1.0 ws.1.1.1.1.1.1.1.0 r) e-copied d) (e-zs ∙ ap (λ (ps : List Preset). saved ys ps 32) e-k) e-p) f₁ f₂ f₃)))))))))))))))))))))))))))))))))))
+        (text_entry ys y.now t out h c hold (subst (λ (ps : List Preset). TextOnSlice (length ys) y.now h ps t c hold out ws.1.1.1.1.0 ws.1.1.1.1.1.1.1.0 r) e-copied d) (e-zs ∙ ap (λ (ps : List Preset). saved ys ps 32) e-k) e-p) f₁ f₂ f₃)))))))))))))))))))))))))))))))))))
 
 meets : {M : Type 1} {𝓤 : Ura M} (𝓛 : Logic 𝓤) → (mem : Memory → SProp 𝓤) (run : Routine → Fun 𝓤) (𝓣 : Tables 𝓤 𝓛.H)
     → Triple 𝓤 (𝓣.C #record-count) (Counts 𝓛 mem run) → Triple 𝓤 (𝓣.C #load) (Loads 𝓛 mem run) → Triple 𝓤 (𝓣.C #text-counted) (TextCounted 𝓛 mem run)
     → Triple 𝓤 (𝓣.C #presets-of) (BankOf 𝓛 mem run) → Triple 𝓤 (𝓣.C #save) (Save 𝓛 mem run) → Triple 𝓤 (𝓣.C #answer-of) (AnswerOf 𝓛 mem run)
     → Meets 𝓛 run-text.signature (WpFn 𝓤 𝓛.H 𝓣.C 𝓣.Λ code.function) (run-text.spec 𝓛 mem run)
 meets 𝓛 mem run 𝓣 known-count known-load known-text known-copied known-save known-answer =
-    meets-by 𝓛 run-text.ended stayed (
+    meets_by 𝓛 run-text.ended stayed (
       Goes-dropped 𝓛 4 (shr_slice_of (0 ∷ []) tt (plain (λ _. u8))) yes (λ κs x f. refl),
       (
         Goes-dropped 𝓛 4 (plain (λ _. Hd.the_row)) yes (λ κs x f. refl),
@@ -303,16 +303,16 @@ meets 𝓛 mem run 𝓣 known-count known-load known-text known-copied known-sav
       ),
     )
     (run-text.clauses 𝓛 mem run) code.function 𝓣
-    (λ κs. (shr_slice_vals, ((λ h. head-val h ∷ []), (shr_slice_vals, (shr_slice_vals, (uint_vals w64, (bool_vals, (shr_slice_vals, tt))))))))
-    (λ κs. (shr_slice_Tells (named 0) κs.0 u8, (head-tells, (mut_slice_Tells (named 1) κs.1.0 T.the_row, (mut_slice_Tells (named 2) κs.1.1.0 u16, (uint_Tells w64, (bool_Tells, (mut_slice_Tells (named 3) κs.1.1.1.0 u8, tt))))))))
+    (λ κs. (shr_slice_vals, ((λ h. head_val h ∷ []), (shr_slice_vals, (shr_slice_vals, (uint_vals w64, (bool_vals, (shr_slice_vals, tt))))))))
+    (λ κs. (shr_slice_Tells (named 0) κs.0 u8, (head_tells, (mut_slice_Tells (named 1) κs.1.0 T.the_row, (mut_slice_Tells (named 2) κs.1.1.0 u16, (uint_Tells w64, (bool_Tells, (mut_slice_Tells (named 3) κs.1.1.1.0 u8, tt))))))))
     (λ κs qs bounds a g are. walk 𝓛 mem run κs.0 κs.1.0 κs.1.1.0 κs.1.1.1.0 qs.0 qs.1.0 qs.1.1.0 qs.1.1.1.0 a.0 a.1.0
     a.1.1.0.ref_ptr.0 a.1.1.0.ref_ptr.1 a.1.1.0.ghost_name a.1.1.0.now a.1.1.1.0.ref_ptr.0 a.1.1.1.0.ref_ptr.1 a.1.1.1.0.ghost_name a.1.1.1.0.now a.1.1.1.1.0 a.1.1.1.1.1.0
     a.1.1.1.1.1.1.0.ref_ptr.0 a.1.1.1.1.1.1.0.ref_ptr.1 a.1.1.1.1.1.1.0.ghost_name a.1.1.1.1.1.1.0.now are.1.0 are.1.1.1.1.0.1
     𝓣 known-count known-load known-text known-copied known-save known-answer are.0.0.1.0 are.1.1.0.0.1 are.1.1.1.0.0.1 are.1.1.1.1.1.1.0.0.1)
 
-pub run-text-spec : {M : Type 1} → stated.statement M
+pub run_text_spec : {M : Type 1} → stated.statement M
 unfolding code.routine tables_of
-run-text-spec 𝓤 𝓛 𝓜 𝓡 =
+run_text_spec 𝓤 𝓛 𝓜 𝓡 =
     entered 𝓤 𝓛.H (triple_of 𝓛 run-text.signature (run-text.spec 𝓛 𝓜.mem 𝓡.run))
     (tables 𝓤 𝓛.H 𝓜 𝓡 code.env).C (tables 𝓤 𝓛.H 𝓜 𝓡 code.env).Λ #run-text code.function (code.unfolded 𝓤 𝓛.H 𝓜 𝓡)
     (meets 𝓛 𝓜.mem 𝓡.run (tables_of 𝓤 𝓛.H 𝓜 (tables 𝓤 𝓛.H 𝓜 𝓡 code.env))

@@ -17,5 +17,5 @@ same_length c = search rules
 returns-2 : tie.Need-returns-2
 returns-2 c = record { short = λ l. absurd (omega (arith, c.before.before.before.before.if1.false, l)); done = λ _. c.before.before.call-by-value.ensures.0 }
 
-pub call-counted-spec : {M : Type 1} → statement M
-call-counted-spec = tie.close (tie.spec returns call-by-value-requires same_length returns-2)
+pub call_counted_spec : {M : Type 1} → statement M
+call_counted_spec = tie.close (tie.spec returns call-by-value-requires same_length returns-2)

@@ -3,20 +3,20 @@ use Prim.Native.Nat.{◌+◌, ◌-◌, ◌%◌, ◌≤◌}
 use native.Mathlib.Omega.{arith}
 use mathlib.Core.Path.{◌≡◌, refl}
 use lib.ListN.{length, length-set, replicate}
-use Rattle.laws.proofs.Stores.{Stored, stored-none, stored_more}
-use Rattle.placing.specs.method.Jobs.{jobNumber}
+use Rattle.laws.proofs.Stores.{Stored, stored_none, stored_more}
+use Rattle.placing.specs.method.Jobs.{job_number}
 use Rattle.placing.proofs.call.CallAnswers.{cells_are}
 use Rattle.placing.proofs.call.job_cells.Statement.{statement}
 use Rattle.placing.proofs.call.job_cells.Tie as tie
 
 abbrev invariant-loop : tie.invariant-loop
-invariant-loop jobs all₀ i₀ all i = (i ≤ 8) × (length all ≡ 64) × Stored (replicate 64 0) (λ j. 1024 + jobNumber jobs j % 256) 0 i all
+invariant-loop jobs all₀ i₀ all i = (i ≤ 8) × (length all ≡ 64) × Stored (replicate 64 0) (λ j. 1024 + job_number jobs j % 256) 0 i all
 
 abbrev decreases-loop : tie.decreases-loop
 decreases-loop jobs all₀ i₀ all i = 8 - i
 
 loop-holds : tie.Need-loop-init invariant-loop decreases-loop
-loop-holds c = (omega arith, omega arith, stored-none (replicate 64 0) _ 0)
+loop-holds c = (omega arith, omega arith, stored_none (replicate 64 0) _ 0)
 
 mul-job : tie.Need-overflow-mul-job invariant-loop decreases-loop
 mul-job c = omega arith
@@ -53,8 +53,8 @@ returns c =
     cells_are s.args.t1 (omega (arith, s)) n few inside l.all
     (λ i m. l.invariant.2.done i (omega arith) (omega arith))
 
-pub job-cells-spec : {M : Type 1} → statement M
-job-cells-spec =
+pub job_cells_spec : {M : Type 1} → statement M
+job_cells_spec =
     tie.close
     (tie.spec
     invariant-loop

@@ -7,7 +7,7 @@ use lib.ListN.{length, get_or, length-set}
 use lib.Dec.{ltb}
 use Rattle.laws.specs.Sums.{bit}
 use Rattle.laws.proofs.Comparisons.{ltb_yes, ltb_no}
-use Rattle.laws.proofs.Stores.{Stored, stored-none, stored_more, stored-kept}
+use Rattle.laws.proofs.Stores.{Stored, stored_none, stored_more, stored_kept}
 use Rattle.placing.proofs.capacities.enter_slot.Statement.{statement}
 use Rattle.placing.proofs.capacities.enter_slot.Tie as tie
 
@@ -18,7 +18,7 @@ abbrev decreases-loop : tie.decreases-loop
 decreases-loop entries₀ free r₀ entries r = 8 - r
 
 loop-holds : tie.Need-loop-init invariant-loop decreases-loop
-loop-holds c = (omega arith, c.requires.0, stored-none c.args.entries.now _ 0)
+loop-holds c = (omega arith, c.requires.0, stored_none c.args.entries.now _ 0)
 
 element-copy-out-entries : tie.Need-element-copy-out-entries invariant-loop decreases-loop
 element-copy-out-entries c = omega arith
@@ -49,14 +49,14 @@ loop-again c =
       rw w.2 (simp length-set l.invariant.1),
       rw w.2 (stored_more l.invariant.2 (omega arith) (omega (arith, l.invariant.1)) (omega (arith, here, ap bit (ltb_yes l.r free w.0.taken)))),
     ))
-    (λ w. (omega arith, rw w.1 l.invariant.1, rw w.1 (stored-kept l.invariant.2 (omega (arith, here, ap bit (ltb_no l.r free w.0.left))))))
+    (λ w. (omega arith, rw w.1 l.invariant.1, rw w.1 (stored_kept l.invariant.2 (omega (arith, here, ap bit (ltb_no l.r free w.0.left))))))
     c.if1.branch
 
 returns : tie.Need-returns invariant-loop decreases-loop
 returns c = let l = c.before.loop in (l.invariant.1, λ q low. l.invariant.2.done q (omega arith) (omega (arith, c.loop-test.false)))
 
-pub enter-slot-spec : {M : Type 1} → statement M
-enter-slot-spec =
+pub enter_slot_spec : {M : Type 1} → statement M
+enter_slot_spec =
     tie.close
     (tie.spec
     invariant-loop

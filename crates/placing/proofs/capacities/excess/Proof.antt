@@ -5,14 +5,14 @@ use mathlib.Core.Path.{◌≡◌, sym, ◌∙◌, ap, ap₂}
 use borrow.Author.Rules.{rules}
 use Rattle.laws.specs.Sums.{greatest}
 use Rattle.laws.specs.Lists.{at}
-use Rattle.laws.specs.method.Capacities.{capacityFrom}
-use Rattle.laws.proofs.Loops.{sum-none, sum_more, greatest-none, greatest-more}
+use Rattle.laws.specs.method.Capacities.{capacity_from}
+use Rattle.laws.proofs.Loops.{sum_none, sum_more, greatest_none, greatest_more}
 use Rattle.placing.proofs.capacities.excess.Statement.{statement}
 use Rattle.placing.proofs.capacities.excess.Tie as tie
 
 abbrev invariant-loop : tie.invariant-loop
 invariant-loop sums total entries most₀ capacity₀ r₀ most capacity r =
-    (r ≤ 8) × (capacity ≤ 255 * r) × (capacity ≡ capacityFrom entries r) × (most ≡ greatest r (λ q. at sums q - capacityFrom entries q))
+    (r ≤ 8) × (capacity ≤ 255 * r) × (capacity ≡ capacity_from entries r) × (most ≡ greatest r (λ q. at sums q - capacity_from entries q))
 
 abbrev decreases-loop : tie.decreases-loop
 decreases-loop sums total entries most₀ capacity₀ r₀ most capacity r = 8 - r
@@ -23,8 +23,8 @@ element-copy-out-most c = omega arith
 loop-holds : tie.Need-loop-init invariant-loop decreases-loop
 loop-holds c =
     let a = c.before.args in
-    let none = sum-none (at a.entries.now) in
-    (omega arith, omega arith, sym none, omega (arith, none, greatest-none (λ q. at a.sums.now q - capacityFrom a.entries.now q)))
+    let none = sum_none (at a.entries.now) in
+    (omega arith, omega arith, sym none, omega (arith, none, greatest_none (λ q. at a.sums.now q - capacity_from a.entries.now q)))
 
 element-copy-out-wide : tie.Need-element-copy-out-wide invariant-loop decreases-loop
 element-copy-out-wide c = omega arith
@@ -69,7 +69,7 @@ loop-again c =
         w.wide.ensures.0,
         c.larger.ensures,
         c.before.less.ensures,
-        greatest-more l.r (λ q. at a.sums.now q - capacityFrom a.entries.now q),
+        greatest_more l.r (λ q. at a.sums.now q - capacity_from a.entries.now q),
       ),
     )
 
@@ -85,13 +85,13 @@ returns c =
     let a = d.before.before.args in
     let l = d.loop in
     let e : l.r ≡ 8 = omega arith in
-    let room : l.capacity ≡ capacityFrom a.entries.now 8 = l.invariant.2 ∙ ap (capacityFrom a.entries.now) e in
+    let room : l.capacity ≡ capacity_from a.entries.now 8 = l.invariant.2 ∙ ap (capacity_from a.entries.now) e in
     c.larger2.ensures
-    ∙ ap₂ max (l.invariant.3 ∙ ap (λ (k : ℕ). greatest k (λ q. at a.sums.now q - capacityFrom a.entries.now q)) e)
+    ∙ ap₂ max (l.invariant.3 ∙ ap (λ (k : ℕ). greatest k (λ q. at a.sums.now q - capacity_from a.entries.now q)) e)
     (c.before.less2.ensures ∙ ap (λ (y : ℕ). a.total - y) room)
 
-pub excess-spec : {M : Type 1} → statement M
-excess-spec =
+pub excess_spec : {M : Type 1} → statement M
+excess_spec =
     tie.close
     (tie.spec
     invariant-loop

@@ -8,7 +8,7 @@ use lib.Dec.{ltb}
 use borrow.Author.Rules.{rules}
 use Rattle.laws.specs.Sums.{bit}
 use Rattle.laws.proofs.Comparisons.{ltb_yes, ltb_no}
-use Rattle.laws.proofs.Stores.{Stored, stored-none, stored_more, stored-kept}
+use Rattle.laws.proofs.Stores.{Stored, stored_none, stored_more, stored_kept}
 use Rattle.placing.proofs.capacities.leave_slot.Statement.{statement}
 use Rattle.placing.proofs.capacities.leave_slot.Tie as tie
 
@@ -19,7 +19,7 @@ abbrev decreases-loop : tie.decreases-loop
 decreases-loop entries₀ free r₀ entries r = 8 - r
 
 loop-holds : tie.Need-loop-init invariant-loop decreases-loop
-loop-holds c = (omega arith, refl, λ long. stored-none c.args.entries.now _ 0)
+loop-holds c = (omega arith, refl, λ long. stored_none c.args.entries.now _ 0)
 
 element-copy-out-less-byte : tie.Need-element-copy-out-less-byte invariant-loop decreases-loop
 element-copy-out-less-byte c = omega arith
@@ -52,15 +52,15 @@ loop-again c =
     (λ w. (
       omega arith,
       rw w.1 l.invariant.1,
-      rw w.1 (λ long. let here = (l.invariant.2 long).rest l.r (omega arith) in stored-kept (l.invariant.2 long) (omega (arith, here, ap bit (ltb_no l.r free w.0.left)))),
+      rw w.1 (λ long. let here = (l.invariant.2 long).rest l.r (omega arith) in stored_kept (l.invariant.2 long) (omega (arith, here, ap bit (ltb_no l.r free w.0.left)))),
     ))
     c.if1.branch
 
 returns : tie.Need-returns invariant-loop decreases-loop
 returns c = let l = c.before.loop in (l.invariant.1, λ long q low. (l.invariant.2 long).done q (omega arith) (omega (arith, c.loop-test.false)))
 
-pub leave-slot-spec : {M : Type 1} → statement M
-leave-slot-spec =
+pub leave_slot_spec : {M : Type 1} → statement M
+leave_slot_spec =
     tie.close
     (tie.spec
     invariant-loop

@@ -12,5 +12,5 @@ kind-of-requires c κs = search rules
 returns : tie.Need-returns
 returns c = ap (λ (k : ℕ). eqb k 4) c.kind-of.ensures
 
-pub is-call-spec : {M : Type 1} → statement M
-is-call-spec = tie.close (tie.spec kind-of-requires returns)
+pub is_call_spec : {M : Type 1} → statement M
+is_call_spec = tie.close (tie.spec kind-of-requires returns)

@@ -12,5 +12,5 @@ kind-of-requires c κs = search rules
 returns : tie.Need-returns
 returns c = ap (λ (k : ℕ). eqb k 3) c.kind-of.ensures
 
-pub is-optional-spec : {M : Type 1} → statement M
-is-optional-spec = tie.close (tie.spec kind-of-requires returns)
+pub is_optional_spec : {M : Type 1} → statement M
+is_optional_spec = tie.close (tie.spec kind-of-requires returns)

@@ -15,5 +15,5 @@ returns c = (ap bit (sym c.if1.true ∙ c.before.is-call.ensures), omega arith)
 returns-2 : tie.Need-returns-2
 returns-2 c = (ap bit (sym c.if1.false ∙ c.before.is-call.ensures), omega arith)
 
-pub call-cell-spec : {M : Type 1} → statement M
-call-cell-spec = tie.close (tie.spec is-call-requires returns returns-2)
+pub call_cell_spec : {M : Type 1} → statement M
+call_cell_spec = tie.close (tie.spec is-call-requires returns returns-2)

@@ -4,9 +4,9 @@ use Prim.Native.Nat.{◌≤◌}
 use mathlib.Core.Path.{refl, sym, ◌∙◌}
 use lib.ListN.{length}
 use Rattle.laws.proofs.Tests.{clash, false_of_not, true_of_not}
-use Rattle.station.specs.Types.{headIn}
-use Rattle.placing.proofs.limits.Within.{in-limits, limits_of}
-use Rattle.placing.proofs.HeadRecord.{count-high, record-valid}
+use Rattle.station.specs.Types.{head_in}
+use Rattle.placing.proofs.limits.Within.{in_limits, limits_of}
+use Rattle.placing.proofs.HeadRecord.{count_high, record_valid}
 use Rattle.placing.proofs.counts.MarkedNumbers.{counts_of}
 use borrow.Author.Rules.{rules}
 use Rattle.placing.proofs.counts.counts_of.Statement.{statement}
@@ -31,9 +31,9 @@ returns c =
     λ e long.
     let k = c.before in
     let a = k.before.before.before.args in
-    let v = record-valid a.head a.presets e in
+    let v = record_valid a.head a.presets e in
     absurd (clash
-    (sym (in-limits a.head.slots a.head.bridges a.head.count (length a.table.now) v.slots-high v.bridges-high (count-high a.head a.presets e) long)
+    (sym (in_limits a.head.slots a.head.bridges a.head.count (length a.table.now) v.slots-high v.bridges-high (count_high a.head a.presets e) long)
     ∙ sym k.in-limits.ensures
     ∙ false_of_not _ c.if1.true))
 
@@ -52,11 +52,11 @@ returns-2 c =
     let x = k.before.before.before.before in
     let a = x.before.before.args in
     let l = within k.before.before in
-    counts_of (headIn a.head a.presets) a.clock a.table.now k.mark-calls.ensures.0 c.mark-presets.ensures.0 c.mark-presets.ensures.1 k.mark-calls.ensures.1
-    (x.count-slots.ensures (in-limits a.head.slots a.head.bridges 0 (length a.table.now) l.0 l.1 (omega arith) long))
+    counts_of (head_in a.head a.presets) a.clock a.table.now k.mark-calls.ensures.0 c.mark-presets.ensures.0 c.mark-presets.ensures.1 k.mark-calls.ensures.1
+    (x.count-slots.ensures (in_limits a.head.slots a.head.bridges 0 (length a.table.now) l.0 l.1 (omega arith) long))
 
-pub counts-of-spec : {M : Type 1} → statement M
-counts-of-spec =
+pub counts_of_spec : {M : Type 1} → statement M
+counts_of_spec =
     tie.close
     (tie.spec
     count-slots-requires

@@ -5,7 +5,7 @@ use mathlib.Core.Path.{◌≡◌, sym, ◌∙◌, ap}
 use lib.ListN.{get_or}
 use lib.Dec.{ltb}
 use Rattle.laws.specs.Sums.{bit, count}
-use Rattle.laws.proofs.Loops.{sum-none, sum_more}
+use Rattle.laws.proofs.Loops.{sum_none, sum_more}
 use Rattle.placing.specs.Table.{is_call}
 use borrow.Author.Rules.{rules}
 use Rattle.placing.proofs.counts.has_calls.Statement.{statement}
@@ -18,7 +18,7 @@ abbrev decreases-loop : tie.decreases-loop
 decreases-loop table from calls₀ b₀ calls b = 8 - b
 
 loop-holds : tie.Need-loop-init invariant-loop decreases-loop
-loop-holds c = let a = c.before.args in (omega arith, omega arith, sym (sum-none (λ j. bit (is_call (get_or a.table.now (a.from + j) 0)))))
+loop-holds c = let a = c.before.args in (omega arith, omega arith, sym (sum_none (λ j. bit (is_call (get_or a.table.now (a.from + j) 0)))))
 
 add-call-cell : tie.Need-overflow-add-call-cell invariant-loop decreases-loop
 add-call-cell c = omega arith
@@ -54,8 +54,8 @@ returns c =
     let e : l.b ≡ 8 = omega arith in
     ap (λ (k : ℕ). ltb 0 k) (l.invariant.2 ∙ ap (λ (k : ℕ). count k (λ j. is_call (get_or a.table.now (a.from + j) 0))) e)
 
-pub has-calls-spec : {M : Type 1} → statement M
-has-calls-spec =
+pub has_calls_spec : {M : Type 1} → statement M
+has_calls_spec =
     tie.close
     (tie.spec
     invariant-loop

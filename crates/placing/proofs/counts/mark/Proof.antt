@@ -2,7 +2,7 @@
 use mathlib.Core.Path.{sym, ◌∙◌}
 use borrow.Author.Tests.{not-true, not-false}
 use borrow.Author.Rules.{rules}
-use Rattle.placing.proofs.counts.MarkedNumbers.{mark-other, mark-again, mark-new}
+use Rattle.placing.proofs.counts.MarkedNumbers.{mark_other, mark_again, mark_new}
 use Rattle.placing.proofs.counts.mark.Statement.{statement}
 use Rattle.placing.proofs.counts.mark.Tie as tie
 
@@ -12,7 +12,7 @@ is-call-requires c κs = search rules
 returns : tie.Need-returns
 returns c =
     let a = c.before.before.args in
-    mark-other a.v a.used.now (sym c.before.is-call.ensures ∙ not-true _ c.if1.true)
+    mark_other a.v a.used.now (sym c.before.is-call.ensures ∙ not-true _ c.if1.true)
 
 number-in-requires : tie.Need-number-in-requires
 number-in-requires c κs = search rules
@@ -25,7 +25,7 @@ returns-2 c =
     let n = c.before.before in
     let k = n.before.before in
     let s = k.before in
-    mark-again s.args.v s.args.used.now s.requires (sym k.is-call.ensures ∙ not-false _ n.before.if1.false)
+    mark_again s.args.v s.args.used.now s.requires (sym k.is-call.ensures ∙ not-false _ n.before.if1.false)
     (rw n.number_in.ensures.0 at c.if2.true)
 
 element-write-used : tie.Need-element-write-used
@@ -37,7 +37,7 @@ returns-3 c =
     let k = n.before.before in
     let s = k.before in
     rw n.number_in.ensures.0
-    (mark-new s.args.v s.args.used.now s.requires (sym k.is-call.ensures ∙ not-false _ n.before.if1.false)
+    (mark_new s.args.v s.args.used.now s.requires (sym k.is-call.ensures ∙ not-false _ n.before.if1.false)
     (rw n.number_in.ensures.0 at c.if2.false))
 
 pub mark_spec : {M : Type 1} → statement M

@@ -3,14 +3,14 @@ use native.Mathlib.Omega.{arith}
 use Prim.Native.Nat.{ℕ, ◌-◌, ◌%◌, ◌≤◌}
 use mathlib.Core.Path.{◌≡◌, refl, subst}
 use lib.ListN.{length}
-use Rattle.placing.specs.method.Jobs.{jobNumber}
+use Rattle.placing.specs.method.Jobs.{job_number}
 use Rattle.placing.specs.method.Counts.{MarkedBeside}
-use Rattle.placing.proofs.counts.MarkedNumbers.{beside_none, beside-more}
+use Rattle.placing.proofs.counts.MarkedNumbers.{beside_none, beside_more}
 use Rattle.placing.proofs.counts.mark_jobs.Statement.{statement}
 use Rattle.placing.proofs.counts.mark_jobs.Tie as tie
 
 abbrev invariant-loop : tie.invariant-loop
-invariant-loop used₀ n jobs i₀ used i = (i ≤ n) × (n ≤ 8) × (length used₀ ≡ 256 → MarkedBeside (λ j. jobNumber jobs j % 256) used₀ i used)
+invariant-loop used₀ n jobs i₀ used i = (i ≤ n) × (n ≤ 8) × (length used₀ ≡ 256 → MarkedBeside (λ j. job_number jobs j % 256) used₀ i used)
 
 abbrev decreases-loop : tie.decreases-loop
 decreases-loop used₀ n jobs i₀ used i = n - i
@@ -42,7 +42,7 @@ loop-less c = omega arith
 loop-again : tie.Need-loop-preserved invariant-loop decreases-loop
 loop-again c =
     let l = c.before.before.before.loop in
-    (omega arith, l.invariant.1, λ long. beside-more _ (l.invariant.2 long) (omega arith) refl)
+    (omega arith, l.invariant.1, λ long. beside_more _ (l.invariant.2 long) (omega arith) refl)
 
 returns-2 : tie.Need-returns-2 invariant-loop decreases-loop
 returns-2 c =
@@ -50,10 +50,10 @@ returns-2 c =
     let l = c.before.loop in
     let a = c.before.before.before.args in
     let e : l.i ≡ a.n = omega arith in
-    subst (λ (k : ℕ). MarkedBeside (λ j. jobNumber a.t2 j % 256) a.used.now k l.used) e (l.invariant.2 long)
+    subst (λ (k : ℕ). MarkedBeside (λ j. job_number a.t2 j % 256) a.used.now k l.used) e (l.invariant.2 long)
 
-pub mark-jobs-spec : {M : Type 1} → statement M
-mark-jobs-spec =
+pub mark_jobs_spec : {M : Type 1} → statement M
+mark_jobs_spec =
     tie.close
     (tie.spec
     invariant-loop

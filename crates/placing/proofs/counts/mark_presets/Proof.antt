@@ -7,18 +7,18 @@ use mathlib.Core.List.{map}
 use lib.ListN.{take, get_or}
 use lib.Dec.{ltb, eqb}
 use Rattle.laws.specs.Sums.{count}
-use Rattle.station.specs.Head.{Preset, noPreset}
-use Rattle.station.specs.Types.{presetIn}
-use Rattle.placing.proofs.HeadRecord.{presets-count, preset-at}
+use Rattle.station.specs.Head.{Preset, no_preset}
+use Rattle.station.specs.Types.{preset_in}
+use Rattle.placing.proofs.HeadRecord.{presets_count, preset_at_lem}
 use Rattle.placing.specs.method.Jobs.{marked}
 use Rattle.placing.specs.method.Counts.{MarkedBeside}
-use Rattle.placing.proofs.counts.MarkedNumbers.{beside_none, beside-more}
+use Rattle.placing.proofs.counts.MarkedNumbers.{beside_none, beside_more}
 use Rattle.placing.proofs.counts.mark_presets.Statement.{statement}
 use Rattle.placing.proofs.counts.mark_presets.Tie as tie
 
 abbrev invariant-loop : tie.invariant-loop
 invariant-loop used₀ presets count i₀ used i =
-    (i ≤ count) × (count ≤ 32) × MarkedBeside (λ j. (get_or (map presetIn (take count presets)) j noPreset).number) used₀ i used
+    (i ≤ count) × (count ≤ 32) × MarkedBeside (λ j. (get_or (map preset_in (take count presets)) j no_preset).number) used₀ i used
 
 abbrev decreases-loop : tie.decreases-loop
 decreases-loop used₀ presets count i₀ used i = count - i
@@ -50,8 +50,8 @@ loop-again c =
     let a = c.before.before.before.before.args in (
       omega arith,
       l.invariant.1,
-      beside-more _ l.invariant.2 (omega (arith, c.struct_known.given))
-          (sym (ap (λ (p : Preset). p.number) (preset-at a.head.count a.t2 l.i (omega arith)))),
+      beside_more _ l.invariant.2 (omega (arith, c.struct_known.given))
+          (sym (ap (λ (p : Preset). p.number) (preset_at_lem a.head.count a.t2 l.i (omega arith)))),
     )
 
 returns : tie.Need-returns invariant-loop decreases-loop
@@ -62,12 +62,12 @@ returns c =
       c.before.loop.invariant.2.long,
       λ n l.
           c.before.loop.invariant.2.which n l
-          ∙ ap (λ (k : ℕ). ltb 0 (count k (λ j. eqb (get_or (map presetIn (take a.head.count a.t2)) j noPreset).number n)) || marked a.used.now n)
-          (e ∙ sym (presets-count a.head a.t2 (omega (arith, s)))),
+          ∙ ap (λ (k : ℕ). ltb 0 (count k (λ j. eqb (get_or (map preset_in (take a.head.count a.t2)) j no_preset).number n)) || marked a.used.now n)
+          (e ∙ sym (presets_count a.head a.t2 (omega (arith, s)))),
     )
 
-pub mark-presets-spec : {M : Type 1} → statement M
-mark-presets-spec =
+pub mark_presets_spec : {M : Type 1} → statement M
+mark_presets_spec =
     tie.close
     (tie.spec
     invariant-loop

@@ -56,8 +56,8 @@ returns c =
     let e : l.b ≡ a.bridges = omega arith in
     (subst (λ (k : ℕ). Marked a.table.now (a.from + k) l.used) e l.invariant.1, l.invariant.2, omega (arith, l.invariant.3))
 
-pub mark-slot-spec : {M : Type 1} → statement M
-mark-slot-spec =
+pub mark_slot_spec : {M : Type 1} → statement M
+mark_slot_spec =
     tie.close
     (tie.spec
     invariant-loop

@@ -11,5 +11,5 @@ returns c = sym (ap (λ (b : Bool). cond b c.before.before.args.head.bridges c.b
 returns-2 : tie.Need-returns-2
 returns-2 c = sym (ap (λ (b : Bool). cond b c.before.before.args.head.bridges c.before.before.args.head.supply) (ne_eqb c.before.before.args.head.supply 0 c.if1.false))
 
-pub motors-spec : {M : Type 1} → statement M
-motors-spec = tie.close (tie.spec returns returns-2)
+pub motors_spec : {M : Type 1} → statement M
+motors_spec = tie.close (tie.spec returns returns-2)

@@ -11,5 +11,5 @@ cast-result c = omega (arith, ones-le 8 c.args.mask c.ranges.mask.fits)
 returns : tie.Need-returns
 returns c = (search rules, omega (arith, ones-le 8 c.args.mask c.ranges.mask.fits))
 
-pub ones-in-spec : {M : Type 1} → statement M
-ones-in-spec = tie.close (tie.spec cast-result returns)
+pub ones_in_spec : {M : Type 1} → statement M
+ones_in_spec = tie.close (tie.spec cast-result returns)

@@ -46,8 +46,8 @@ returns c =
     let e : c.before.loop.i ≡ c.before.before.args.k = omega arith in
     rw e at c.before.loop.invariant.2
 
-pub grants-of-spec : {M : Type 1} → statement M
-grants-of-spec =
+pub grants_of_spec : {M : Type 1} → statement M
+grants_of_spec =
     tie.close
     (tie.spec
     invariant-loop

@@ -4,19 +4,19 @@ use native.Mathlib.Omega.{arith}
 use mathlib.Core.Path.{◌≡◌, refl}
 use mathlib.Core.Path.{ap, ◌∙◌}
 use lib.ListN.{length}
-use Rattle.placing.proofs.plan.PlanAnswers.{busy-length, busy-more}
+use Rattle.placing.proofs.plan.PlanAnswers.{busy_length, busy_more}
 use Rattle.placing.proofs.plan.mark_busy.Statement.{statement}
 use Rattle.placing.proofs.plan.mark_busy.Tie as tie
-use Rattle.placing.specs.method.PlanParts.{busyTo}
+use Rattle.placing.specs.method.PlanParts.{busy_to}
 
 abbrev invariant-loop : tie.invariant-loop
-invariant-loop table₀ cells i₀ table i = (i ≤ cells) × (table ≡ busyTo table₀ i) × (length table ≡ length table₀)
+invariant-loop table₀ cells i₀ table i = (i ≤ cells) × (table ≡ busy_to table₀ i) × (length table ≡ length table₀)
 
 abbrev decreases-loop : tie.decreases-loop
 decreases-loop table₀ cells i₀ table i = cells - i
 
 loop-holds : tie.Need-loop-init invariant-loop decreases-loop
-unfolding busyTo
+unfolding busy_to
 loop-holds c = (omega arith, refl, refl)
 
 mul-table : tie.Need-overflow-mul-table invariant-loop decreases-loop
@@ -35,8 +35,8 @@ loop-again : tie.Need-loop-preserved invariant-loop decreases-loop
 loop-again c =
     let l = c.before.loop in
     let a = c.before.before.args in
-    let e = busy-more a.table.now l.i l.invariant.1 in
-    (omega arith, e, ap length e ∙ busy-length a.table.now (l.i + 1))
+    let e = busy_more a.table.now l.i l.invariant.1 in
+    (omega arith, e, ap length e ∙ busy_length a.table.now (l.i + 1))
 
 same_length : tie.Need-same-length invariant-loop decreases-loop
 same_length c = c.before.loop.invariant.2
@@ -46,8 +46,8 @@ returns c =
     let e : c.before.loop.i ≡ c.before.before.args.cells = omega arith in
     rw e at c.before.loop.invariant.1
 
-pub mark-busy-spec : {M : Type 1} → statement M
-mark-busy-spec =
+pub mark_busy_spec : {M : Type 1} → statement M
+mark_busy_spec =
     tie.close
     (tie.spec
     invariant-loop

@@ -35,22 +35,22 @@ use denote.Triple.Statement.{Contract, Triple}
 use denote.Triple.Table.{entered, cited}
 use denote.Triple.Walked.{Stays, stay_dropped, gave_slice, walk_of, Goes-dropped, Goes-gave_slice, ends_at}
 use denote.Exit.{yes}
-use Rattle.station.specs.Types.{headIn}
+use Rattle.station.specs.Types.{head_in}
 use Rattle.station.specs.declared.types.Preset.{Preset}
 use Rattle.station.specs.declared.types.Head.{Head}
 use Rattle.station.specs.contracts.types.Preset as T
 use Rattle.station.specs.contracts.types.Head as hd
-use Rattle.placing.proofs.ClaimsHold.{plan-claim}
+use Rattle.placing.proofs.ClaimsHold.{plan_claim}
 use Rattle.placing.specs.declared.plan.Planned.{Planned}
 use Rattle.placing.specs.contracts.plan.Planned as result
 use Rattle.placing.proofs.plan.Planned.TheLaws as result'
 use Rattle.placing.specs.Entries.{PlanEntered}
-use Rattle.placing.proofs.ListOfRecords.{plan-entered}
+use Rattle.placing.proofs.ListOfRecords.{plan_entered}
 use Rattle.station.proofs.Walks.{says_both}
-use Rattle.station.proofs.Walks.{Counts, Loads, slice-val, Records, to-count, goes-count, to-load, goes_load}
+use Rattle.station.proofs.Walks.{Counts, Loads, slice_val_lem, Records, to_count, goes_count, to_load, goes_load}
 use Rattle.station.specs.Records.{loaded}
-use Rattle.station.proofs.Walks.{Bank, copied-val, copied-tells, copied-makes, copied-typed, head-val, head-tells, head-makes, head-typed}
-use Rattle.station.proofs.Walks.{asks, hands-one, full, ◌&◌, none, leaves-fn, meets-by}
+use Rattle.station.proofs.Walks.{Bank, copied_val, copied_tells, copied_makes, copied_typed, head_val, head_tells, head_makes, head_typed}
+use Rattle.station.proofs.Walks.{asks, hands_one, full, ◌&◌, none, leaves_fn, meets_by}
 use Rattle.station.specs.contracts.records.record_count as record-count
 use Rattle.station.proofs.records.record_count.Symbol as record-count-def
 use Rattle.station.proofs.records.record_count.Symbol.{name as #record-count}
@@ -83,10 +83,10 @@ module _ {M : Type 1} {𝓤 : Ura M} (𝓛 : Logic 𝓤) (mem : Memory → SProp
 
   -- the machine values that the parameters have
   abbrev vh : Val
-  vh = head-val head
+  vh = head_val head
 
   abbrev vs : Val
-  vs = slice-val 𝓛 mem run κ₀ q₀ s
+  vs = slice_val_lem 𝓛 mem run κ₀ q₀ s
 
   abbrev vt : Val
   vt = slice_val (b, o) (length ys)
@@ -110,14 +110,14 @@ module _ {M : Type 1} {𝓤 : Ura M} (𝓛 : Logic 𝓤) (mem : Memory → SProp
 
   -- what the callee's triple binds outside, and that the caller has what it asks
   abbrev to-counted : ℕ → List Preset → (Counted 𝓛 mem run).Ghost
-  to-counted n copied = (((κ₁, tt), (q₁, tt), tt, (n, (head, (copied, (t, tt)))), (vint w64 n ∷ [], (vh ∷ [], (copied-val copied ∷ [], (vt ∷ [], tt))))), tt)
+  to-counted n copied = (((κ₁, tt), (q₁, tt), tt, (n, (head, (copied, (t, tt)))), (vint w64 n ∷ [], (vh ∷ [], (copied_val copied ∷ [], (vt ∷ [], tt))))), tt)
 
-  goes-counted : (n : ℕ) (copied : List Preset) → Is usize n (vint w64 n ∷ []) → Is Bank copied (copied-val copied ∷ []) → Is hd.the_row head (vh ∷ [])
+  goes-counted : (n : ℕ) (copied : List Preset) → Is usize n (vint w64 n ∷ []) → Is Bank copied (copied_val copied ∷ []) → Is hd.the_row head (vh ∷ [])
       → ent 𝓤 (sep 𝓤 (A.lft κ₁ q₁) (sem 𝓛 Table)) ((Counted 𝓛 mem run).pre (to-counted n copied))
   goes-counted n copied is-n is_b is-h =
       qed 𝓛 (‵ (flft κ₁ q₁) ∷ ‵ Table ∷ []) ∵ nothing ! $ move ! (2 ∷ 0 ∷ []) $ fjoin ! $
-      owned ! Bank (Is Bank) (copied-makes 𝓛) copied _ is_b $ fjoin ! $ owned ! hd.the_row (Is hd.the_row) (head-makes 𝓛) head _ is-h $ fjoin ! $
-      owned ! usize (Is usize) (uint_Makes 𝓛 w64) n _ is-n $ fjoin ! $ hands-one !
+      owned ! Bank (Is Bank) (copied_makes 𝓛) copied _ is_b $ fjoin ! $ owned ! hd.the_row (Is hd.the_row) (head_makes 𝓛) head _ is-h $ fjoin ! $
+      owned ! usize (Is usize) (uint_Makes 𝓛 w64) n _ is-n $ fjoin ! $ hands_one !
 
   -- the result's machine value
   abbrev vr : Planned → Val
@@ -127,7 +127,7 @@ module _ {M : Type 1} {𝓤 : Ura M} (𝓛 : Logic 𝓤) (mem : Memory → SProp
       → ent 𝓤 (sep 𝓤 (A.lft κ₀ q₀) (sep 𝓤 (A.lft κ₁ q₁) (sem 𝓛 (finally u16 γ zs)))) (Post (vr r))
   exits r is-r zs e l =
       qed 𝓛 (‵ (flft κ₀ q₀) ∷ ‵ (flft κ₁ q₁) ∷ ‵ (finally u16 γ zs) ∷ []) ∵
-      suffices ! _ (ends_at 𝓛 plan.ended stayed (plan.clauses 𝓛 mem run) bound (vr r) r (tt, (tt, (zs, tt))) (tt, (tt, (l, tt)))) $ says_both ! e (plan-claim (headIn head s.now) ys) $
+      suffices ! _ (ends_at 𝓛 plan.ended stayed (plan.clauses 𝓛 mem run) bound (vr r) r (tt, (tt, (zs, tt))) (tt, (tt, (l, tt)))) $ says_both ! e (plan_claim (head_in head s.now) ys) $
       nothing ! $ move ! (2 ∷ 0 ∷ []) $ join ! $ move ! (1 ∷ 0 ∷ []) $ join ! $ frame ! $
       nothing ! $ move ! (1 ∷ 0 ∷ []) $ fjoin ! $ nothing ! $ fjoin ! $ nothing ! $ fjoin ! $ frame ! $ owned ! result.the_row (Is result.the_row) (LL.makes result.the_type result'.the_plain 𝓛) r _ is-r $ done !
 
@@ -136,19 +136,19 @@ module _ {M : Type 1} {𝓤 : Ura M} (𝓛 : Logic 𝓤) (mem : Memory → SProp
     walk is-h fit-s fit-t =
         qed 𝓛 ((‵ (flft κ₀ q₀) ⊛ (‵ (flft κ₁ q₁) ⊛ ‵ ftrue)) ∷ ‵ (owns (hd.the_row ∷ ShrSlice (named 0) κ₀ T.the_row ∷ MutSlice (named 1) κ₁ u16 ∷ []) args at) ∷ []) ∵ enter ! C Λ code.function (vh ∷ vs ∷ vt ∷ []) _ $
         alloc1 ! (λ l₀. alloc1 ! (λ l₁. alloc1 ! (λ l₂. alloc1 ! (λ l₃. alloc1 ! (λ l₄. alloc1 ! (λ l₅. alloc1 ! (λ l₆. alloc1 ! (λ l₇. alloc0 ! $ params1 ! $
-        pass1 ! (init ! 12 refl (head-typed 𝓛 head is-h)) $ pass1 ! (init ! 10 refl (tt, (tt, (record { fits = fit-s.0 }, tt)))) $ pass1 ! (init ! 8 refl (tt, (tt, (record { fits = fit-t.0 }, tt)))) $ pass0 ! $
+        pass1 ! (init ! 12 refl (head_typed 𝓛 head is-h)) $ pass1 ! (init ! 10 refl (tt, (tt, (record { fits = fit-s.0 }, tt)))) $ pass1 ! (init ! 8 refl (tt, (tt, (record { fits = fit-t.0 }, tt)))) $ pass0 ! $
         -- [_7; …; _6; …; _5; …; _4; …; _3; …; _2; …; _1; …; _0; …; the tokens; what the parameters own]
         move ! (17 ∷ []) $ fsplit ! $ drop ! $ fsplit ! $ move ! (1 ∷ []) $ fsplit ! $ move ! (1 ∷ []) $ drop ! $ move ! (18 ∷ []) $ split ! $ move ! (1 ∷ []) $ split ! $ move ! (1 ∷ []) $ drop ! $
         -- [κ₁; κ₀; the table; the records; _7; …; _0; …]
         move ! (3 ∷ []) $ use1 𝓛 (‵ (Records 𝓛 mem run κ₀ q₀ s) ⊛ ‵ (Records 𝓛 mem run κ₀ q₀ s)) ((shr_slice_copy 𝓛 (named 0) κ₀ T.the_row).twice s (vs ∷ [])) $ split ! $
-        move ! (3 ∷ 0 ∷ []) $ use2 𝓛 (raw ((Counts 𝓛 mem run).pre (to-count 𝓛 mem run κ₀ q₀ s))) (goes-count 𝓛 mem run κ₀ q₀ s) $
-        asks ! fm record-count.ended (record-count.clauses 𝓛 mem run) known-count (to-count 𝓛 mem run κ₀ q₀ s) (‵ (flft κ₀ q₀) ⊛ ‵ ftrue) refl (λ n ws. n ≡ length s.now) (λ n ws. refl) (vint w64) (uint_Tells w64)
+        move ! (3 ∷ 0 ∷ []) $ use2 𝓛 (raw ((Counts 𝓛 mem run).pre (to_count 𝓛 mem run κ₀ q₀ s))) (goes_count 𝓛 mem run κ₀ q₀ s) $
+        asks ! fm record-count.ended (record-count.clauses 𝓛 mem run) known-count (to_count 𝓛 mem run κ₀ q₀ s) (‵ (flft κ₀ q₀) ⊛ ‵ ftrue) refl (λ n ws. n ≡ length s.now) (λ n ws. refl) (vint w64) (uint_Tells w64)
         (and_then ! (reads ! (from ! (stop !)) (look ! 14 refl)) (no_more !)) (λ n _ is-n counts. land ! (from ! (stop !)) (init ! 11 refl (tt, record { fits = is-n.1 })) $
         split ! $ move ! (1 ∷ 2 ∷ []) $ drop ! $ drop ! $
         -- [κ₀; the records; κ₁; the table; _7; …; _0; …]
-        use2 𝓛 (raw ((Loads 𝓛 mem run).pre (to-load 𝓛 mem run κ₀ q₀ s))) (goes_load 𝓛 mem run κ₀ q₀ s) $
-        asks ! fm load.ended (load.clauses 𝓛 mem run) known-load (to-load 𝓛 mem run κ₀ q₀ s) (‵ (flft κ₀ q₀) ⊛ ‵ ftrue) refl (λ copied ws. copied ≡ loaded s.now) (λ copied ws. refl) copied-val copied-tells
-        (and_then ! (reads ! (from ! (stop !)) (look ! 13 refl)) (no_more !)) (λ copied _ is_b loads. land ! (from ! (stop !)) (init ! 8 refl (copied-typed 𝓛 copied is_b)) $
+        use2 𝓛 (raw ((Loads 𝓛 mem run).pre (to_load 𝓛 mem run κ₀ q₀ s))) (goes_load 𝓛 mem run κ₀ q₀ s) $
+        asks ! fm load.ended (load.clauses 𝓛 mem run) known-load (to_load 𝓛 mem run κ₀ q₀ s) (‵ (flft κ₀ q₀) ⊛ ‵ ftrue) refl (λ copied ws. copied ≡ loaded s.now) (λ copied ws. refl) copied_val copied_tells
+        (and_then ! (reads ! (from ! (stop !)) (look ! 13 refl)) (no_more !)) (λ copied _ is_b loads. land ! (from ! (stop !)) (init ! 8 refl (copied_typed 𝓛 copied is_b)) $
         split ! $ move ! (1 ∷ 2 ∷ []) $ drop ! $ drop ! $
         -- [κ₀; κ₁; the table; _7; …; _0; …]
         assigns ! (addr ! (from ! (fld ! refl (hop ! (look_in ! 11 (sub ! 0 refl (whole !))) (stop !))))) (from ! (stop !)) (init ! 5 refl (tt, tt)) $
@@ -158,26 +158,26 @@ module _ {M : Type 1} {𝓤 : Ura M} (𝓛 : Logic 𝓤) (mem : Memory → SProp
         (and_then ! (reads ! (from ! (stop !)) (look ! 8 refl)) (and_then ! (reads ! (from ! (stop !)) (look ! 14 refl)) (and_then ! (reads ! (from ! (stop !)) (look ! 6 refl)) (and_then ! (reads ! (from ! (stop !)) (look ! 2 refl)) (no_more !)))))
         (λ r ws is-r e. land ! (from ! (stop !)) (init ! 17 refl ((LL.lawful result.the_type result'.the_laws 𝓛).typed r _ is-r).0) $
         -- [κ₁; what says the last list; κ₀; _7; …; _0; …]
-        returns ! (look ! 17 refl) $ leaves-fn ! 3 (full refl refl & full refl refl & full refl refl & full refl refl & full refl refl & full refl refl & full refl refl & full refl refl & none) $
+        returns ! (look ! 17 refl) $ leaves_fn ! 3 (full refl refl & full refl refl & full refl refl & full refl refl & full refl refl & full refl refl & full refl refl & full refl refl & none) $
         split ! $ move ! (1 ∷ []) $ drop ! $ move ! (1 ∷ []) $ fsplit ! $ drop ! $ fsplit ! $ drop ! $ fsplit ! $ drop ! $ fsplit ! $ fsplit ! $ move ! (1 ∷ []) $ feq_l ! (λ l.
         -- [the last list; true; κ₁; κ₀]
-        move ! (1 ∷ []) $ drop ! $ move ! (2 ∷ 1 ∷ 0 ∷ []) $ by ! (exits r is-r ws.1.1.1.0 (plan-entered head s.now counts loads e) l)))))))))))))
+        move ! (1 ∷ []) $ drop ! $ move ! (2 ∷ 1 ∷ 0 ∷ []) $ by ! (exits r is-r ws.1.1.1.0 (plan_entered head s.now counts loads e) l)))))))))))))
 
 meets : {M : Type 1} {𝓤 : Ura M} (𝓛 : Logic 𝓤) → (mem : Memory → SProp 𝓤) (run : Routine → Fun 𝓤) (𝓣 : Tables 𝓤 𝓛.H)
     → Triple 𝓤 (𝓣.C #record-count) (Counts 𝓛 mem run) → Triple 𝓤 (𝓣.C #load) (Loads 𝓛 mem run) → Triple 𝓤 (𝓣.C #plan-counted) (Counted 𝓛 mem run)
     → Meets 𝓛 plan.signature (WpFn 𝓤 𝓛.H 𝓣.C 𝓣.Λ code.function) (plan.spec 𝓛 mem run)
 meets {𝓤 = 𝓤} 𝓛 mem run 𝓣 known-count known-load known-counted =
-    meets-by 𝓛 plan.ended stayed
+    meets_by 𝓛 plan.ended stayed
     (Goes-dropped 𝓛 2 (plain (λ _. hd.the_row)) yes (λ κs x f. refl), (Goes-dropped 𝓛 2 (shr_slice_of (0 ∷ []) tt (plain (λ _. T.the_row))) yes (λ κs x f. refl), (Goes-gave_slice 𝓛 2 1 tt (plain (λ _. u16)), tt)))
     (plan.clauses 𝓛 mem run) code.function 𝓣
-    (λ κs. ((λ h. head-val h ∷ []), (shr_slice_vals, (mut_slice_vals, tt)))) (λ κs. (head-tells, (shr_slice_Tells (named 0) κs.0 T.the_row, (mut_slice_Tells (named 1) κs.1.0 u16, tt))))
+    (λ κs. ((λ h. head_val h ∷ []), (shr_slice_vals, (mut_slice_vals, tt)))) (λ κs. (head_tells, (shr_slice_Tells (named 0) κs.0 T.the_row, (mut_slice_Tells (named 1) κs.1.0 u16, tt))))
     (λ κs qs bounds a g are.
     walk 𝓛 mem run κs.0 κs.1.0 qs.0 qs.1.0 a.0 a.1.0 a.1.1.0.ref_ptr.0 a.1.1.0.ref_ptr.1 a.1.1.0.ghost_name a.1.1.0.now
     𝓣.C 𝓣.Λ (fm_of 𝓤 𝓛.H 𝓛.laws 𝓣) known-count known-load known-counted are.0 are.1.0.0.1 are.1.1.0.0.1)
 
-pub plan-spec : {M : Type 1} → stated.statement M
+pub plan_spec : {M : Type 1} → stated.statement M
 unfolding code.routine tables_of
-plan-spec 𝓤 𝓛 𝓜 𝓡 =
+plan_spec 𝓤 𝓛 𝓜 𝓡 =
     entered 𝓤 𝓛.H (triple_of 𝓛 plan.signature (plan.spec 𝓛 𝓜.mem 𝓡.run))
     (tables 𝓤 𝓛.H 𝓜 𝓡 code.env).C (tables 𝓤 𝓛.H 𝓜 𝓡 code.env).Λ #plan code.function (code.unfolded 𝓤 𝓛.H 𝓜 𝓡)
     (meets 𝓛 𝓜.mem 𝓡.run (tables_of 𝓤 𝓛.H 𝓜 (tables 𝓤 𝓛.H 𝓜 𝓡 code.env))

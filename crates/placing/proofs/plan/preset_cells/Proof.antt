@@ -2,14 +2,14 @@
 use Prim.Native.Nat.{◌≤◌, ◌-◌, ◌+◌}
 use native.Mathlib.Omega.{arith}
 use mathlib.Core.Path.{◌≡◌, refl}
-use Rattle.placing.specs.method.Records.{recordAt}
+use Rattle.placing.specs.method.Records.{record_at}
 use Rattle.placing.proofs.grants.Arrays.{filled_more}
 use Rattle.placing.proofs.plan.preset_cells.Statement.{statement}
 use Rattle.placing.proofs.plan.preset_cells.Tie as tie
 use Rattle.placing.specs.Types.{filled}
 
 abbrev invariant-loop : tie.invariant-loop
-invariant-loop k kind presets all₀ i₀ all i = (i ≤ k) × (k ≤ 32) × (kind ≤ 1024) × (all ≡ filled 64 i (λ j. kind + (recordAt presets j).number))
+invariant-loop k kind presets all₀ i₀ all i = (i ≤ k) × (k ≤ 32) × (kind ≤ 1024) × (all ≡ filled 64 i (λ j. kind + (record_at presets j).number))
 
 abbrev decreases-loop : tie.decreases-loop
 decreases-loop k kind presets all₀ i₀ all i = k - i
@@ -52,8 +52,8 @@ returns c =
     let e : c.before.loop.i ≡ c.before.before.args.k = omega arith in
     rw e at c.before.loop.invariant.3
 
-pub preset-cells-spec : {M : Type 1} → statement M
-preset-cells-spec =
+pub preset_cells_spec : {M : Type 1} → statement M
+preset_cells_spec =
     tie.close
     (tie.spec
     invariant-loop

@@ -7,8 +7,8 @@ use lib.Dec.{leb}
 use Rattle.laws.specs.Sums.{every}
 use Rattle.laws.specs.Lists.{at}
 use Rattle.laws.proofs.Comparisons.{leb_yes, leb_no}
-use Rattle.laws.proofs.Every.{every-not}
-use Rattle.laws.proofs.Loops.{every-none, every_more}
+use Rattle.laws.proofs.Every.{every_not}
+use Rattle.laws.proofs.Loops.{every_none, every_more}
 use borrow.Author.Rules.{rules}
 use Rattle.placing.proofs.rule.needs_in.Statement.{statement}
 use Rattle.placing.proofs.rule.needs_in.Tie as tie
@@ -20,7 +20,7 @@ abbrev decreases-loop : tie.decreases-loop
 decreases-loop rules k i₀ i = k - i
 
 loop-holds : tie.Need-loop-init invariant-loop decreases-loop
-loop-holds c = (omega arith, omega arith, every-none _)
+loop-holds c = (omega arith, omega arith, every_none _)
 
 element-copy-out-widened : tie.Need-element-copy-out-widened invariant-loop decreases-loop
 element-copy-out-widened c = omega arith
@@ -33,7 +33,7 @@ returns c =
     let w = c.before in
     let l = w.before.before.before.loop in
     let a = w.before.before.before.before.args in
-    sym (every-not a.k (λ j. leb (at a.needs.now j) 64) l.i (omega arith) (leb_no (at a.needs.now l.i) 64 (omega (arith, w.widened.ensures.0, c.if1.true))))
+    sym (every_not a.k (λ j. leb (at a.needs.now j) 64) l.i (omega arith) (leb_no (at a.needs.now l.i) 64 (omega (arith, w.widened.ensures.0, c.if1.true))))
 
 add-i : tie.Need-overflow-add-i invariant-loop decreases-loop
 add-i c = omega arith
@@ -54,8 +54,8 @@ returns-2 c =
     let e : l.i ≡ c.before.before.args.k = omega arith in
     sym (rw e at l.invariant.2)
 
-pub needs-in-spec : {M : Type 1} → statement M
-needs-in-spec =
+pub needs_in_spec : {M : Type 1} → statement M
+needs_in_spec =
     tie.close
     (tie.spec
     invariant-loop

@@ -9,16 +9,16 @@ use mathlib.Core.List.{List}
 use lib.ListN.{length, take}
 use borrow.Author.Rules as author
 use Rattle.laws.proofs.Tests.{false_of_not, true_of_not}
-use Rattle.laws.proofs.Comparisons.{ge-of}
+use Rattle.laws.proofs.Comparisons.{ge_of}
 use Rattle.laws.specs.Lists.{at}
 use Rattle.laws.specs.Sums.{count}
 use Rattle.laws.proofs.Counts.{count_none}
-use Rattle.placing.proofs.MaskBits.{hasBit-zero}
-use Rattle.station.specs.Head.{hasBit}
+use Rattle.placing.proofs.MaskBits.{has_bit_zero}
+use Rattle.station.specs.Head.{has_bit}
 use Rattle.placing.specs.Plan.{tie_of}
-use Rattle.placing.specs.method.Rule.{Levelled, freeIn, CleanFrom, Fillable, placeable, placedIn, placedWithin}
-use Rattle.placing.proofs.rule.levels.ByLevel.{standing-all, most-of}
-use Rattle.placing.proofs.rule.SlotsPlaced.{SlotsPlaced, Progress, reached, cell_of, progress-none, progress-more, progress-over, progress-idle, slots-all, frame-within, row_within, placed-within, placed-beyond, placeable-of}
+use Rattle.placing.specs.method.Rule.{Levelled, free_in, CleanFrom, Fillable, placeable, placed_in, placed_within}
+use Rattle.placing.proofs.rule.levels.ByLevel.{standing_all, most_of}
+use Rattle.placing.proofs.rule.SlotsPlaced.{SlotsPlaced, Progress, reached, cell_of, progress_none, progress_more, progress_over, progress_idle, slots_all, frame_within, row_within, placed_within_lem, placed_beyond, placeable_of}
 use Rattle.placing.proofs.rule.place.Statement.{statement}
 use Rattle.placing.proofs.rule.place.Tie as tie
 
@@ -49,19 +49,19 @@ placeable-requires c κs = search author.needs
 returns : tie.Need-returns invariant-loop decreases-loop
 returns c = λ clean fill.
     let a = c.before.before.before.before.args in
-    sym (placed-beyond (tie_of a.hold) a.slots a.bridges a.t4 a.t5 a.t6 a.k a.first a.t9 a.t10 a.table.now
+    sym (placed_beyond (tie_of a.hold) a.slots a.bridges a.t4 a.t5 a.t6 a.k a.first a.t9 a.t10 a.table.now
     (sym c.before.placeable.ensures ∙ false_of_not _ c.if1.true))
 
 enter-requires : tie.Need-enter-requires invariant-loop decreases-loop
 enter-requires c κs =
     let a = c.before.before.before.before.before.before.args in
-    let l = placeable-of a.slots a.bridges a.t6 a.k (length a.table.now) (within c.before.before) in
+    let l = placeable_of a.slots a.bridges a.t6 a.k (length a.table.now) (within c.before.before) in
     (l.2, l.4, refl)
 
 loop-holds : tie.Need-loop-init invariant-loop decreases-loop
 loop-holds c =
     let a = c.before.before.before.before.before.before.before.args in
-    let l = placeable-of a.slots a.bridges a.t6 a.k (length a.table.now) (within c.before.before.before) in (
+    let l = placeable_of a.slots a.bridges a.t6 a.k (length a.table.now) (within c.before.before.before) in (
       omega arith,
       l.0,
       l.1,
@@ -71,7 +71,7 @@ loop-holds c =
       search author.needs,
       c.enter.ensures.0,
       c.enter.ensures.2,
-      λ n enough h most clean fill. progress-none a.hold a.bridges a.t4 a.t5 n a.first a.t9 a.t10 a.table.now a.k c.enter.new.0 c.enter.result h most,
+      λ n enough h most clean fill. progress_none a.hold a.bridges a.t4 a.t5 n a.first a.t9 a.t10 a.table.now a.k c.enter.new.0 c.enter.result h most,
     )
 
 -- what the invariant says of the needs, where the frame is clean
@@ -84,7 +84,7 @@ so_far c clean fill =
     let entered = c.before in
     let start = entered.before.before.before.before.before.before.before in
     let a = start.args in
-    c.loop.invariant.9 a.t6 (omega (arith, c.loop.invariant.3, start.well-formed.1.1.1.1.0)) (standing-all a.t6 entered.enter.new.0 a.k entered.enter.ensures.1)
+    c.loop.invariant.9 a.t6 (omega (arith, c.loop.invariant.3, start.well-formed.1.1.1.1.0)) (standing_all a.t6 entered.enter.new.0 a.k entered.enter.ensures.1)
     entered.enter.ensures.3 clean fill
 
 highest-requires : tie.Need-highest-requires invariant-loop decreases-loop
@@ -94,20 +94,20 @@ same_length : tie.Need-same-length invariant-loop decreases-loop
 same_length c = c.before.before.before.before.before.loop.invariant.5
 
 -- a slot without a free bridge is filled by nobody
-unfilled : (B : ℕ) (masks counts : List ℕ) (s : ℕ) → at masks s ≡ 0 → at counts s ≤ count B (freeIn masks s) → at counts s ≡ 0
-unfilled B masks counts s e l = omega (arith, count_none B (freeIn masks s) (λ b m. ap (λ (n : ℕ). hasBit n b) e ∙ hasBit-zero b))
+unfilled : (B : ℕ) (masks counts : List ℕ) (s : ℕ) → at masks s ≡ 0 → at counts s ≤ count B (free_in masks s) → at counts s ≡ 0
+unfilled B masks counts s e l = omega (arith, count_none B (free_in masks s) (λ b m. ap (λ (n : ℕ). has_bit n b) e ∙ has_bit_zero b))
 
 -- the table after all slots
 placed : (c : tie.At-loop invariant-loop decreases-loop)
     → let a = c.before.before.before.before.before.before.before.before.args in
     SlotsPlaced a.bridges (cell_of (tie_of a.hold) a.bridges a.t4 a.t5 (take a.k a.t6) a.first a.t9 a.t10 a.table.now) a.table.now c.loop.table a.slots
-    → c.loop.table ≡ placedWithin (tie_of a.hold) a.slots a.bridges a.t4 a.t5 a.t6 a.k a.first a.t9 a.t10 a.table.now
-unfolding placedIn
+    → c.loop.table ≡ placed_within (tie_of a.hold) a.slots a.bridges a.t4 a.t5 a.t6 a.k a.first a.t9 a.t10 a.table.now
+unfolding placed_in
 placed c all =
     let a = c.before.before.before.before.before.before.before.before.args in
-    slots-all a.bridges (cell_of (tie_of a.hold) a.bridges a.t4 a.t5 (take a.k a.t6) a.first a.t9 a.t10 a.table.now) a.table.now
-    c.loop.table a.slots (omega (arith, c.loop.invariant.4, frame-within a.slots a.bridges c.loop.invariant.1 c.loop.invariant.2)) all
-    ∙ sym (placed-within (tie_of a.hold) a.slots a.bridges a.t4 a.t5 a.t6 a.k a.first a.t9 a.t10 a.table.now (within c.before.before.before.before))
+    slots_all a.bridges (cell_of (tie_of a.hold) a.bridges a.t4 a.t5 (take a.k a.t6) a.first a.t9 a.t10 a.table.now) a.table.now
+    c.loop.table a.slots (omega (arith, c.loop.invariant.4, frame_within a.slots a.bridges c.loop.invariant.1 c.loop.invariant.2)) all
+    ∙ sym (placed_within_lem (tie_of a.hold) a.slots a.bridges a.t4 a.t5 a.t6 a.k a.first a.t9 a.t10 a.table.now (within c.before.before.before.before))
 
 returns-2 : tie.Need-returns-2 invariant-loop decreases-loop
 returns-2 c = λ clean fill.
@@ -118,8 +118,8 @@ returns-2 c = λ clean fill.
     let now = so_far p clean fill in
     let none : found.highest.result ≡ 0 = c.before.if2.true in
     placed p
-    (progress-idle a.hold a.bridges a.t4 a.t5 a.t6 a.first a.t9 a.t10 a.table.now a.k l.s l.table l.due l.levels l.top l.held now l.invariant.3
-    (rw none at (most-of l.levels (at (reached a.hold a.t5 (take a.k a.t6) l.s).needs) l.top found.highest.result
+    (progress_idle a.hold a.bridges a.t4 a.t5 a.t6 a.first a.t9 a.t10 a.table.now a.k l.s l.table l.due l.levels l.top l.held now l.invariant.3
+    (rw none at (most_of l.levels (at (reached a.hold a.t5 (take a.k a.t6) l.s).needs) l.top found.highest.result
     now.levelled l.invariant.8 now.most found.highest.ensures.1))
     a.slots l.invariant.0 (λ q past h. clean q (omega (arith, past, c.if3.true)) h))
 
@@ -184,13 +184,13 @@ loop-again c =
       λ n enough h m clean fill.
           let now = l.invariant.9 n enough h m clean fill in
           let rest : ℕ → ℕ = at (reached a.hold a.t5 (take a.k n) l.s).needs in
-          let most : (i : ℕ) → i < 64 → rest i ≤ top = most-of l.levels rest l.top top now.levelled l.invariant.8 now.most found.highest.ensures.1 in
+          let most : (i : ℕ) → i < 64 → rest i ≤ top = most_of l.levels rest l.top top now.levelled l.invariant.8 now.most found.highest.ensures.1 in
           let did = w.2.ensures.1 rest now.levelled most in
-          progress-more a.hold a.bridges a.t4 a.t5 n a.first a.t9 a.t10 a.table.now a.k enough l.invariant.3
+          progress_more a.hold a.bridges a.t4 a.t5 n a.first a.t9 a.t10 a.table.now a.k enough l.invariant.3
           l.s l.table l.due l.levels l.top l.held now w.2.result
           did.picks
           w.7.last.0 w.7.last.1.1.1.1.1.0 w.2.last.0 top most
-          (w.7.ensures.3 (λ e b q free. now.table.after (l.s * a.bridges + b) (omega arith) ∙ clean l.s (ge-of l.s a.clean e) (omega arith) b q free))
+          (w.7.ensures.3 (λ e b q free. now.table.after (l.s * a.bridges + b) (omega arith) ∙ clean l.s (ge_of l.s a.clean e) (omega arith) b q free))
           w.7.ensures.2 did.levels,
     ))
     (λ w. rw (c.held_after.ensures, w.1, w.2, w.3, w.4) (
@@ -205,9 +205,9 @@ loop-again c =
       low,
       λ n enough h m clean fill.
           let now = l.invariant.9 n enough h m clean fill in
-          progress-over a.hold a.bridges a.t4 a.t5 n a.first a.t9 a.t10 a.table.now a.k enough l.invariant.3 l.s l.table l.due l.levels l.top l.held top now
+          progress_over a.hold a.bridges a.t4 a.t5 n a.first a.t9 a.t10 a.table.now a.k enough l.invariant.3 l.s l.table l.due l.levels l.top l.held top now
           w.0.left (unfilled a.bridges a.t4 a.t5 l.s w.0.left (fill l.s (omega arith)))
-          (most-of l.levels (at (reached a.hold a.t5 (take a.k n) l.s).needs) l.top top now.levelled l.invariant.8 now.most found.highest.ensures.1),
+          (most_of l.levels (at (reached a.hold a.t5 (take a.k n) l.s).needs) l.top top now.levelled l.invariant.8 now.most found.highest.ensures.1),
     ))
     c.before.if4.branch
 
@@ -219,8 +219,8 @@ returns-3 c = λ clean fill.
     let end : c.before.loop.s ≡ c.before.before.before.before.before.before.before.before.before.args.slots = omega arith in
     placed c.before (rw end at (so_far c.before clean fill).table)
 
-pub place-spec : {M : Type 1} → statement M
-place-spec =
+pub place_spec : {M : Type 1} → statement M
+place_spec =
     tie.close
     (tie.spec
     invariant-loop

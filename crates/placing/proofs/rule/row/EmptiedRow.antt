@@ -8,10 +8,10 @@ use mathlib.Core.List.{List}
 use lib.ListN.{length, set}
 use lib.Dec.{eqb}
 use Rattle.laws.specs.Lists.{at}
-use Rattle.laws.proofs.Tests.{Is, is_true, is_false, is, left-of}
-use Rattle.laws.proofs.Comparisons.{eqb-self, eqb_no}
+use Rattle.laws.proofs.Tests.{Is, is_true, is_false, is, left_of}
+use Rattle.laws.proofs.Comparisons.{eqb_self, eqb_no}
 use Rattle.placing.specs.method.Rule.{RowWritten, emptied}
-use Rattle.placing.proofs.rule.row.RowWritten.{emptied-free, row-as-it-was, row_same, row-set}
+use Rattle.placing.proofs.rule.row.RowWritten.{emptied_free, row_as_it_was, row_same, row_set}
 
 -- u is t with the free ones of the n cells from `start` on made empty, but for those of g, which are still to come
 pub record Emptying (t : List ℕ) (start n : ℕ) (f : ℕ → Bool) (u : List ℕ) (g : ℕ → Bool) : Type 0 where
@@ -25,15 +25,15 @@ module _ (t : List ℕ) (start n : ℕ) (f : ℕ → Bool) where
   abbrev halfway : (ℕ → Bool) → ℕ → ℕ
   halfway g b = cond (g b) (was b) (emptied f was b)
 
-  pub emptying-none : Emptying t start n f t f
-  emptying-none = record { row = row-as-it-was t start (halfway f) n (λ b h. go b (is (f b))); among = λ b e. e }
+  pub emptying_none : Emptying t start n f t f
+  emptying_none = record { row = row_as_it_was t start (halfway f) n (λ b h. go b (is (f b))); among = λ b e. e }
     where
       go : (b : ℕ) → Is (f b) → was b ≡ halfway f b
       go b (is_true e) = rw e refl
       go b (is_false e) = rw e refl
 
-  pub emptying-all : (u : List ℕ) (g : ℕ → Bool) → Emptying t start n f u g → ((b : ℕ) → b < n → g b ≡ false) → RowWritten t u start n (emptied f was)
-  emptying-all u g done none =
+  pub emptying_all : (u : List ℕ) (g : ℕ → Bool) → Emptying t start n f u g → ((b : ℕ) → b < n → g b ≡ false) → RowWritten t u start n (emptied f was)
+  emptying_all u g done none =
       row_same t start (halfway g) u n (emptied f was) done.row (λ b h. ap (λ (x : Bool). cond x (was b) (emptied f was b)) (none b h))
 
   -- one that was still to come is not any more
@@ -44,19 +44,19 @@ module _ (t : List ℕ) (start n : ℕ) (f : ℕ → Bool) where
         ap (λ (x : Bool). cond x (was b) (emptied f was b)) (sym same)
 
     still : (b : ℕ) → g' b ≡ true → f b ≡ true
-    still b e = done.among b (left-of (g b) (not (eqb b z)) (sym (without b) ∙ e))
+    still b e = done.among b (left_of (g b) (not (eqb b z)) (sym (without b) ∙ e))
 
     -- it is emptied
-    pub emptying-next : z < n → start + n ≤ length t → Emptying t start n f (set u (start + z) 0) g'
-    emptying-next l short =
-        record { row = row-set t start (halfway g) u n z 0 (halfway g') done.row l short (sym gone) (λ b h ne. other b ne); among = still }
+    pub emptying_next : z < n → start + n ≤ length t → Emptying t start n f (set u (start + z) 0) g'
+    emptying_next l short =
+        record { row = row_set t start (halfway g) u n z 0 (halfway g') done.row l short (sym gone) (λ b h ne. other b ne); among = still }
       where
         gone : halfway g' z ≡ 0
         gone =
-            let off : g' z ≡ false = without z ∙ ap (λ (x : Bool). g z && not x) (eqb-self z) ∙ and-false (g z) in
-            ap (λ (x : Bool). cond x (was z) (emptied f was z)) off ∙ emptied-free f was z (done.among z here)
+            let off : g' z ≡ false = without z ∙ ap (λ (x : Bool). g z && not x) (eqb_self z) ∙ and-false (g z) in
+            ap (λ (x : Bool). cond x (was z) (emptied f was z)) off ∙ emptied_free f was z (done.among z here)
 
     -- it is none of the n
-    pub emptying-past : n ≤ z → Emptying t start n f u g'
-    emptying-past l =
+    pub emptying_past : n ≤ z → Emptying t start n f u g'
+    emptying_past l =
         record { row = row_same t start (halfway g) u n (halfway g') done.row (λ b h. other b (λ e. omega (arith, e, h, l))); among = still }

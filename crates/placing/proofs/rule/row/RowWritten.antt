@@ -1,6 +1,6 @@
 -- Laws of one slot's row, as the code writes it.
 --
--- In order: what a job writes; a cell of the row, emptied (`emptied-..`) and with one job more (`slotCell-..`); a row of which cells are written (`row-..`);
+-- In order: what a job writes; a cell of the row, emptied (`emptied-..`) and with one job more (`slot_cell-..`); a row of which cells are written (`row-..`);
 -- the free cells that are left after some were taken in order (`untaken-..`), and who takes one (`takes-..`); a row after some jobs took their cells:
 -- none, one more, and all, with the cells that are left made empty, or empty before (`filled-..`).
 -- Assumes nothing.
@@ -16,27 +16,27 @@ use lib.Seq.{get_or-set_same, get_or-set_other}
 use lib.Dec.{ltb, leb, eqb}
 use Rattle.laws.specs.Sums.{bit, only, sum, count}
 use Rattle.laws.specs.Lists.{at}
-use Rattle.laws.specs.Cells.{takes, slotCell}
-use Rattle.laws.proofs.Tests.{Is, is_true, is_false, is, clash, both, left-of, right_of}
-use Rattle.laws.proofs.Comparisons.{lt_of, ge-of, le_of, gt-of, eq_of, ne_of, ltb_yes, leb_yes, leb_no, eqb_yes, eqb_no, eqb-self, ltb_iff}
-use Rattle.laws.proofs.Sums.{sum-ext, sum-zero, sum-point}
-use Rattle.laws.proofs.Counts.{count-ext, count_none}
-use Rattle.laws.proofs.Loops.{count-more}
-use Rattle.laws.proofs.Cells.{count-below, nth-count}
-use Rattle.placing.specs.method.Rule.{jobCell, dueCells, RowWritten, emptied, EmptyRow}
+use Rattle.laws.specs.Cells.{takes, slot_cell}
+use Rattle.laws.proofs.Tests.{Is, is_true, is_false, is, clash, both, left_of, right_of}
+use Rattle.laws.proofs.Comparisons.{lt_of, ge_of, le_of, gt_of, eq_of, ne_of, ltb_yes, leb_yes, leb_no, eqb_yes, eqb_no, eqb_self, ltb_iff}
+use Rattle.laws.proofs.Sums.{sum_ext, sum_zero, sum_point}
+use Rattle.laws.proofs.Counts.{count_ext, count_none}
+use Rattle.laws.proofs.Loops.{count_more}
+use Rattle.laws.proofs.Cells.{count_below, nth_count}
+use Rattle.placing.specs.method.Rule.{job_cell, due_cells, RowWritten, emptied, EmptyRow}
 
 -- ---- what a job writes
 
 module _ (due early late : List ℕ) (i : ℕ) where
-  pub writes-late : at due i ≡ 0 → at late i ≡ dueCells due early late i
-  writes-late e = rw e refl
+  pub writes_late : at due i ≡ 0 → at late i ≡ due_cells due early late i
+  writes_late e = rw e refl
 
-  pub writes-early : 0 < at due i → at early i ≡ dueCells due early late i
-  writes-early h = rw (ltb_yes 0 (at due i) h) refl
+  pub writes_early : 0 < at due i → at early i ≡ due_cells due early late i
+  writes_early h = rw (ltb_yes 0 (at due i) h) refl
 
   -- a job that needs `need` slots in all and `rest` of them still
-  pub due-cell : (need rest first : ℕ) → at due i ≡ first - (need - rest) → dueCells due early late i ≡ jobCell need rest first (at early i) (at late i)
-  due-cell need rest first e =
+  pub due_cell : (need rest first : ℕ) → at due i ≡ first - (need - rest) → due_cells due early late i ≡ job_cell need rest first (at early i) (at late i)
+  due_cell need rest first e =
       ap (λ (x : Bool). cond x (at early i) (at late i)) (ltb_iff 0 (at due i) (need - rest) first (λ h. omega (arith, e, h)) (λ h. omega (arith, e, h)))
 
 -- ---- a cell of the row
@@ -46,40 +46,40 @@ apart : (a : ℕ → Bool) (i j : ℕ) → a i ≡ true → a j ≡ true → (j 
 apart a i j p q ne e = go (is (ltb j i))
   where
     go : Is (ltb j i) → ⊥
-    go (is_true l) = omega (arith, count-below i a j (lt_of j i l), ap bit q)
+    go (is_true l) = omega (arith, count_below i a j (lt_of j i l), ap bit q)
     go (is_false l) =
-        let m : i ≤ j = ge-of j i l in
-        omega (arith, count-below j a i (omega arith), ap bit p)
+        let m : i ≤ j = ge_of j i l in
+        omega (arith, count_below j a i (omega arith), ap bit p)
 
 -- a cell goes by the k jobs and what it held alone
-pub slotCell-ext : (k : ℕ) (a f : ℕ → Bool) (v t : ℕ → ℕ) (b : ℕ) (a' : ℕ → Bool) (v' t' : ℕ → ℕ)
-    → ((i : ℕ) → i < k → a i ≡ a' i) → ((i : ℕ) → i < k → v i ≡ v' i) → t b ≡ t' b → slotCell k a f v t b ≡ slotCell k a' f v' t' b
-slotCell-ext k a f v t b a' v' t' p q e =
+pub slot_cell_ext : (k : ℕ) (a f : ℕ → Bool) (v t : ℕ → ℕ) (b : ℕ) (a' : ℕ → Bool) (v' t' : ℕ → ℕ)
+    → ((i : ℕ) → i < k → a i ≡ a' i) → ((i : ℕ) → i < k → v i ≡ v' i) → t b ≡ t' b → slot_cell k a f v t b ≡ slot_cell k a' f v' t' b
+slot_cell_ext k a f v t b a' v' t' p q e =
     ap₂ (λ (n m : ℕ). cond (f b) n m)
-    (sum-ext k (λ i. only (takes a f i b) (v i)) (λ i. only (takes a' f i b) (v' i)) (λ i l. one i l))
+    (sum_ext k (λ i. only (takes a f i b) (v i)) (λ i. only (takes a' f i b) (v' i)) (λ i l. one i l))
     e
   where
     one : (i : ℕ) → i < k → only (takes a f i b) (v i) ≡ only (takes a' f i b) (v' i)
-    one i l = rw (p i l, q i l, count-ext i a a' (λ j m. p j (omega arith))) refl
+    one i l = rw (p i l, q i l, count_ext i a a' (λ j m. p j (omega arith))) refl
 
 module _ (f : ℕ → Bool) (t : ℕ → ℕ) (b : ℕ) where
-  pub emptied-free : f b ≡ true → emptied f t b ≡ 0
-  emptied-free e = rw e refl
+  pub emptied_free : f b ≡ true → emptied f t b ≡ 0
+  emptied_free e = rw e refl
 
-  pub emptied-kept : f b ≡ false → emptied f t b ≡ t b
-  emptied-kept e = rw e refl
+  pub emptied_kept : f b ≡ false → emptied f t b ≡ t b
+  emptied_kept e = rw e refl
 
 module _ (i : ℕ) (a f : ℕ → Bool) (v t : ℕ → ℕ) (b : ℕ) where
   -- one job more, which takes another cell or none
-  pub slotCell-passed : takes a f i b ≡ false → slotCell i a f v t b ≡ slotCell (i + 1) a f v t b
+  pub slot_cell_passed : takes a f i b ≡ false → slot_cell i a f v t b ≡ slot_cell (i + 1) a f v t b
   unfolding sum
-  slotCell-passed e = rw (add-one i, e) (ap (λ (n : ℕ). cond (f b) n (t b)) (sym (add-zero (sum i (λ j. only (takes a f j b) (v j))))))
+  slot_cell_passed e = rw (add-one i, e) (ap (λ (n : ℕ). cond (f b) n (t b)) (sym (add-zero (sum i (λ j. only (takes a f j b) (v j))))))
 
   -- one job more, which takes this cell: none before it did
-  pub slotCell-taken : f b ≡ true → a i ≡ true → count i a ≡ count b f → v i ≡ slotCell (i + 1) a f v t b
-  slotCell-taken p q e =
+  pub slot_cell_taken : f b ≡ true → a i ≡ true → count i a ≡ count b f → v i ≡ slot_cell (i + 1) a f v t b
+  slot_cell_taken p q e =
       sym (ap (λ (x : Bool). cond x (sum (i + 1) (λ j. only (takes a f j b) (v j))) (t b)) p
-      ∙ sum-point (i + 1) (λ j. only (takes a f j b) (v j)) i (omega arith) (λ j m ne. off j ne (is (a j)))
+      ∙ sum_point (i + 1) (λ j. only (takes a f j b) (v j)) i (omega arith) (λ j m ne. off j ne (is (a j)))
       ∙ (rw (p, q, eqb_yes (count i a) (count b f) e) refl))
     where
       off : (j : ℕ) → (j ≡ i → ⊥) → Is (a j) → only (takes a f j b) (v j) ≡ 0
@@ -90,8 +90,8 @@ module _ (i : ℕ) (a f : ℕ → Bool) (v t : ℕ → ℕ) (b : ℕ) where
 
 module _ (t : List ℕ) (start : ℕ) (w : ℕ → ℕ) where
   -- every cell keeps what it held
-  pub row-as-it-was : (n : ℕ) → ((b : ℕ) → b < n → at t (start + b) ≡ w b) → RowWritten t t start n w
-  row-as-it-was n h = record { long = refl; inside = h; before = λ i l. refl; after = λ i l. refl }
+  pub row_as_it_was : (n : ℕ) → ((b : ℕ) → b < n → at t (start + b) ≡ w b) → RowWritten t t start n w
+  row_as_it_was n h = record { long = refl; inside = h; before = λ i l. refl; after = λ i l. refl }
 
   -- the cells under another name
   pub row_same : (u : List ℕ) (n : ℕ) (w' : ℕ → ℕ) → RowWritten t u start n w → ((b : ℕ) → b < n → w b ≡ w' b) → RowWritten t u start n w'
@@ -99,9 +99,9 @@ module _ (t : List ℕ) (start : ℕ) (w : ℕ → ℕ) where
       record { long = done.long; inside = λ b h. done.inside b h ∙ e b h; before = done.before; after = done.after }
 
   -- cell z, which is written already, is stored anew
-  pub row-set : (u : List ℕ) (n z x : ℕ) (w' : ℕ → ℕ) → RowWritten t u start n w → z < n → start + n ≤ length t → x ≡ w' z
+  pub row_set : (u : List ℕ) (n z x : ℕ) (w' : ℕ → ℕ) → RowWritten t u start n w → z < n → start + n ≤ length t → x ≡ w' z
       → ((b : ℕ) → b < n → (b ≡ z → ⊥) → w b ≡ w' b) → RowWritten t (set u (start + z) x) start n w'
-  row-set u n z x w' done l short e rest =
+  row_set u n z x w' done l short e rest =
       record {
         long = length-set u (start + z) x ∙ done.long;
         inside = λ b h. go b h (is (eqb b z));
@@ -122,8 +122,8 @@ abbrev pub untaken : (ℕ → Bool) → ℕ → ℕ → Bool
 untaken f m b = f b && leb m (count b f)
 
 module _ (f : ℕ → Bool) where
-  pub untaken-none : (b : ℕ) → f b ≡ untaken f 0 b
-  untaken-none b = go (is (f b))
+  pub untaken_none : (b : ℕ) → f b ≡ untaken f 0 b
+  untaken_none b = go (is (f b))
     where
       go : Is (f b) → f b ≡ untaken f 0 b
       go (is_true e) = rw (e, leb_yes 0 (count b f) zero-le) refl
@@ -131,8 +131,8 @@ module _ (f : ℕ → Bool) where
 
   module _ (m : ℕ) where
     -- the first cell that is left has just m free ones before it
-    pub untaken-first : (z : ℕ) → untaken f m z ≡ true → ((b : ℕ) → b < z → untaken f m b ≡ false) → count z f ≡ m
-    untaken-first z e none =
+    pub untaken_first : (z : ℕ) → untaken f m z ≡ true → ((b : ℕ) → b < z → untaken f m b ≡ false) → count z f ≡ m
+    untaken_first z e none =
         let enough : m ≤ count z f = le_of m (count z f) (right_of (f z) (leb m (count z f)) e) in
         let unmet : count z (λ b. f b && eqb m (count b f)) ≡ 0 = count_none z (λ b. f b && eqb m (count b f)) (λ b l. off b (none b l) (is (f b)) (is (eqb m (count b f)))) in
         go enough unmet (is (ltb m (count z f)))
@@ -144,12 +144,12 @@ module _ (f : ℕ → Bool) where
         off b u (is_false p) q = rw p refl
 
         go : m ≤ count z f → count z (λ b. f b && eqb m (count b f)) ≡ 0 → Is (ltb m (count z f)) → count z f ≡ m
-        go enough unmet (is_true l) = absurd (omega (arith, nth-count z f m, ap bit l, unmet))
-        go enough unmet (is_false l) = let most = ge-of m (count z f) l in omega arith
+        go enough unmet (is_true l) = absurd (omega (arith, nth_count z f m, ap bit l, unmet))
+        go enough unmet (is_false l) = let most = ge_of m (count z f) l in omega arith
 
     -- without it, one more is taken
-    pub untaken-more : (z : ℕ) → f z ≡ true → count z f ≡ m → (b : ℕ) → (untaken f m b && not (eqb b z)) ≡ untaken f (m + 1) b
-    untaken-more z p e b = go (is (f b)) (is (eqb b z))
+    pub untaken_more : (z : ℕ) → f z ≡ true → count z f ≡ m → (b : ℕ) → (untaken f m b && not (eqb b z)) ≡ untaken f (m + 1) b
+    untaken_more z p e b = go (is (f b)) (is (eqb b z))
       where
         go : Is (f b) → Is (eqb b z) → (untaken f m b && not (eqb b z)) ≡ untaken f (m + 1) b
         go (is_true q) (is_true s) =
@@ -162,31 +162,31 @@ module _ (f : ℕ → Bool) where
 
             further : Is (leb m (count b f)) → leb m (count b f) ≡ leb (m + 1) (count b f)
             further (is_true l) = l ∙ sym (leb_yes (m + 1) (count b f) (let k = le_of m (count b f) l in let ne : count b f ≡ m → ⊥ = other in omega arith))
-            further (is_false l) = l ∙ sym (leb_no (m + 1) (count b f) (let k = gt-of m (count b f) l in omega arith))
+            further (is_false l) = l ∙ sym (leb_no (m + 1) (count b f) (let k = gt_of m (count b f) l in omega arith))
         go (is_false q) s = rw q refl
 
     -- a cell that is not left stays so
-    pub untaken-stays : (b : ℕ) → untaken f m b ≡ false → untaken f (m + 1) b ≡ false
-    untaken-stays b u = go (is (f b))
+    pub untaken_stays : (b : ℕ) → untaken f m b ≡ false → untaken f (m + 1) b ≡ false
+    untaken_stays b u = go (is (f b))
       where
         go : Is (f b) → untaken f (m + 1) b ≡ false
         go (is_true q) =
-            let l : count b f < m = gt-of m (count b f) (ap (λ (x : Bool). x && leb m (count b f)) (sym q) ∙ u) in
+            let l : count b f < m = gt_of m (count b f) (ap (λ (x : Bool). x && leb m (count b f)) (sym q) ∙ u) in
             rw (q, leb_no (m + 1) (count b f) (omega arith)) refl
         go (is_false q) = rw q refl
 
 -- ---- who takes a free cell, by what is left
 
 module _ (a f : ℕ → Bool) (i b : ℕ) where
-  pub takes-not-chosen : a i ≡ false → takes a f i b ≡ false
-  takes-not-chosen e = rw e (go (f b))
+  pub takes_not_chosen : a i ≡ false → takes a f i b ≡ false
+  takes_not_chosen e = rw e (go (f b))
     where
       go : (x : Bool) → (x && false && eqb (count i a) (count b f)) ≡ false
       go true = refl
       go false = refl
 
-  pub takes-not-left : untaken f (count i a) b ≡ false → takes a f i b ≡ false
-  takes-not-left u = go (is (f b)) (is (eqb (count i a) (count b f)))
+  pub takes_not_left : untaken f (count i a) b ≡ false → takes a f i b ≡ false
+  takes_not_left u = go (is (f b)) (is (eqb (count i a) (count b f)))
     where
       go : Is (f b) → Is (eqb (count i a) (count b f)) → takes a f i b ≡ false
       go (is_true p) (is_true q) =
@@ -195,34 +195,34 @@ module _ (a f : ℕ → Bool) (i b : ℕ) where
       go (is_false p) q = rw p refl
 
   -- another cell has as many before it
-  pub takes-other : (z : ℕ) → f z ≡ true → count z f ≡ count i a → (b ≡ z → ⊥) → takes a f i b ≡ false
-  takes-other z p e ne = go (is (f b))
+  pub takes_other : (z : ℕ) → f z ≡ true → count z f ≡ count i a → (b ≡ z → ⊥) → takes a f i b ≡ false
+  takes_other z p e ne = go (is (f b))
     where
       go : Is (f b) → takes a f i b ≡ false
       go (is_true q) = rw (q, eqb_no (count i a) (count b f) (λ d. apart f z b p q ne (sym d ∙ sym e))) (and-false (a i))
       go (is_false q) = rw q refl
 
 -- a cell that is left after all k jobs: nobody takes it
-slotCell-left : (k : ℕ) (a f : ℕ → Bool) (v t : ℕ → ℕ) (b : ℕ) → untaken f (count k a) b ≡ true → slotCell k a f v t b ≡ 0
-slotCell-left k a f v t b u =
-    ap (λ (x : Bool). cond x (sum k (λ i. only (takes a f i b) (v i))) (t b)) (left-of (f b) (leb (count k a) (count b f)) u)
-    ∙ sum-zero k (λ i. only (takes a f i b) (v i)) (λ i l. ap (λ (x : Bool). only x (v i)) (off i l (is (a i))))
+slot_cell_left : (k : ℕ) (a f : ℕ → Bool) (v t : ℕ → ℕ) (b : ℕ) → untaken f (count k a) b ≡ true → slot_cell k a f v t b ≡ 0
+slot_cell_left k a f v t b u =
+    ap (λ (x : Bool). cond x (sum k (λ i. only (takes a f i b) (v i))) (t b)) (left_of (f b) (leb (count k a) (count b f)) u)
+    ∙ sum_zero k (λ i. only (takes a f i b) (v i)) (λ i l. ap (λ (x : Bool). only x (v i)) (off i l (is (a i))))
   where
     off : (i : ℕ) → i < k → Is (a i) → takes a f i b ≡ false
     off i l (is_true e) =
         let enough : count k a ≤ count b f = le_of (count k a) (count b f) (right_of (f b) (leb (count k a) (count b f)) u) in
-        rw (eqb_no (count i a) (count b f) (λ z. omega (arith, z, enough, count-below k a i l, ap bit e))) (and-false (f b && a i))
-    off i l (is_false e) = takes-not-chosen a f i b e
+        rw (eqb_no (count i a) (count b f) (λ z. omega (arith, z, enough, count_below k a i l, ap bit e))) (and-false (f b && a i))
+    off i l (is_false e) = takes_not_chosen a f i b e
 
 -- ---- a row after some jobs took their cells
 
 -- what cell b holds after the jobs before i took theirs: a free cell that is left still what it held
-abbrev cellSoFar : ℕ → (ℕ → Bool) → (ℕ → Bool) → (ℕ → ℕ) → (ℕ → ℕ) → ℕ → ℕ
-cellSoFar i a f v t b = cond (untaken f (count i a) b) (t b) (slotCell i a f v t b)
+abbrev cell_so_far : ℕ → (ℕ → Bool) → (ℕ → Bool) → (ℕ → ℕ) → (ℕ → ℕ) → ℕ → ℕ
+cell_so_far i a f v t b = cond (untaken f (count i a) b) (t b) (slot_cell i a f v t b)
 
 -- u is t with the n cells from `start` on written by the jobs before i, and g is the test of the free cells that are left
 pub record RowFilled (t : List ℕ) (start n : ℕ) (a f : ℕ → Bool) (v : ℕ → ℕ) (u : List ℕ) (g : ℕ → Bool) (i : ℕ) : Type 0 where
-  pub row : RowWritten t u start n (cellSoFar i a f v (λ b. at t (start + b)))
+  pub row : RowWritten t u start n (cell_so_far i a f v (λ b. at t (start + b)))
   pub rest : (b : ℕ) → b < n → g b ≡ untaken f (count i a) b
 
 module _ (t : List ℕ) (start n : ℕ) (a f : ℕ → Bool) (v : ℕ → ℕ) where
@@ -234,41 +234,41 @@ module _ (t : List ℕ) (start n : ℕ) (a f : ℕ → Bool) (v : ℕ → ℕ) w
   unfolding sum
   filled_none =
       record {
-        row = row-as-it-was t start (cellSoFar 0 a f v held) n (λ b h. go b (is (f b)));
-        rest = λ b h. untaken-none f b;
+        row = row_as_it_was t start (cell_so_far 0 a f v held) n (λ b h. go b (is (f b)));
+        rest = λ b h. untaken_none f b;
       }
     where
-      go : (b : ℕ) → Is (f b) → held b ≡ cellSoFar 0 a f v held b
-      go b (is_true e) = sym (ap (λ (x : Bool). cond x (held b) (slotCell 0 a f v held b)) (sym (untaken-none f b) ∙ e))
+      go : (b : ℕ) → Is (f b) → held b ≡ cell_so_far 0 a f v held b
+      go b (is_true e) = sym (ap (λ (x : Bool). cond x (held b) (slot_cell 0 a f v held b)) (sym (untaken_none f b) ∙ e))
       go b (is_false e) = rw e refl
 
   module _ (u : List ℕ) (g : ℕ → Bool) (i : ℕ) (done : RowFilled t start n a f v u g i) where
     -- a cell that job i does not take
     passed : (b : ℕ) → untaken f (count i a) b ≡ untaken f (count (i + 1) a) b → takes a f i b ≡ false
-        → cellSoFar i a f v held b ≡ cellSoFar (i + 1) a f v held b
-    passed b e off = ap₂ (λ (x : Bool) (y : ℕ). cond x (held b) y) e (slotCell-passed i a f v held b off)
+        → cell_so_far i a f v held b ≡ cell_so_far (i + 1) a f v held b
+    passed b e off = ap₂ (λ (x : Bool) (y : ℕ). cond x (held b) y) e (slot_cell_passed i a f v held b off)
 
     -- job i takes no cell
     same : ((b : ℕ) → b < n → untaken f (count i a) b ≡ untaken f (count (i + 1) a) b) → ((b : ℕ) → b < n → takes a f i b ≡ false)
-        → RowWritten t u start n (cellSoFar (i + 1) a f v held)
+        → RowWritten t u start n (cell_so_far (i + 1) a f v held)
     same stay off =
-        row_same t start (cellSoFar i a f v held) u n (cellSoFar (i + 1) a f v held) done.row (λ b h. passed b (stay b h) (off b h))
+        row_same t start (cell_so_far i a f v held) u n (cell_so_far (i + 1) a f v held) done.row (λ b h. passed b (stay b h) (off b h))
 
     -- it is not chosen
-    pub filled-not-chosen : a i ≡ false → RowFilled t start n a f v u g (i + 1)
-    filled-not-chosen e =
+    pub filled_not_chosen : a i ≡ false → RowFilled t start n a f v u g (i + 1)
+    filled_not_chosen e =
         let stay : (b : ℕ) → untaken f (count i a) b ≡ untaken f (count (i + 1) a) b =
-        λ b. ap (λ (m : ℕ). untaken f m b) (omega (arith, count-more i a, ap bit e)) in
-        record { row = same (λ b h. stay b) (λ b h. takes-not-chosen a f i b e); rest = λ b h. done.rest b h ∙ stay b }
+        λ b. ap (λ (m : ℕ). untaken f m b) (omega (arith, count_more i a, ap bit e)) in
+        record { row = same (λ b h. stay b) (λ b h. takes_not_chosen a f i b e); rest = λ b h. done.rest b h ∙ stay b }
 
     -- it is, and no cell is left
-    pub filled-full : a i ≡ true → ((b : ℕ) → b < n → g b ≡ false) → RowFilled t start n a f v u g (i + 1)
-    filled-full e none =
+    pub filled_full : a i ≡ true → ((b : ℕ) → b < n → g b ≡ false) → RowFilled t start n a f v u g (i + 1)
+    filled_full e none =
         let gone : (b : ℕ) → b < n → untaken f (count i a) b ≡ false = λ b h. sym (done.rest b h) ∙ none b h in
         let still : (b : ℕ) → b < n → untaken f (count (i + 1) a) b ≡ false =
-        λ b h. ap (λ (m : ℕ). untaken f m b) (omega (arith, count-more i a, ap bit e)) ∙ untaken-stays f (count i a) b (gone b h) in
+        λ b h. ap (λ (m : ℕ). untaken f m b) (omega (arith, count_more i a, ap bit e)) ∙ untaken_stays f (count i a) b (gone b h) in
         record {
-          row = same (λ b h. gone b h ∙ sym (still b h)) (λ b h. takes-not-left a f i b (gone b h));
+          row = same (λ b h. gone b h ∙ sym (still b h)) (λ b h. takes_not_left a f i b (gone b h));
           rest = λ b h. none b h ∙ sym (still b h);
         }
 
@@ -278,26 +278,26 @@ module _ (t : List ℕ) (start n : ℕ) (a f : ℕ → Bool) (v : ℕ → ℕ) w
     filled_next e z l short here below g' without =
         let m = count i a in
         let left : untaken f m z ≡ true = sym (done.rest z l) ∙ here in
-        let free : f z ≡ true = left-of (f z) (leb m (count z f)) left in
-        let order : count z f ≡ m = untaken-first f m z left (λ b h. sym (done.rest b (omega arith)) ∙ below b h) in
-        let next : m + 1 ≡ count (i + 1) a = omega (arith, count-more i a, ap bit e) in
+        let free : f z ≡ true = left_of (f z) (leb m (count z f)) left in
+        let order : count z f ≡ m = untaken_first f m z left (λ b h. sym (done.rest b (omega arith)) ∙ below b h) in
+        let next : m + 1 ≡ count (i + 1) a = omega (arith, count_more i a, ap bit e) in
         let fewer : (b : ℕ) → (untaken f m b && not (eqb b z)) ≡ untaken f (count (i + 1) a) b =
-        λ b. untaken-more f m z free order b ∙ ap (λ (k : ℕ). untaken f k b) next in
-        let gone : untaken f (count (i + 1) a) z ≡ false = sym (fewer z) ∙ (rw (eqb-self z) (and-false (untaken f m z))) in
+        λ b. untaken_more f m z free order b ∙ ap (λ (k : ℕ). untaken f k b) next in
+        let gone : untaken f (count (i + 1) a) z ≡ false = sym (fewer z) ∙ (rw (eqb_self z) (and-false (untaken f m z))) in
         record {
           row =
-              row-set t start (cellSoFar i a f v held) u n z (v i) (cellSoFar (i + 1) a f v held) done.row l short
-              (slotCell-taken i a f v held z free e (sym order)
-              ∙ sym (ap (λ (x : Bool). cond x (held z) (slotCell (i + 1) a f v held z)) gone))
+              row_set t start (cell_so_far i a f v held) u n z (v i) (cell_so_far (i + 1) a f v held) done.row l short
+              (slot_cell_taken i a f v held z free e (sym order)
+              ∙ sym (ap (λ (x : Bool). cond x (held z) (slot_cell (i + 1) a f v held z)) gone))
               (λ b h ne.
-              passed b (sym (ap (λ (x : Bool). untaken f m b && not x) (eqb_no b z ne) ∙ and-true (untaken f m b)) ∙ fewer b) (takes-other a f i b z free order ne));
+              passed b (sym (ap (λ (x : Bool). untaken f m b && not x) (eqb_no b z ne) ∙ and-true (untaken f m b)) ∙ fewer b) (takes_other a f i b z free order ne));
           rest = λ b h. without b ∙ ap (λ (x : Bool). x && not (eqb b z)) (done.rest b h) ∙ fewer b;
         }
 
   -- all k jobs have written, and the free cells that are left are made empty
-  pub filled-all : (k : ℕ) (u : List ℕ) (g : ℕ → Bool) → RowFilled t start n a f v u g k
-      → (u' : List ℕ) → RowWritten u u' start n (emptied g (λ b. at u (start + b))) → RowWritten t u' start n (slotCell k a f v held)
-  filled-all k u g done u' end =
+  pub filled_all : (k : ℕ) (u : List ℕ) (g : ℕ → Bool) → RowFilled t start n a f v u g k
+      → (u' : List ℕ) → RowWritten u u' start n (emptied g (λ b. at u (start + b))) → RowWritten t u' start n (slot_cell k a f v held)
+  filled_all k u g done u' end =
       record {
         long = end.long ∙ done.row.long;
         inside = λ b h. end.inside b h ∙ go b h (is (g b));
@@ -305,25 +305,25 @@ module _ (t : List ℕ) (start n : ℕ) (a f : ℕ → Bool) (v : ℕ → ℕ) w
         after = λ i h. end.after i h ∙ done.row.after i h;
       }
     where
-      go : (b : ℕ) → b < n → Is (g b) → emptied g (λ d. at u (start + d)) b ≡ slotCell k a f v held b
+      go : (b : ℕ) → b < n → Is (g b) → emptied g (λ d. at u (start + d)) b ≡ slot_cell k a f v held b
       go b h (is_true e) =
-          emptied-free g (λ d. at u (start + d)) b e ∙ sym (slotCell-left k a f v held b (sym (done.rest b h) ∙ e))
+          emptied_free g (λ d. at u (start + d)) b e ∙ sym (slot_cell_left k a f v held b (sym (done.rest b h) ∙ e))
       go b h (is_false e) =
-          emptied-kept g (λ d. at u (start + d)) b e
+          emptied_kept g (λ d. at u (start + d)) b e
           ∙ done.row.inside b h
-          ∙ ap (λ (x : Bool). cond x (held b) (slotCell k a f v held b)) (sym (done.rest b h) ∙ e)
+          ∙ ap (λ (x : Bool). cond x (held b) (slot_cell k a f v held b)) (sym (done.rest b h) ∙ e)
 
   -- all k jobs have written, and the free cells were empty before
-  pub filled-clean : (k : ℕ) (u : List ℕ) (g : ℕ → Bool) → RowFilled t start n a f v u g k → EmptyRow t start n f
-      → RowWritten t u start n (slotCell k a f v held)
-  filled-clean k u g done clean =
-      filled-all k u g done u (row-as-it-was u start (emptied g (λ b. at u (start + b))) n (λ b h. go b h (is (g b))))
+  pub filled_clean : (k : ℕ) (u : List ℕ) (g : ℕ → Bool) → RowFilled t start n a f v u g k → EmptyRow t start n f
+      → RowWritten t u start n (slot_cell k a f v held)
+  filled_clean k u g done clean =
+      filled_all k u g done u (row_as_it_was u start (emptied g (λ b. at u (start + b))) n (λ b h. go b h (is (g b))))
     where
       go : (b : ℕ) → b < n → Is (g b) → at u (start + b) ≡ emptied g (λ d. at u (start + d)) b
       go b h (is_true e) =
           let left : untaken f (count k a) b ≡ true = sym (done.rest b h) ∙ e in
           done.row.inside b h
-          ∙ ap (λ (x : Bool). cond x (held b) (slotCell k a f v held b)) left
-          ∙ clean b h (left-of (f b) (leb (count k a) (count b f)) left)
-          ∙ sym (emptied-free g (λ d. at u (start + d)) b e)
-      go b h (is_false e) = sym (emptied-kept g (λ d. at u (start + d)) b e)
+          ∙ ap (λ (x : Bool). cond x (held b) (slot_cell k a f v held b)) left
+          ∙ clean b h (left_of (f b) (leb (count k a) (count b f)) left)
+          ∙ sym (emptied_free g (λ d. at u (start + d)) b e)
+      go b h (is_false e) = sym (emptied_kept g (λ d. at u (start + d)) b e)

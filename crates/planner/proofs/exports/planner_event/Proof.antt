@@ -1,19 +1,19 @@
 -- `exports::planner_event` meets its contract: a law for each cause tried here, and one for a line that is handed on. Assumes nothing.
 use borrow.Author.Rules.{rules}
-use Rattle.planner.proofs.EventLine.{event-short-frame, event-short-presets, event-handed}
+use Rattle.planner.proofs.EventLine.{event_short_frame, event_short_presets, event_handed}
 use Rattle.planner.proofs.exports.planner_event.Statement.{statement}
 use Rattle.planner.proofs.exports.planner_event.Tie as tie
 
 returns : tie.Need-returns
 returns c =
     let a = c.before.before.before.before.before.args in
-    event-short-frame a.frame.now a.presets.now a.table.now a.line.now c.if1.true
+    event_short_frame a.frame.now a.presets.now a.table.now a.line.now c.if1.true
 
 returns-2 : tie.Need-returns-2
 returns-2 c =
     let few = c.before in
     let a = few.before.before.before.before.before.args in
-    event-short-presets a.frame.now a.presets.now a.table.now a.line.now few.if1.false c.if2.true
+    event_short_presets a.frame.now a.presets.now a.table.now a.line.now few.if1.false c.if2.true
 
 head-of-requires : tie.Need-head-of-requires
 head-of-requires c κs = search rules
@@ -61,12 +61,12 @@ returns-3 c =
     let enough = head.before.before in
     let few = enough.before in
     let a = few.before.before.before.before.before.args in
-    event-handed a.frame.now a.presets.now a.table.now a.line.now head.head_of.result copied.load-presets.result clock.clock-of.result
+    event_handed a.frame.now a.presets.now a.table.now a.line.now head.head_of.result copied.load-presets.result clock.clock-of.result
     hold.hold-of.result event.event-by-value.result few.if1.false enough.if2.false head.head_of.ensures copied.load-presets.ensures clock.clock-of.ensures
     hold.hold-of.ensures event.event-by-value.ensures.0 saved.save-clock.ensures tied.save-tie.ensures count.answer-count.ensures c.answer-number.ensures
 
-pub planner-event-spec : {M : Type 1} → statement M
-planner-event-spec =
+pub planner_event_spec : {M : Type 1} → statement M
+planner_event_spec =
     tie.close
     (tie.spec
     returns

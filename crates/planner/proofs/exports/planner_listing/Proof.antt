@@ -1,6 +1,6 @@
 -- `exports::planner_listing` meets its contract: the listing is that of `write_listing`, and its answer is two numbers. Assumes nothing.
 use borrow.Author.Rules.{rules}
-use Rattle.planner.proofs.WholeListing.{listing-leaves, listing-whole}
+use Rattle.planner.proofs.WholeListing.{listing_leaves, listing_whole}
 use Rattle.planner.proofs.exports.planner_listing.Statement.{statement}
 use Rattle.planner.proofs.exports.planner_listing.Tie as tie
 
@@ -24,12 +24,12 @@ returns c =
     let count = c.before in
     let w = count.before.before.before.before.before in
     let a = w.before.before.before.before.before.before.args in (
-      listing-leaves a.text.now a.table.now a.out.now w.write-listing.result count.written_count.ensures w.write-listing.ensures.0 c.written-number.ensures,
-      listing-whole a.text.now a.table.now a.out.now w.write-listing.result count.written_count.ensures w.write-listing.ensures.1,
+      listing_leaves a.text.now a.table.now a.out.now w.write-listing.result count.written_count.ensures w.write-listing.ensures.0 c.written-number.ensures,
+      listing_whole a.text.now a.table.now a.out.now w.write-listing.result count.written_count.ensures w.write-listing.ensures.1,
     )
 
-pub planner-listing-spec : {M : Type 1} → statement M
-planner-listing-spec =
+pub planner_listing_spec : {M : Type 1} → statement M
+planner_listing_spec =
     tie.close
     (tie.spec
     write-listing-requires

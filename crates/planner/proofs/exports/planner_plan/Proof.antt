@@ -1,26 +1,26 @@
 -- `exports::planner_plan` meets its contract: a law for each cause tried here, one for a plan that is refused and one for a plan that is made. Assumes nothing.
 use borrow.Author.Rules.{rules}
-use Rattle.planner.proofs.PlanFrame.{plan-short-frame, plan-short-presets, plan-short-grants, refused-handed, made-handed}
+use Rattle.planner.proofs.PlanFrame.{plan_short_frame, plan_short_presets, plan_short_grants, refused_handed, made_handed}
 use Rattle.planner.proofs.exports.planner_plan.Statement.{statement}
 use Rattle.planner.proofs.exports.planner_plan.Tie as tie
 
 returns : tie.Need-returns
 returns c =
     let a = c.before.before.before.before.before.args in
-    plan-short-frame a.frame.now a.presets.now a.table.now a.grants.now c.if1.true
+    plan_short_frame a.frame.now a.presets.now a.table.now a.grants.now c.if1.true
 
 returns-2 : tie.Need-returns-2
 returns-2 c =
     let few = c.before in
     let a = few.before.before.before.before.before.args in
-    plan-short-presets a.frame.now a.presets.now a.table.now a.grants.now few.if1.false c.if2.true
+    plan_short_presets a.frame.now a.presets.now a.table.now a.grants.now few.if1.false c.if2.true
 
 returns-3 : tie.Need-returns-3
 returns-3 c =
     let some = c.before in
     let few = some.before in
     let a = few.before.before.before.before.before.args in
-    plan-short-grants a.frame.now a.presets.now a.table.now a.grants.now few.if1.false some.if2.false c.if3.true
+    plan_short_grants a.frame.now a.presets.now a.table.now a.grants.now few.if1.false some.if2.false c.if3.true
 
 head-of-requires : tie.Need-head-of-requires
 head-of-requires c κs = search rules
@@ -50,7 +50,7 @@ returns-4 c =
     let some = enough.before in
     let few = some.before in
     let a = few.before.before.before.before.before.args in
-    refused-handed a.frame.now a.presets.now a.table.now a.grants.now head.head_of.result copied.load-presets.result plan.plan-by-value.result
+    refused_handed a.frame.now a.presets.now a.table.now a.grants.now head.head_of.result copied.load-presets.result plan.plan-by-value.result
     few.if1.false some.if2.false enough.if3.false head.head_of.ensures copied.load-presets.ensures plan.plan-by-value.ensures.0
     met.answer.given.1 c.refusal-number.ensures
 
@@ -77,12 +77,12 @@ returns-5 c =
     let some = enough.before in
     let few = some.before in
     let a = few.before.before.before.before.before.args in
-    made-handed a.frame.now a.presets.now a.table.now a.grants.now head.head_of.result copied.load-presets.result plan.plan-by-value.result
+    made_handed a.frame.now a.presets.now a.table.now a.grants.now head.head_of.result copied.load-presets.result plan.plan-by-value.result
     few.if1.false some.if2.false enough.if3.false head.head_of.ensures copied.load-presets.ensures plan.plan-by-value.ensures.0
     told.enum_told.given.1 saved.save-grants.ensures
 
-pub planner-plan-spec : {M : Type 1} → statement M
-planner-plan-spec =
+pub planner_plan_spec : {M : Type 1} → statement M
+planner_plan_spec =
     tie.close
     (tie.spec
     returns

@@ -1,6 +1,6 @@
 -- `exports::planner_read_rows` meets its contract: a law for each cause tried here, and one for rows that are handed on. Assumes nothing.
 use borrow.Author.Rules.{rules}
-use Rattle.planner.proofs.RowsRead.{rows_long, rows-short-frame, rows-short-presets, rows-handed}
+use Rattle.planner.proofs.RowsRead.{rows_long, rows_short_frame, rows_short_presets, rows_handed}
 use Rattle.planner.proofs.exports.planner_read_rows.Statement.{statement}
 use Rattle.planner.proofs.exports.planner_read_rows.Tie as tie
 
@@ -13,14 +13,14 @@ returns-2 : tie.Need-returns-2
 returns-2 c =
     let long = c.before in
     let a = long.before.before.before.before.args in
-    rows-short-frame a.text.now a.frame.now a.presets.now long.if1.false c.if2.true
+    rows_short_frame a.text.now a.frame.now a.presets.now long.if1.false c.if2.true
 
 returns-3 : tie.Need-returns-3
 returns-3 c =
     let few = c.before in
     let long = few.before in
     let a = long.before.before.before.before.args in
-    rows-short-presets a.text.now a.frame.now a.presets.now long.if1.false few.if2.false c.if3.true
+    rows_short_presets a.text.now a.frame.now a.presets.now long.if1.false few.if2.false c.if3.true
 
 head-of-requires : tie.Need-head-of-requires
 head-of-requires c κs = search rules
@@ -54,12 +54,12 @@ returns-4 c =
     let few = enough.before in
     let long = few.before in
     let a = long.before.before.before.before.args in
-    rows-handed a.text.now a.frame.now a.presets.now head.head_of.result copied.load-presets.result read.read-rows-by-value.result long.if1.false
+    rows_handed a.text.now a.frame.now a.presets.now head.head_of.result copied.load-presets.result read.read-rows-by-value.result long.if1.false
     few.if2.false enough.if3.false head.head_of.ensures copied.load-presets.ensures read.read-rows-by-value.ensures saved.save-masks.ensures
     count.rows-count.ensures c.rows-number.ensures
 
-pub planner-read-rows-spec : {M : Type 1} → statement M
-planner-read-rows-spec =
+pub planner_read_rows_spec : {M : Type 1} → statement M
+planner_read_rows_spec =
     tie.close
     (tie.spec
     returns

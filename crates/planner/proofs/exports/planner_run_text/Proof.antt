@@ -1,26 +1,26 @@
 -- `exports::planner_run_text` meets its contract: a law for each cause tried here, and one for a text that is run. Assumes nothing.
 use borrow.Author.Rules.{rules}
-use Rattle.planner.proofs.RunText.{text-long, text-short-frame, text-short-presets, text-handed}
+use Rattle.planner.proofs.RunText.{text_long, text_short_frame, text_short_presets, text_handed}
 use Rattle.planner.proofs.exports.planner_run_text.Statement.{statement}
 use Rattle.planner.proofs.exports.planner_run_text.Tie as tie
 
 returns : tie.Need-returns
 returns c =
     let a = c.before.before.before.before.before.before.args in
-    text-long a.text.now a.frame.now a.presets.now a.table.now a.out.now c.if1.true
+    text_long a.text.now a.frame.now a.presets.now a.table.now a.out.now c.if1.true
 
 returns-2 : tie.Need-returns-2
 returns-2 c =
     let long = c.before in
     let a = long.before.before.before.before.before.before.args in
-    text-short-frame a.text.now a.frame.now a.presets.now a.table.now a.out.now long.if1.false c.if2.true
+    text_short_frame a.text.now a.frame.now a.presets.now a.table.now a.out.now long.if1.false c.if2.true
 
 returns-3 : tie.Need-returns-3
 returns-3 c =
     let few = c.before in
     let long = few.before in
     let a = long.before.before.before.before.before.before.args in
-    text-short-presets a.text.now a.frame.now a.presets.now a.table.now a.out.now long.if1.false few.if2.false c.if3.true
+    text_short_presets a.text.now a.frame.now a.presets.now a.table.now a.out.now long.if1.false few.if2.false c.if3.true
 
 head-of-requires : tie.Need-head-of-requires
 head-of-requires c κs = search rules
@@ -74,12 +74,12 @@ returns-4 c =
     let enough = head.before.before in
     let few = enough.before in
     let a = few.before.before.before.before.before.before.before.args in
-    text-handed a.text.now a.frame.now a.presets.now a.table.now a.out.now head.head_of.result copied.load-presets.result clock.clock-of.result
+    text_handed a.text.now a.frame.now a.presets.now a.table.now a.out.now head.head_of.result copied.load-presets.result clock.clock-of.result
     hold.hold-of.result ran.run-text-by-value.result few.if2.false enough.if3.false head.head_of.ensures copied.load-presets.ensures clock.clock-of.ensures
     hold.hold-of.ensures ran.run-text-by-value.ensures.0 numbers.save-run.ensures records.save-presets.ensures place.end-place.ensures c.end-number.ensures
 
-pub planner-run-text-spec : {M : Type 1} → statement M
-planner-run-text-spec =
+pub planner_run_text_spec : {M : Type 1} → statement M
+planner_run_text_spec =
     tie.close
     (tie.spec
     returns

@@ -1,19 +1,19 @@
 -- `exports::planner_write_rows` meets its contract: a law for each cause tried here, and one for rows that are handed on. Assumes nothing.
 use borrow.Author.Rules.{rules}
-use Rattle.planner.proofs.RowsWritten.{write-short-frame, write-short-presets, write-handed}
+use Rattle.planner.proofs.RowsWritten.{write_short_frame, write_short_presets, write_handed}
 use Rattle.planner.proofs.exports.planner_write_rows.Statement.{statement}
 use Rattle.planner.proofs.exports.planner_write_rows.Tie as tie
 
 returns : tie.Need-returns
 returns c =
     let a = c.before.before.before.before.args in
-    write-short-frame a.frame.now a.presets.now a.out.now c.if1.true
+    write_short_frame a.frame.now a.presets.now a.out.now c.if1.true
 
 returns-2 : tie.Need-returns-2
 returns-2 c =
     let few = c.before in
     let a = few.before.before.before.before.args in
-    write-short-presets a.frame.now a.presets.now a.out.now few.if1.false c.if2.true
+    write_short_presets a.frame.now a.presets.now a.out.now few.if1.false c.if2.true
 
 head-of-requires : tie.Need-head-of-requires
 head-of-requires c κs = search rules
@@ -42,12 +42,12 @@ returns-3 c =
     let enough = head.before in
     let few = enough.before in
     let a = few.before.before.before.before.args in
-    write-handed a.frame.now a.presets.now a.out.now head.head_of.result copied.load-presets.result written.write-rows-by-value.result
+    write_handed a.frame.now a.presets.now a.out.now head.head_of.result copied.load-presets.result written.write-rows-by-value.result
     few.if1.false enough.if2.false head.head_of.ensures copied.load-presets.ensures written.write-rows-by-value.ensures count.written_count.ensures
     c.written-number.ensures
 
-pub planner-write-rows-spec : {M : Type 1} → statement M
-planner-write-rows-spec =
+pub planner_write_rows_spec : {M : Type 1} → statement M
+planner_write_rows_spec =
     tie.close
     (tie.spec
     returns

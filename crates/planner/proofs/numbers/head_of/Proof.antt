@@ -59,8 +59,8 @@ returns c =
     rw (n2.before.number_at.ensures, n2.number-at2.ensures, n4.before.number-at3.ensures, n4.number-at4.ensures, n6.before.number-at5.ensures, n6.number-at6.ensures, n8.before.number-at7.ensures, n8.number-at8.ensures, n11.before.before.before.number-at9.ensures, n11.before.before.number-at10.ensures, n11.before.number-at11.ensures, says.says-hold.ensures, n11.number-at12.ensures, c.number-at13.ensures)
     refl
 
-pub head-of-spec : {M : Type 1} → statement M
-head-of-spec =
+pub head_of_spec : {M : Type 1} → statement M
+head_of_spec =
     tie.close
     (tie.spec
     number-at-requires

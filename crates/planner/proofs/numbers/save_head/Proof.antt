@@ -1,6 +1,6 @@
 -- `numbers::save_head` meets its contract: each number goes to its place. Assumes nothing.
 use borrow.Author.Rules.{rules}
-use Rattle.planner.proofs.Steps.{head-written}
+use Rattle.planner.proofs.Steps.{head_written}
 use Rattle.planner.proofs.numbers.save_head.Statement.{statement}
 use Rattle.planner.proofs.numbers.save_head.Tie as tie
 
@@ -34,10 +34,10 @@ returns c =
     let s2 = s3.before.before.before.before in
     let s1 = s2.before.before.before.before in
     let a = s1.before.before.before.before.args in
-    head-written a.head a.clock a.frame.now s1.set-number.ensures s2.set-number2.ensures s3.set-number3.ensures s4.set-number4.ensures m.save-masks.ensures s5.set-number5.ensures
+    head_written a.head a.clock a.frame.now s1.set-number.ensures s2.set-number2.ensures s3.set-number3.ensures s4.set-number4.ensures m.save-masks.ensures s5.set-number5.ensures
 
-pub save-head-spec : {M : Type 1} → statement M
-save-head-spec =
+pub save_head_spec : {M : Type 1} → statement M
+save_head_spec =
     tie.close
     (tie.spec
     set-number-requires

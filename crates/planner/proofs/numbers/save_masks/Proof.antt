@@ -4,7 +4,7 @@ use native.Mathlib.Omega.{arith}
 use mathlib.Core.Path.{◌≡◌, refl, ◌∙◌, ap}
 use lib.ListN.{length, drop, length-set}
 use lib.Seq.{sets}
-use Rattle.planner.proofs.Steps.{number_more, numbers-all}
+use Rattle.planner.proofs.Steps.{number_more, numbers_all}
 use Rattle.planner.proofs.numbers.save_masks.Statement.{statement}
 use Rattle.planner.proofs.numbers.save_masks.Tie as tie
 
@@ -52,10 +52,10 @@ returns : tie.Need-returns invariant-loop decreases-loop
 returns c =
     let l = c.before.loop in
     let start = c.before.before.before in
-    numbers-all start.args.t2 l.frame l.b (4 + l.b) (omega (arith, start.well-formed.0)) l.invariant.2
+    numbers_all start.args.t2 l.frame l.b (4 + l.b) (omega (arith, start.well-formed.0)) l.invariant.2
 
-pub save-masks-spec : {M : Type 1} → statement M
-save-masks-spec =
+pub save_masks_spec : {M : Type 1} → statement M
+save_masks_spec =
     tie.close
     (tie.spec
     invariant-loop

@@ -1,6 +1,6 @@
 -- `numbers::save_orders` meets its contract: each number goes to its place. Assumes nothing.
 use borrow.Author.Rules.{rules}
-use Rattle.planner.proofs.Steps.{orders-written}
+use Rattle.planner.proofs.Steps.{orders_written}
 use Rattle.planner.proofs.numbers.save_orders.Statement.{statement}
 use Rattle.planner.proofs.numbers.save_orders.Tie as tie
 
@@ -30,10 +30,10 @@ returns c =
     let s2 = n3.before.before.before.before in
     let n2 = s2.before in
     let a = n2.before.before.before.args in
-    orders-written a.frame.now a.kept a.hold n2.tie-number.ensures s2.set-number.ensures n3.tie-number2.ensures s3.set-number2.ensures s4.set-number3.ensures
+    orders_written a.frame.now a.kept a.hold n2.tie-number.ensures s2.set-number.ensures n3.tie-number2.ensures s3.set-number2.ensures s4.set-number3.ensures
 
-pub save-orders-spec : {M : Type 1} → statement M
-save-orders-spec =
+pub save_orders_spec : {M : Type 1} → statement M
+save_orders_spec =
     tie.close
     (tie.spec
     tie-number-requires

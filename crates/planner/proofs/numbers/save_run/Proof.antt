@@ -1,6 +1,6 @@
 -- `numbers::save_run` meets its contract: a law for a text that ran, and one for a refusal. Assumes nothing.
 use borrow.Author.Rules.{rules}
-use Rattle.planner.proofs.Steps.{ran-written, refused-written}
+use Rattle.planner.proofs.Steps.{ran_written, refused_written}
 use Rattle.planner.proofs.numbers.save_run.Statement.{statement}
 use Rattle.planner.proofs.numbers.save_run.Tie as tie
 
@@ -28,7 +28,7 @@ returns c =
     let told = orders.before.before in
     let saved = told.before.before.before.before in
     let a = saved.before.before.before.args in
-    ran-written a.ended a.head a.clock a.hold a.frame.now saved.save-head.ensures told.enum_told.given.1 orders.save-orders.ensures
+    ran_written a.ended a.head a.clock a.hold a.frame.now saved.save-head.ensures told.enum_told.given.1 orders.save-orders.ensures
 
 same-length-2 : tie.Need-same-length-2
 same-length-2 c = search rules
@@ -39,10 +39,10 @@ returns-2 c =
     let told = kept.before.before in
     let saved = told.before.before.before.before in
     let a = saved.before.before.before.args in
-    refused-written a.ended a.head a.clock a.hold a.frame.now saved.save-head.ensures told.enum-told2.given.1 kept.set-tie.ensures
+    refused_written a.ended a.head a.clock a.hold a.frame.now saved.save-head.ensures told.enum-told2.given.1 kept.set-tie.ensures
 
-pub save-run-spec : {M : Type 1} → statement M
-save-run-spec =
+pub save_run_spec : {M : Type 1} → statement M
+save_run_spec =
     tie.close
     (tie.spec
     save-head-requires

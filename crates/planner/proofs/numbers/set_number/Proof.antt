@@ -22,6 +22,6 @@ returns-2 c =
     let a = c.before.args in
     sym (set_out a.numbers.now a.i a.given c.if1.false)
 
-pub set-number-spec : {M : Type 1} → statement M
-set-number-spec =
+pub set_number_spec : {M : Type 1} → statement M
+set_number_spec =
     tie.close (tie.spec mul-numbers slice-write-numbers same_length returns returns-2)

@@ -1,6 +1,6 @@
 -- `numbers::set_tie` meets its contract: an order that stands already is left, and another is written. Assumes nothing.
 use borrow.Author.Rules.{rules}
-use Rattle.planner.proofs.Steps.{tie-stands, tie-written}
+use Rattle.planner.proofs.Steps.{tie_stands, tie_written}
 use Rattle.planner.proofs.numbers.set_tie.Statement.{statement}
 use Rattle.planner.proofs.numbers.set_tie.Tie as tie
 
@@ -18,7 +18,7 @@ returns c =
     let says = c.before in
     let read = says.before in
     let a = read.before.before.before.args in
-    tie-stands a.place a.hold a.frame.now read.number_at.ensures says.says-hold.ensures c.if1.true
+    tie_stands a.place a.hold a.frame.now read.number_at.ensures says.says-hold.ensures c.if1.true
 
 tie-number-requires : tie.Need-tie-number-requires
 tie-number-requires c κs = search rules
@@ -37,10 +37,10 @@ returns-2 c =
     let says = other.before in
     let read = says.before in
     let a = read.before.before.before.args in
-    tie-written a.place a.hold a.frame.now read.number_at.ensures says.says-hold.ensures other.if1.false number.tie-number.ensures put.set-number.ensures
+    tie_written a.place a.hold a.frame.now read.number_at.ensures says.says-hold.ensures other.if1.false number.tie-number.ensures put.set-number.ensures
 
-pub set-tie-spec : {M : Type 1} → statement M
-set-tie-spec =
+pub set_tie_spec : {M : Type 1} → statement M
+set_tie_spec =
     tie.close
     (tie.spec
     number-at-requires

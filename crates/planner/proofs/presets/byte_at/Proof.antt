@@ -16,5 +16,5 @@ returns-2 c =
     let a = c.before.args in
     sym (get_or-eq_default a.bytes.now 0 c.if1.false)
 
-pub byte-at-spec : {M : Type 1} → statement M
-byte-at-spec = tie.close (tie.spec shared-slice-read-result returns returns-2)
+pub byte_at_spec : {M : Type 1} → statement M
+byte_at_spec = tie.close (tie.spec shared-slice-read-result returns returns-2)

@@ -2,14 +2,14 @@
 use Prim.Native.Nat.{◌≤◌, ◌-◌}
 use native.Mathlib.Omega.{arith}
 use mathlib.Core.Path.{◌≡◌, refl, ◌∙◌}
-use Rattle.planner.specs.Layout.{recordsIn}
+use Rattle.planner.specs.Layout.{records_in}
 use Rattle.planner.proofs.Steps.{read_more, read_all}
 use lib.ListN.{length, take, length-set}
 use Rattle.planner.proofs.presets.load_presets.Statement.{statement}
 use Rattle.planner.proofs.presets.load_presets.Tie as tie
 
 abbrev invariant-loop : tie.invariant-loop
-invariant-loop presets bank₀ i₀ copied i = (i ≤ 32) × (length copied ≡ 32) × (take i copied ≡ take i (recordsIn presets))
+invariant-loop presets bank₀ i₀ copied i = (i ≤ 32) × (length copied ≡ 32) × (take i copied ≡ take i (records_in presets))
 
 abbrev decreases-loop : tie.decreases-loop
 decreases-loop presets bank₀ i₀ copied i = 32 - i
@@ -43,8 +43,8 @@ returns c =
     let l = c.before.loop in
     read_all l.copied c.before.before.before.args.presets.now l.i (omega arith) (omega arith) l.invariant.1 l.invariant.2
 
-pub load-presets-spec : {M : Type 1} → statement M
-load-presets-spec =
+pub load_presets_spec : {M : Type 1} → statement M
+load_presets_spec =
     tie.close
     (tie.spec
     invariant-loop

@@ -31,8 +31,8 @@ byte-at-requires-4 c κs = search rules
 returns : tie.Need-returns
 returns c = rw (c.before.before.before.byte_at.ensures, c.before.before.byte-at2.ensures, c.before.byte-at3.ensures, c.byte-at4.ensures) refl
 
-pub preset-at-spec : {M : Type 1} → statement M
-preset-at-spec =
+pub preset_at_spec : {M : Type 1} → statement M
+preset_at_spec =
     tie.close
     (tie.spec
     mul_at

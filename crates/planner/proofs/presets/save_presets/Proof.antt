@@ -4,15 +4,15 @@ use native.Mathlib.Omega.{arith}
 use mathlib.Core.Path.{◌≡◌, refl, ◌∙◌, ap}
 use mathlib.Core.List.{[], ◌∷◌}
 use lib.ListN.{length, drop, get_or}
-use Rattle.station.specs.Types.{noRecord}
-use Rattle.planner.specs.Layout.{bytes_of, bytesOver}
-use Rattle.planner.proofs.Steps.{write-more, written_all}
+use Rattle.station.specs.Types.{no_record}
+use Rattle.planner.specs.Layout.{bytes_of, bytes_over}
+use Rattle.planner.proofs.Steps.{write_more, written_all}
 use lib.Seq.{sets, length-sets}
 use Rattle.planner.proofs.presets.save_presets.Statement.{statement}
 use Rattle.planner.proofs.presets.save_presets.Tie as tie
 
 abbrev invariant-loop : tie.invariant-loop
-invariant-loop presets₀ copied i₀ presets i = (i ≤ 32) × (length presets ≡ length presets₀) × (sets presets (4 * i) (bytes_of (drop i copied)) ≡ bytesOver copied presets₀)
+invariant-loop presets₀ copied i₀ presets i = (i ≤ 32) × (length presets ≡ length presets₀) × (sets presets (4 * i) (bytes_of (drop i copied)) ≡ bytes_over copied presets₀)
 
 abbrev decreases-loop : tie.decreases-loop
 decreases-loop presets₀ copied i₀ presets i = 32 - i
@@ -41,8 +41,8 @@ loop-again c =
     let l = s.before.before.before.before.loop in
     let start = s.before.before.before.before.before.before in (
       omega arith,
-      ap length s.set-preset.ensures ∙ length-sets l.presets (4 * l.i) (bytes_of (get_or start.args.t2 l.i noRecord ∷ [])) ∙ l.invariant.1,
-      write-more start.args.t2 l.presets l.i (omega (arith, start.well-formed.0)) refl s.set-preset.ensures ∙ l.invariant.2,
+      ap length s.set-preset.ensures ∙ length-sets l.presets (4 * l.i) (bytes_of (get_or start.args.t2 l.i no_record ∷ [])) ∙ l.invariant.1,
+      write_more start.args.t2 l.presets l.i (omega (arith, start.well-formed.0)) refl s.set-preset.ensures ∙ l.invariant.2,
     )
 
 same_length : tie.Need-same-length invariant-loop decreases-loop
@@ -54,8 +54,8 @@ returns c =
     let start = c.before.before.before in
     written_all start.args.t2 l.presets l.i (omega (arith, start.well-formed.0)) l.invariant.2
 
-pub save-presets-spec : {M : Type 1} → statement M
-save-presets-spec =
+pub save_presets_spec : {M : Type 1} → statement M
+save_presets_spec =
     tie.close
     (tie.spec
     invariant-loop

@@ -19,5 +19,5 @@ returns-2 c =
     let a = c.before.args in
     sym (set_out a.bytes.now a.i a.given c.if1.false)
 
-pub set-byte-spec : {M : Type 1} → statement M
-set-byte-spec = tie.close (tie.spec slice-write-bytes same_length returns returns-2)
+pub set_byte_spec : {M : Type 1} → statement M
+set_byte_spec = tie.close (tie.spec slice-write-bytes same_length returns returns-2)

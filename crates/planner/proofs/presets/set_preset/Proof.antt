@@ -1,7 +1,7 @@
 -- `presets::set_preset` meets its contract: each byte goes to its place. Assumes nothing.
 use borrow.Author.Rules.{rules}
 use Prim.Native.Nat.{◌*◌}
-use Rattle.planner.proofs.Steps.{record-written}
+use Rattle.planner.proofs.Steps.{record_written}
 use Rattle.planner.proofs.presets.set_preset.Statement.{statement}
 use Rattle.planner.proofs.presets.set_preset.Tie as tie
 
@@ -39,10 +39,10 @@ returns c =
     let s2 = s3.before.before.before.before in
     let s1 = s2.before.before.before.before in
     let a = s1.before.before.before.args in
-    record-written a.given a.presets.now (4 * a.i) s1.set-byte.ensures s2.set-byte2.ensures s3.set-byte3.ensures s4.set-byte4.ensures
+    record_written a.given a.presets.now (4 * a.i) s1.set-byte.ensures s2.set-byte2.ensures s3.set-byte3.ensures s4.set-byte4.ensures
 
-pub set-preset-spec : {M : Type 1} → statement M
-set-preset-spec =
+pub set_preset_spec : {M : Type 1} → statement M
+set_preset_spec =
     tie.close
     (tie.spec
     mul_at

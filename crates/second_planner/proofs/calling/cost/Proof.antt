@@ -36,8 +36,8 @@ loop-again c = omega arith
 returns : tie.Need-returns invariant-loop decreases-loop
 returns c = search rules
 
-pub cost-spec : {M : Type 1} → statement M
-cost-spec =
+pub cost_spec : {M : Type 1} → statement M
+cost_spec =
     tie.close
     (tie.spec
     invariant-loop

@@ -30,8 +30,8 @@ loop-again c = omega arith
 returns : tie.Need-returns invariant-loop decreases-loop
 returns c = search rules
 
-pub emptied-spec : {M : Type 1} → statement M
-emptied-spec =
+pub emptied_spec : {M : Type 1} → statement M
+emptied_spec =
     tie.close
     (tie.spec
     invariant-loop

@@ -45,8 +45,8 @@ loop-again c = omega arith
 returns : tie.Need-returns invariant-loop decreases-loop
 returns c = search rules
 
-pub evicted-set-spec : {M : Type 1} → statement M
-evicted-set-spec =
+pub evicted_set_spec : {M : Type 1} → statement M
+evicted_set_spec =
     tie.close
     (tie.spec
     invariant-loop

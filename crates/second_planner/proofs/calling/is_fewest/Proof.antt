@@ -45,8 +45,8 @@ loop-again c = omega arith
 returns-2 : tie.Need-returns-2 invariant-loop decreases-loop
 returns-2 c = search rules
 
-pub is-fewest-spec : {M : Type 1} → statement M
-is-fewest-spec =
+pub is_fewest_spec : {M : Type 1} → statement M
+is_fewest_spec =
     tie.close
     (tie.spec
     invariant-loop

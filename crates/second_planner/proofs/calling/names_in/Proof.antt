@@ -33,8 +33,8 @@ loop-again c = omega arith
 returns : tie.Need-returns invariant-loop decreases-loop
 returns c = search rules
 
-pub names-in-spec : {M : Type 1} → statement M
-names-in-spec =
+pub names_in_spec : {M : Type 1} → statement M
+names_in_spec =
     tie.close
     (tie.spec
     invariant-loop

@@ -42,8 +42,8 @@ loop-again c = omega arith
 returns : tie.Need-returns invariant-loop decreases-loop
 returns c = search rules
 
-pub grants-of-spec : {M : Type 1} → statement M
-grants-of-spec =
+pub grants_of_spec : {M : Type 1} → statement M
+grants_of_spec =
     tie.close
     (tie.spec
     invariant-loop

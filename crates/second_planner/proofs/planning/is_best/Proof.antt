@@ -48,8 +48,8 @@ loop-again c = omega arith
 returns-2 : tie.Need-returns-2 invariant-loop decreases-loop
 returns-2 c = search rules
 
-pub is-best-spec : {M : Type 1} → statement M
-is-best-spec =
+pub is_best_spec : {M : Type 1} → statement M
+is_best_spec =
     tie.close
     (tie.spec
     invariant-loop

@@ -36,8 +36,8 @@ loop-again c = omega arith
 returns : tie.Need-returns invariant-loop decreases-loop
 returns c = search rules
 
-pub cells-of-spec : {M : Type 1} → statement M
-cells-of-spec =
+pub cells_of_spec : {M : Type 1} → statement M
+cells_of_spec =
     tie.close
     (tie.spec
     invariant-loop

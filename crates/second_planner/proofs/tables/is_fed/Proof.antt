@@ -42,8 +42,8 @@ loop-again c = omega arith
 returns-3 : tie.Need-returns-3 invariant-loop decreases-loop
 returns-3 c = search rules
 
-pub is-fed-spec : {M : Type 1} → statement M
-is-fed-spec =
+pub is_fed_spec : {M : Type 1} → statement M
+is_fed_spec =
     tie.close
     (tie.spec
     invariant-loop

@@ -75,8 +75,8 @@ returns-2 c = search rules
 returns-3 : tie.Need-returns-3 invariant-loop decreases-loop
 returns-3 c = search rules
 
-pub table-of-spec : {M : Type 1} → statement M
-table-of-spec =
+pub table_of_spec : {M : Type 1} → statement M
+table_of_spec =
     tie.close
     (tie.spec
     invariant-loop

@@ -4,7 +4,7 @@ use native.Mathlib.Omega.{arith}
 use mathlib.Core.Path.{sym, ◌∙◌}
 use Rattle.laws.proofs.Tests.{false_of_not, true_of_not}
 use Rattle.station.specs.Text.{bytes}
-use Rattle.station.proofs.brackets.OneBracket.{word-inside, not_opened, no-first, no_second, is_last, not-ended, is-next}
+use Rattle.station.proofs.brackets.OneBracket.{word_inside, not_opened, no_first, no_second, is_last, not_ended, is_next}
 use borrow.Author.Rules.{rules}
 use Rattle.station.proofs.brackets.bracket_at.Statement.{statement}
 use Rattle.station.proofs.brackets.bracket_at.Tie as tie
@@ -30,7 +30,7 @@ unfolding bytes
 add-number-then c =
     let w = c.before.starts-at in
     let s = c.before.before.before.before.args in
-    let e = word-inside (bytes "(") s.text.now s.at (sym w.ensures ∙ true_of_not w.result c.if1.false) (omega arith) in
+    let e = word_inside (bytes "(") s.text.now s.at (sym w.ensures ∙ true_of_not w.result c.if1.false) (omega arith) in
     omega arith
 
 slice-aggregate-number-then : tie.Need-slice-aggregate-number-then
@@ -49,7 +49,7 @@ returns-2 c =
     let w = x.before.starts-at in
     let s = x.before.before.before.before.args in
     let a = c.before.before.before.number-then in
-    no-first s.text.now s.at (sym w.ensures ∙ true_of_not w.result x.if1.false) a.result a.ensures
+    no_first s.text.now s.at (sym w.ensures ∙ true_of_not w.result x.if1.false) a.result a.ensures
     c.no-bracket2.result c.no-bracket2.ensures (false_of_not a.result.found c.before.if2.true)
 
 number-at-requires : tie.Need-number-at-requires
@@ -112,7 +112,7 @@ returns-5 c =
     let a = y.before.before.number-then in
     let b = z.before.before.number_at in
     let u = c.before.before.starts-at2 in
-    not-ended s.text.now s.at (sym w.ensures ∙ true_of_not w.result x.if1.false) a.result a.ensures
+    not_ended s.text.now s.at (sym w.ensures ∙ true_of_not w.result x.if1.false) a.result a.ensures
     (true_of_not a.result.found y.if2.false) b.result b.ensures (true_of_not b.result.found z.if3.false)
     (sym v.before.closes_at.ensures ∙ v.if4.false)
     c.no-bracket4.result c.no-bracket4.ensures (sym u.ensures ∙ false_of_not u.result c.before.if5.true)
@@ -127,7 +127,7 @@ add-t15 c =
     let s = x.before.before.before.before.args in
     let b = z.before.before.number_at in
     let u = c.before.starts-at2 in
-    let e = word-inside (bytes ") ") s.text.now b.result.next (sym u.ensures ∙ true_of_not u.result c.if5.false) (omega arith) in
+    let e = word_inside (bytes ") ") s.text.now b.result.next (sym u.ensures ∙ true_of_not u.result c.if5.false) (omega arith) in
     omega (arith, x.before.before.before.before)
 
 returns-6 : tie.Need-returns-6
@@ -142,13 +142,13 @@ returns-6 c =
     let a = y.before.before.number-then in
     let b = z.before.before.number_at in
     let u = c.before.starts-at2 in
-    is-next s.text.now s.at (sym w.ensures ∙ true_of_not w.result x.if1.false) a.result a.ensures
+    is_next s.text.now s.at (sym w.ensures ∙ true_of_not w.result x.if1.false) a.result a.ensures
     (true_of_not a.result.found y.if2.false) b.result b.ensures (true_of_not b.result.found z.if3.false)
     (sym v.before.closes_at.ensures ∙ v.if4.false)
     (sym u.ensures ∙ true_of_not u.result c.if5.false)
 
-pub bracket-at-spec : {M : Type 1} → statement M
-bracket-at-spec =
+pub bracket_at_spec : {M : Type 1} → statement M
+bracket_at_spec =
     tie.close
     (tie.spec
     slice-aggregate-starts-at

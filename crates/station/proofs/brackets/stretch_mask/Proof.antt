@@ -2,7 +2,7 @@
 -- Assumes nothing.
 use Prim.Native.Nat.{◌-◌}
 use native.Mathlib.Omega.{arith}
-use Rattle.station.proofs.brackets.StretchMask.{shift_one, low-high, mask-parts, mask-parts-fit}
+use Rattle.station.proofs.brackets.StretchMask.{shift_one, low_high, mask_parts, mask_parts_fit}
 use borrow.Author.Rules.{rules}
 use Rattle.station.proofs.brackets.stretch_mask.Statement.{statement}
 use Rattle.station.proofs.brackets.stretch_mask.Tie as tie
@@ -32,7 +32,7 @@ sub-result c =
       arith,
       shift_one (s.first - 1) (omega arith),
       shift_one (s.last - 1) (omega arith),
-      low-high s.first s.last (omega arith) (omega arith),
+      low_high s.first s.last (omega arith) (omega arith),
     )
 
 add-result : tie.Need-overflow-add-result
@@ -42,7 +42,7 @@ add-result c =
       arith,
       shift_one (s.first - 1) (omega arith),
       shift_one (s.last - 1) (omega arith),
-      mask-parts-fit s.first s.last (omega arith) (omega arith) (omega arith),
+      mask_parts_fit s.first s.last (omega arith) (omega arith) (omega arith),
     )
 
 returns : tie.Need-returns
@@ -52,10 +52,10 @@ returns c =
       arith,
       shift_one (s.first - 1) (omega arith),
       shift_one (s.last - 1) (omega arith),
-      mask-parts s.first s.last (omega arith) (omega arith),
+      mask_parts s.first s.last (omega arith) (omega arith),
     )
 
-pub stretch-mask-spec : {M : Type 1} → statement M
-stretch-mask-spec =
+pub stretch_mask_spec : {M : Type 1} → statement M
+stretch_mask_spec =
     tie.close
     (tie.spec sub-high cast-high shl-high sub_low cast-low shl-low sub-result add-result returns)

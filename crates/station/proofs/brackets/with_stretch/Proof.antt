@@ -4,7 +4,7 @@ use native.Mathlib.Omega.{arith}
 use mathlib.Core.Path.{refl}
 use Rattle.laws.proofs.Tests.{false_of_not, true_of_not}
 use Rattle.laws.proofs.Comparisons.{leb_yes, leb_no}
-use Rattle.station.proofs.brackets.StretchMask.{more-fits}
+use Rattle.station.proofs.brackets.StretchMask.{more_fits}
 use borrow.Author.Rules.{rules}
 use Rattle.station.proofs.brackets.with_stretch.Statement.{statement}
 use Rattle.station.proofs.brackets.with_stretch.Tie as tie
@@ -61,7 +61,7 @@ add-t8 c =
     let d = c.before.before.before.before.before.before.before.before in
     let s = d.args in
     let e = c.before.stretch-mask.ensures in
-    omega (arith, more-fits s.s s.first s.last d.requires.0 (omega arith) (omega arith) (omega arith))
+    omega (arith, more_fits s.s s.first s.last d.requires.0 (omega arith) (omega arith) (omega arith))
 
 returns-5 : tie.Need-returns-5
 returns-5 c =
@@ -75,8 +75,8 @@ returns-5 c =
       c.before.stretch-mask.ensures,
     ) refl
 
-pub with-stretch-spec : {M : Type 1} → statement M
-with-stretch-spec =
+pub with_stretch_spec : {M : Type 1} → statement M
+with_stretch_spec =
     tie.close
     (tie.spec
     not-ordered-requires

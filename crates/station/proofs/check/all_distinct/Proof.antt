@@ -3,7 +3,7 @@ use Prim.Native.Nat.{suc, ◌-◌, ◌≤◌}
 use native.Mathlib.Omega.{arith}
 use mathlib.Core.Path.{◌≡◌, sym, subst}
 use lib.ListN.{length}
-use Rattle.station.proofs.check.ValidRecord.{Marked, marked-none, marked-fault, marked_more}
+use Rattle.station.proofs.check.ValidRecord.{Marked, marked_none, marked_fault, marked_more}
 use Rattle.station.proofs.check.all_distinct.Statement.{statement}
 use Rattle.station.proofs.check.all_distinct.Tie as tie
 
@@ -16,7 +16,7 @@ decreases-loop count presets marks₀ i₀ marks i = i
 loop-holds : tie.Need-loop-init invariant-loop decreases-loop
 loop-holds c =
     let n : length c.args.t1 ≡ 32 = omega arith in
-    (omega arith, marked-none c.args.count c.args.t1 (omega arith))
+    (omega arith, marked_none c.args.count c.args.t1 (omega arith))
 
 sub-i : tie.Need-overflow-sub-i invariant-loop decreases-loop
 sub-i c = omega arith
@@ -45,7 +45,7 @@ returns c =
     let k = c.before.before.before in
     let a = k.before.before.args in
     let n : length a.t1 ≡ 32 = omega arith in
-    sym (marked-fault (k.before.loop.i - 1) a.count a.t1 (omega arith) (omega arith) k.before.loop.marks (later k) (omega arith) c.if1.true)
+    sym (marked_fault (k.before.loop.i - 1) a.count a.t1 (omega arith) (omega arith) k.before.loop.marks (later k) (omega arith) c.if1.true)
 
 array-write-marks : tie.Need-array-write-marks invariant-loop decreases-loop
 array-write-marks c = omega arith
@@ -68,8 +68,8 @@ returns-2 c =
     let e : c.before.loop.i ≡ 0 = omega arith in
     sym (subst (λ k. Marked a.count a.t1 k c.before.loop.marks) e c.before.loop.invariant.1).distinct
 
-pub all-distinct-spec : {M : Type 1} → statement M
-all-distinct-spec =
+pub all_distinct_spec : {M : Type 1} → statement M
+all_distinct_spec =
     tie.close
     (tie.spec
     invariant-loop

@@ -4,7 +4,7 @@ use native.Mathlib.Omega.{arith}
 use mathlib.Core.Path.{sym}
 use lib.Pow.{pow_mono}
 use Rattle.laws.proofs.Comparisons.{ltb_yes}
-use Rattle.station.proofs.check.ValidRecord.{shifted-out}
+use Rattle.station.proofs.check.ValidRecord.{shifted_out}
 use borrow.Author.Rules.{rules}
 use Rattle.station.proofs.check.mask_below.Statement.{statement}
 use Rattle.station.proofs.check.mask_below.Tie as tie
@@ -18,7 +18,7 @@ shr-result : tie.Need-overflow-shr-result
 shr-result c = search rules
 
 returns-2 : tie.Need-returns-2
-returns-2 c = let a = c.before.args in shifted-out a.mask a.slots
+returns-2 c = let a = c.before.args in shifted_out a.mask a.slots
 
-pub mask-below-spec : {M : Type 1} → statement M
-mask-below-spec = tie.close (tie.spec returns shr-result returns-2)
+pub mask_below_spec : {M : Type 1} → statement M
+mask_below_spec = tie.close (tie.spec returns shr-result returns-2)

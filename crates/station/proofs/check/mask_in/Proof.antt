@@ -14,5 +14,5 @@ returns c = let a = c.before.before.args in rw (ltb_yes a.bridge a.bridges c.bef
 returns-2 : tie.Need-returns-2
 returns-2 c = let a = c.before.args in rw (ltb_no a.bridge a.bridges c.if1.false) refl
 
-pub mask-in-spec : {M : Type 1} → statement M
-mask-in-spec = tie.close (tie.spec mask-below-requires returns returns-2)
+pub mask_in_spec : {M : Type 1} → statement M
+mask_in_spec = tie.close (tie.spec mask-below-requires returns returns-2)

@@ -6,14 +6,14 @@ use mathlib.Core.Path.{◌≡◌, refl, sym, ◌∙◌}
 use lib.ListN.{length, drop}
 use Rattle.laws.proofs.Tests.{false_of_not, true_of_not}
 use Rattle.laws.proofs.Comparisons.{eqb_yes}
-use Rattle.station.specs.Head.{masksIn}
-use Rattle.station.proofs.check.ValidRecord.{masks-fault, masks-next, masks-end}
+use Rattle.station.specs.Head.{masks_in}
+use Rattle.station.proofs.check.ValidRecord.{masks_fault, masks_next, masks_end}
 use borrow.Author.Rules.{rules}
 use Rattle.station.proofs.check.masks_in.Statement.{statement}
 use Rattle.station.proofs.check.masks_in.Tie as tie
 
 abbrev invariant-loop : tie.invariant-loop
-invariant-loop bridges slots busy b₀ b = (b ≤ 8) × (masksIn (bridges - b) (2 ^ slots) (drop b busy) ≡ masksIn bridges (2 ^ slots) busy)
+invariant-loop bridges slots busy b₀ b = (b ≤ 8) × (masks_in (bridges - b) (2 ^ slots) (drop b busy) ≡ masks_in bridges (2 ^ slots) busy)
 
 abbrev decreases-loop : tie.decreases-loop
 decreases-loop bridges slots busy b₀ b = 8 - b
@@ -35,7 +35,7 @@ returns c = let a = c.before.before.before.before.args in
     let loop = c.before.before.before.loop in
     let n : length a.t1 ≡ 8 = omega arith in
     rw (eqb_yes (length a.t1) 8 n)
-    (sym (masks-fault a.bridges loop.b a.slots a.t1 (omega arith) (sym c.before.mask-in.ensures ∙ false_of_not c.before.mask-in.result c.if1.true)) ∙ loop.invariant.1)
+    (sym (masks_fault a.bridges loop.b a.slots a.t1 (omega arith) (sym c.before.mask-in.ensures ∙ false_of_not c.before.mask-in.result c.if1.true)) ∙ loop.invariant.1)
 
 add-b : tie.Need-overflow-add-b invariant-loop decreases-loop
 add-b c = omega arith
@@ -49,7 +49,7 @@ loop-again c = let a = c.before.before.before.before.args in
     let n : length a.t1 ≡ 8 = omega arith in (
       omega arith,
       rw add-one
-          (sym (masks-next a.bridges loop.b a.slots a.t1 (omega arith) (sym c.before.mask-in.ensures ∙ true_of_not c.before.mask-in.result c.if1.false)) ∙ loop.invariant.1),
+          (sym (masks_next a.bridges loop.b a.slots a.t1 (omega arith) (sym c.before.mask-in.ensures ∙ true_of_not c.before.mask-in.result c.if1.false)) ∙ loop.invariant.1),
     )
 
 returns-2 : tie.Need-returns-2 invariant-loop decreases-loop
@@ -57,10 +57,10 @@ returns-2 c = let a = c.before.before.args in
     let loop = c.before.loop in
     let n : length a.t1 ≡ 8 = omega arith in
     let e : loop.b ≡ length a.t1 = omega arith in
-    rw (eqb_yes (length a.t1) 8 n) (sym (masks-end a.bridges a.slots a.t1) ∙ (rw e at loop.invariant.1))
+    rw (eqb_yes (length a.t1) 8 n) (sym (masks_end a.bridges a.slots a.t1) ∙ (rw e at loop.invariant.1))
 
-pub masks-in-spec : {M : Type 1} → statement M
-masks-in-spec =
+pub masks_in_spec : {M : Type 1} → statement M
+masks_in_spec =
     tie.close
     (tie.spec
     invariant-loop

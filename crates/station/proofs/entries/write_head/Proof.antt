@@ -44,9 +44,9 @@ use Rattle.station.specs.declared.write.Writing.{Writing}
 use Rattle.station.specs.contracts.write.Writing as Wr
 use Rattle.station.proofs.write.Writing.TheLaws as Wr'
 use Rattle.station.specs.Records.{loaded}
-use Rattle.station.proofs.records.RecordRow.{Bank, copied-val, copied-tells, copied-makes, copied-typed, head-val, head-tells, head-makes, head-typed}
-use Rattle.station.proofs.records.Loading.{Counts, Loads, to-count, goes-count, to-load, goes_load}
-use Rattle.station.proofs.WalkSteps.{asks, hands-one, full, ◌&◌, none, leaves-fn, meets-by}
+use Rattle.station.proofs.records.RecordRow.{Bank, copied_val, copied_tells, copied_makes, copied_typed, head_val, head_tells, head_makes, head_typed}
+use Rattle.station.proofs.records.Loading.{Counts, Loads, to_count, goes_count, to_load, goes_load}
+use Rattle.station.proofs.WalkSteps.{asks, hands_one, full, ◌&◌, none, leaves_fn, meets_by}
 use Rattle.station.specs.contracts.records.record_count as record-count
 use Rattle.station.proofs.records.record_count.Symbol as record-count-def
 use Rattle.station.proofs.records.record_count.Symbol.{name as #record-count}
@@ -56,7 +56,7 @@ use Rattle.station.proofs.records.load.Symbol as load-def
 use Rattle.station.proofs.records.load.Symbol.{name as #load}
 use Rattle.station.proofs.records.load.Met as load-thm
 use Rattle.station.specs.Entries.{WroteEntry}
-use Rattle.station.proofs.entries.ListOfRecords.{write-list}
+use Rattle.station.proofs.entries.ListOfRecords.{write_list}
 use Rattle.station.specs.contracts.entries.counted.write_counted as write-counted
 use Rattle.station.proofs.entries.counted.write_counted.Symbol as write-counted-def
 use Rattle.station.proofs.entries.counted.write_counted.Symbol.{name as #write-counted}
@@ -74,7 +74,7 @@ module _ {M : Type 1} {𝓤 : Ura M} (𝓛 : Logic 𝓤) (mem : Memory → SProp
   abbrev WriteCounted : Contract 𝓤
   WriteCounted = triple_of 𝓛 write-counted.signature (write-counted.spec 𝓛 mem run)
 
-module _ {M : Type 1} {𝓤 : Ura M} (𝓛 : Logic 𝓤) (mem : Memory → SProp 𝓤) (run : Routine → Fun 𝓤) (κ κ' : Lft) (q q' : Share) (h : Head) (s : MutBor (List Preset)) (b o : ℕ) (γ : GName) (out : List ℕ) (is-head : Is Hd.the_row h (head-val h ∷ [])) where
+module _ {M : Type 1} {𝓤 : Ura M} (𝓛 : Logic 𝓤) (mem : Memory → SProp 𝓤) (run : Routine → Fun 𝓤) (κ κ' : Lft) (q q' : Share) (h : Head) (s : MutBor (List Preset)) (b o : ℕ) (γ : GName) (out : List ℕ) (is-head : Is Hd.the_row h (head_val h ∷ [])) where
   open 𝓛 use {H, A}
 
   abbrev ys : List Preset
@@ -94,7 +94,7 @@ module _ {M : Type 1} {𝓤 : Ura M} (𝓛 : Logic 𝓤) (mem : Memory → SProp
   a = (h, (s, (x, tt)))
 
   abbrev at : Vals write-head.signature (κ, (κ', tt))
-  at = (head-val h ∷ [], (v ∷ [], (w ∷ [], tt)))
+  at = (head_val h ∷ [], (v ∷ [], (w ∷ [], tt)))
 
   -- what the triple binds outside
   abbrev bound : (walk_of 𝓛 write-head.ended stayed (write-head.clauses 𝓛 mem run)).Ghost
@@ -119,35 +119,35 @@ module _ {M : Type 1} {𝓤 : Ura M} (𝓛 : Logic 𝓤) (mem : Memory → SProp
 
   -- what each callee's triple binds outside
   abbrev to_write : List Preset → (WriteCounted 𝓛 mem run).Ghost
-  to_write copied = (((κ', tt), (q', tt), tt, (length ys, (h, (copied, (x, tt)))), (vint w64 (length ys) ∷ [], (head-val h ∷ [], (copied-val copied ∷ [], (w ∷ [], tt))))), tt)
+  to_write copied = (((κ', tt), (q', tt), tt, (length ys, (h, (copied, (x, tt)))), (vint w64 (length ys) ∷ [], (head_val h ∷ [], (copied_val copied ∷ [], (w ∷ [], tt))))), tt)
 
-  goes-write : (copied : List Preset) → length ys < 2 ^ 64 → Is Bank copied (copied-val copied ∷ []) → ent 𝓤 (sep 𝓤 (A.lft κ' q') (sem 𝓛 OwnOut)) ((WriteCounted 𝓛 mem run).pre (to_write copied))
+  goes-write : (copied : List Preset) → length ys < 2 ^ 64 → Is Bank copied (copied_val copied ∷ []) → ent 𝓤 (sep 𝓤 (A.lft κ' q') (sem 𝓛 OwnOut)) ((WriteCounted 𝓛 mem run).pre (to_write copied))
   goes-write copied fits is =
-      qed 𝓛 (‵ (flft κ' q') ∷ ‵ OwnOut ∷ []) ∵ nothing ! $ move ! (2 ∷ 0 ∷ []) $ fjoin ! $ owned ! Bank (Is Bank) (copied-makes 𝓛) copied _ is $ fjoin ! $ owned ! Hd.the_row (Is Hd.the_row) (head-makes 𝓛) h _ is-head $ fjoin ! $
-      owned ! usize (Is usize) (uint_Makes 𝓛 w64) (length ys) _ (refl, fits) $ fjoin ! $ hands-one !
+      qed 𝓛 (‵ (flft κ' q') ∷ ‵ OwnOut ∷ []) ∵ nothing ! $ move ! (2 ∷ 0 ∷ []) $ fjoin ! $ owned ! Bank (Is Bank) (copied_makes 𝓛) copied _ is $ fjoin ! $ owned ! Hd.the_row (Is Hd.the_row) (head_makes 𝓛) h _ is-head $ fjoin ! $
+      owned ! usize (Is usize) (uint_Makes 𝓛 w64) (length ys) _ (refl, fits) $ fjoin ! $ hands_one !
 
   module _ (𝓣 : Tables 𝓤 H) (known-count : Triple 𝓤 (𝓣.C #record-count) (Counts 𝓛 mem run)) (known-load : Triple 𝓤 (𝓣.C #load) (Loads 𝓛 mem run)) (known-write : Triple 𝓤 (𝓣.C #write-counted) (WriteCounted 𝓛 mem run)) where
     fm : FmC 𝓤 H 𝓛.laws 𝓣.C
     fm = fm_of 𝓤 H 𝓛.laws 𝓣
 
-    walk : length ys < 2 ^ 64 → Room u8 (length out) → ent 𝓤 (on_entry 𝓛 write-head.signature (κ, (κ', tt)) (q, (q', tt)) a at) (WpFn 𝓤 H 𝓣.C 𝓣.Λ code.function (head-val h ∷ v ∷ w ∷ []) Post)
+    walk : length ys < 2 ^ 64 → Room u8 (length out) → ent 𝓤 (on_entry 𝓛 write-head.signature (κ, (κ', tt)) (q, (q', tt)) a at) (WpFn 𝓤 H 𝓣.C 𝓣.Λ code.function (head_val h ∷ v ∷ w ∷ []) Post)
     walk g sized =
-        qed 𝓛 ((‵ (flft κ q) ⊛ (‵ (flft κ' q') ⊛ ‵ ftrue)) ∷ ‵ (owns (Hd.the_row ∷ ShrSlice (named 0) κ T.the_row ∷ MutSlice (named 1) κ' u8 ∷ []) a at) ∷ []) ∵ enter ! 𝓣.C 𝓣.Λ code.function (head-val h ∷ v ∷ w ∷ []) _ $
+        qed 𝓛 ((‵ (flft κ q) ⊛ (‵ (flft κ' q') ⊛ ‵ ftrue)) ∷ ‵ (owns (Hd.the_row ∷ ShrSlice (named 0) κ T.the_row ∷ MutSlice (named 1) κ' u8 ∷ []) a at) ∷ []) ∵ enter ! 𝓣.C 𝓣.Λ code.function (head_val h ∷ v ∷ w ∷ []) _ $
         alloc1 ! (λ l₀. alloc1 ! (λ l₁. alloc1 ! (λ l₂. alloc1 ! (λ l₃. alloc1 ! (λ l₄. alloc1 ! (λ l₅. alloc1 ! (λ l₆. alloc1 ! (λ l₇. alloc0 ! $ params1 ! $
-        pass1 ! (init ! 12 refl (head-typed 𝓛 h is-head)) $ pass1 ! (init ! 10 refl (tt, (tt, (record { fits = g }, tt)))) $ pass1 ! (init ! 8 refl (tt, (tt, (record { fits = sized.0 }, tt)))) $ pass0 ! $
+        pass1 ! (init ! 12 refl (head_typed 𝓛 h is-head)) $ pass1 ! (init ! 10 refl (tt, (tt, (record { fits = g }, tt)))) $ pass1 ! (init ! 8 refl (tt, (tt, (record { fits = sized.0 }, tt)))) $ pass0 ! $
         -- [_7; …; _6; …; _5; …; _4; …; _3; …; _2; …; _1; …; _0; …; the tokens; what the parameters own]
         move ! (17 ∷ []) $ fsplit ! $ drop ! $ fsplit ! $ use1 𝓛 (‵ Own ⊛ ‵ Own) ((shr_slice_copy 𝓛 (named 0) κ T.the_row).twice s (v ∷ [])) $ split ! $ move ! (2 ∷ []) $ fsplit ! $ move ! (20 ∷ []) $ split ! $ move ! (1 ∷ []) $ split ! $
         -- `record_count`
-        move ! (2 ∷ 5 ∷ []) $ use2 𝓛 (raw ((Counts 𝓛 mem run).pre (to-count 𝓛 mem run κ q s))) (goes-count 𝓛 mem run κ q s) $
+        move ! (2 ∷ 5 ∷ []) $ use2 𝓛 (raw ((Counts 𝓛 mem run).pre (to_count 𝓛 mem run κ q s))) (goes_count 𝓛 mem run κ q s) $
         -- [what it asks; the output's token; true; what the output owns; true; what the list owns; _7; …; _6; …; _5; …; _4; …; _3; …; _2; …; _1; …; _0; …]
-        asks ! fm record-count.ended (record-count.clauses 𝓛 mem run) known-count (to-count 𝓛 mem run κ q s) (‵ (flft κ q) ⊛ ‵ ftrue) refl (λ r ws. r ≡ length ys) (λ r ws. refl) (vint w64) (uint_Tells w64)
+        asks ! fm record-count.ended (record-count.clauses 𝓛 mem run) known-count (to_count 𝓛 mem run κ q s) (‵ (flft κ q) ⊛ ‵ ftrue) refl (λ r ws. r ≡ length ys) (λ r ws. refl) (vint w64) (uint_Tells w64)
         (and_then ! (reads ! (from ! (stop !)) (look ! 16 refl)) (no_more !)) (λ n _ is-n e-n. land ! (from ! (stop !)) (init ! 13 refl (tt, record { fits = is-n.1 })) $
         rewrite ! 13 (λ (m : ℕ). ‵ (fat full_share (ty_int w64) l₄ 0 (vint w64 m))) e-n refl $
         -- `load`
-        split ! $ move ! (0 ∷ 7 ∷ []) $ use2 𝓛 (raw ((Loads 𝓛 mem run).pre (to-load 𝓛 mem run κ q s))) (goes_load 𝓛 mem run κ q s) $
+        split ! $ move ! (0 ∷ 7 ∷ []) $ use2 𝓛 (raw ((Loads 𝓛 mem run).pre (to_load 𝓛 mem run κ q s))) (goes_load 𝓛 mem run κ q s) $
         -- [what it asks; true; nothing said; the output's token; true; what the output owns; true; _7; …; _6; …; _5; …; _4; …; _3; …; _2; …; _1; …; _0; …]
-        asks ! fm load.ended (load.clauses 𝓛 mem run) known-load (to-load 𝓛 mem run κ q s) (‵ (flft κ q) ⊛ ‵ ftrue) refl (λ r ws. r ≡ loaded ys) (λ r ws. refl) copied-val copied-tells
-        (and_then ! (reads ! (from ! (stop !)) (look ! 17 refl)) (no_more !)) (λ copied _ is-copied e-copied. land ! (from ! (stop !)) (init ! 12 refl (copied-typed 𝓛 copied is-copied)) $
+        asks ! fm load.ended (load.clauses 𝓛 mem run) known-load (to_load 𝓛 mem run κ q s) (‵ (flft κ q) ⊛ ‵ ftrue) refl (λ r ws. r ≡ loaded ys) (λ r ws. refl) copied_val copied_tells
+        (and_then ! (reads ! (from ! (stop !)) (look ! 17 refl)) (no_more !)) (λ copied _ is-copied e-copied. land ! (from ! (stop !)) (init ! 12 refl (copied_typed 𝓛 copied is-copied)) $
         assigns ! (addr ! (from ! (fld ! refl (hop ! (look_in ! 16 (sub ! 0 refl (whole !))) (stop !))))) (from ! (stop !)) (init ! 10 refl (tt, tt)) $
         assigns ! (agg ! (and_then ! (reads ! (from ! (stop !)) (look ! 10 refl)) (and_then ! (reads ! (from ! (fld ! refl (stop !))) (look_in ! 16 (sub ! 1 refl (whole !)))) (no_more !)))) (from ! (stop !)) (init ! 8 refl (tt, (tt, (record { fits = sized.0 }, tt)))) $
         -- `write_counted`
@@ -156,25 +156,25 @@ module _ {M : Type 1} {𝓤 : Ura M} (𝓛 : Logic 𝓤) (mem : Memory → SProp
         asks ! fm write-counted.ended (write-counted.clauses 𝓛 mem run) known-write (to_write copied) (‵ (flft κ' q') ⊛ ‵ ftrue) refl (λ r zs. WroteEntry (length ys) h copied out r zs.1.1.1.0) (λ r zs. refl) Wr'.lowered (Wr'.lowers).val_is
         (and_then ! (reads ! (from ! (stop !)) (look ! 13 refl)) (and_then ! (reads ! (from ! (stop !)) (look ! 19 refl)) (and_then ! (reads ! (from ! (stop !)) (look ! 11 refl)) (and_then ! (reads ! (from ! (stop !)) (look ! 7 refl)) (no_more !))))) (λ r zs is e.
         land ! (from ! (stop !)) (init ! 22 refl ((EL.lawful Wr.the_type Wr'.the_laws 𝓛 tt).typed r _ is).0) $
-        returns ! (look ! 22 refl) $ leaves-fn ! 8 (full refl refl & full refl refl & full refl refl & full refl refl & full refl refl & full refl refl & full refl refl & full refl refl & none) $
+        returns ! (look ! 22 refl) $ leaves_fn ! 8 (full refl refl & full refl refl & full refl refl & full refl refl & full refl refl & full refl refl & full refl refl & full refl refl & none) $
         -- [the output's token; what is said of its last list; the list's token; …]
         split ! $ move ! (2 ∷ []) $ fsplit ! $ drop ! $ fsplit ! $ drop ! $ fsplit ! $ drop ! $ fsplit ! $ fsplit ! $ move ! (1 ∷ []) $ feq_l ! (λ l. move ! (4 ∷ []) $ split ! $ keep ! (0 ∷ 4 ∷ 2 ∷ []) $
-        by ! (exits r zs.1.1.1.0 is (write-list h ys out (subst (λ (ps : List Preset). WroteEntry (length ys) h ps out r zs.1.1.1.0) e-copied e)) l)))))))))))))
+        by ! (exits r zs.1.1.1.0 is (write_list h ys out (subst (λ (ps : List Preset). WroteEntry (length ys) h ps out r zs.1.1.1.0) e-copied e)) l)))))))))))))
 
 meets : {M : Type 1} {𝓤 : Ura M} (𝓛 : Logic 𝓤) → (mem : Memory → SProp 𝓤) (run : Routine → Fun 𝓤) (𝓣 : Tables 𝓤 𝓛.H)
     → Triple 𝓤 (𝓣.C #record-count) (Counts 𝓛 mem run) → Triple 𝓤 (𝓣.C #load) (Loads 𝓛 mem run) → Triple 𝓤 (𝓣.C #write-counted) (WriteCounted 𝓛 mem run)
     → Meets 𝓛 write-head.signature (WpFn 𝓤 𝓛.H 𝓣.C 𝓣.Λ code.function) (write-head.spec 𝓛 mem run)
 meets 𝓛 mem run 𝓣 known-count known-load known-write =
-    meets-by 𝓛 write-head.ended stayed
+    meets_by 𝓛 write-head.ended stayed
     (Goes-dropped 𝓛 2 (plain (λ _. Hd.the_row)) yes (λ κs x f. refl), (Goes-dropped 𝓛 2 (shr_slice_of (0 ∷ []) tt (plain (λ _. T.the_row))) yes (λ κs x f. refl), (Goes-gave_slice 𝓛 2 1 tt (plain (λ _. u8)), tt)))
     (write-head.clauses 𝓛 mem run) code.function 𝓣
-    (λ κs. ((λ h. head-val h ∷ []), (shr_slice_vals, (mut_slice_vals, tt)))) (λ κs. (head-tells, (shr_slice_Tells (named 0) κs.0 T.the_row, (mut_slice_Tells (named 1) κs.1.0 u8, tt))))
+    (λ κs. ((λ h. head_val h ∷ []), (shr_slice_vals, (mut_slice_vals, tt)))) (λ κs. (head_tells, (shr_slice_Tells (named 0) κs.0 T.the_row, (mut_slice_Tells (named 1) κs.1.0 u8, tt))))
     (λ κs qs bounds a g are. walk 𝓛 mem run κs.0 κs.1.0 qs.0 qs.1.0 a.0 a.1.0 a.1.1.0.ref_ptr.0 a.1.1.0.ref_ptr.1 a.1.1.0.ghost_name a.1.1.0.now are.0
     𝓣 known-count known-load known-write are.1.0.0.1.0 are.1.1.0.0.1)
 
-pub write-head-spec : {M : Type 1} → stated.statement M
+pub write_head_spec : {M : Type 1} → stated.statement M
 unfolding code.routine tables_of
-write-head-spec 𝓤 𝓛 𝓜 𝓡 =
+write_head_spec 𝓤 𝓛 𝓜 𝓡 =
     entered 𝓤 𝓛.H (triple_of 𝓛 write-head.signature (write-head.spec 𝓛 𝓜.mem 𝓡.run))
     (tables 𝓤 𝓛.H 𝓜 𝓡 code.env).C (tables 𝓤 𝓛.H 𝓜 𝓡 code.env).Λ #write-head code.function (code.unfolded 𝓤 𝓛.H 𝓜 𝓡)
     (meets 𝓛 𝓜.mem 𝓡.run (tables_of 𝓤 𝓛.H 𝓜 (tables 𝓤 𝓛.H 𝓜 𝓡 code.env))

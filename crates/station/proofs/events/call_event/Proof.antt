@@ -5,7 +5,7 @@ use mathlib.Core.Path.{refl}
 use Rattle.laws.proofs.Tests.{false_of_not, true_of_not}
 use Rattle.laws.proofs.Comparisons.{leb_yes, leb_no}
 use borrow.Author.Rules.{rules}
-use Rattle.station.specs.Limits.{mostJobs}
+use Rattle.station.specs.Limits.{most_jobs}
 use Rattle.station.proofs.events.call_event.Statement.{statement}
 use Rattle.station.proofs.events.call_event.Tie as tie
 
@@ -16,7 +16,7 @@ refused-requires : tie.Need-refused-requires
 refused-requires c κs = search rules
 
 returns : tie.Need-returns
-returns c = rw (leb_no c.before.before.before.args.list.count mostJobs (omega arith)) c.refused.ensures
+returns c = rw (leb_no c.before.before.before.args.list.count most_jobs (omega arith)) c.refused.ensures
 
 refused-requires-2 : tie.Need-refused-requires-2
 refused-requires-2 c κs = search rules
@@ -24,13 +24,13 @@ refused-requires-2 c κs = search rules
 returns-2 : tie.Need-returns-2
 returns-2 c =
     let l = c.before.before.before.before.before.args.list in
-    rw (leb_yes l.count mostJobs (omega arith), false_of_not l.fit c.before.if2.true) c.refused2.ensures
+    rw (leb_yes l.count most_jobs (omega arith), false_of_not l.fit c.before.if2.true) c.refused2.ensures
 
 returns-3 : tie.Need-returns-3
 returns-3 c =
     let l = c.before.before.before.before.before.args.list in
-    rw (leb_yes l.count mostJobs (omega arith), true_of_not l.fit c.before.if2.false) refl
+    rw (leb_yes l.count most_jobs (omega arith), true_of_not l.fit c.before.if2.false) refl
 
-pub call-event-spec : {M : Type 1} → statement M
-call-event-spec =
+pub call_event_spec : {M : Type 1} → statement M
+call_event_spec =
     tie.close (tie.spec cast-n refused-requires returns refused-requires-2 returns-2 returns-3)

@@ -4,10 +4,10 @@ use mathlib.Core.Path.{sym, ◌∙◌, ap}
 use lib.ListN.{drop}
 use Rattle.laws.proofs.Tests.{false_of_not, true_of_not}
 use Rattle.station.specs.Text.{bytes}
-use Rattle.station.specs.Form.{readJobs}
+use Rattle.station.specs.Form.{read_jobs}
 use Rattle.station.specs.declared.forms.Read.{Read}
-use Rattle.station.specs.Event.{lineEvent, eventIn}
-use Rattle.station.proofs.events.EventLines.{call-form, call-read, line_read}
+use Rattle.station.specs.Event.{line_event, event_in}
+use Rattle.station.proofs.events.EventLines.{call_form, call_read_lem, line_read}
 use Rattle.station.proofs.forms.LineForms.{call_none}
 use borrow.Author.Rules.{rules}
 use Rattle.station.proofs.events.read_event.Statement.{statement}
@@ -31,7 +31,7 @@ returns c =
     let w = c.before.before.before.starts-at in
     let t = c.before.before.before.before.before.before.args.line.now in
     c.line-event.ensures
-    ∙ ap (λ (r : Read). lineEvent r.line) c.before.read-line.ensures
+    ∙ ap (λ (r : Read). line_event r.line) c.before.read-line.ensures
     ∙ line_read 64 t (sym w.ensures ∙ false_of_not w.result c.before.before.if1.true)
 
 jobs-at-requires : tie.Need-jobs-at-requires
@@ -48,7 +48,7 @@ returns-2 c =
     let j = c.before.before.before.jobs-at in
     let yes = sym w.ensures ∙ true_of_not w.result c.before.before.before.before.if1.false in
     let no = false_of_not j.result.found c.before.if2.true in
-    c.refused.ensures ∙ ap eventIn (sym (call-form t yes ∙ call_none (readJobs (drop 6 t)) j.result j.ensures no))
+    c.refused.ensures ∙ ap event_in (sym (call_form t yes ∙ call_none (read_jobs (drop 6 t)) j.result j.ensures no))
 
 call-event-requires : tie.Need-call-event-requires
 call-event-requires c κs = search rules
@@ -60,10 +60,10 @@ returns-3 c =
     let t = c.before.before.before.before.before.before.before.before.args.line.now in
     let j = c.before.before.before.jobs-at in
     let yes = sym w.ensures ∙ true_of_not w.result c.before.before.before.before.if1.false in
-    c.call-event.ensures ∙ call-read t j.result yes j.ensures (true_of_not j.result.found c.before.if2.false)
+    c.call-event.ensures ∙ call_read_lem t j.result yes j.ensures (true_of_not j.result.found c.before.if2.false)
 
-pub read-event-spec : {M : Type 1} → statement M
-read-event-spec =
+pub read_event_spec : {M : Type 1} → statement M
+read_event_spec =
     tie.close
     (tie.spec
     slice-aggregate-starts-at

@@ -4,10 +4,10 @@ use mathlib.Core.Path.{refl, sym, ◌∙◌, ap}
 use lib.ListN.{drop}
 use Rattle.laws.proofs.Tests.{false_of_not, true_of_not}
 use Rattle.station.specs.Text.{bytes}
-use Rattle.station.specs.Form.{readJobs, call_in}
-use Rattle.station.specs.method.ReadLine.{readIn}
-use Rattle.station.proofs.numbers.Recognised.{word-yes, word-no}
-use Rattle.station.proofs.forms.LineForms.{call_none, call-some}
+use Rattle.station.specs.Form.{read_jobs, call_in}
+use Rattle.station.specs.method.ReadLine.{read_in}
+use Rattle.station.proofs.numbers.Recognised.{word_yes, word_no}
+use Rattle.station.proofs.forms.LineForms.{call_none, call_some}
 use borrow.Author.Rules.{rules}
 use Rattle.station.proofs.forms.call_line.Statement.{statement}
 use Rattle.station.proofs.forms.call_line.Tie as tie
@@ -26,7 +26,7 @@ unfolding bytes call_in
 returns c = λ hi.
     let w = c.before.before.starts-at in
     c.without-jobs.ensures
-    ∙ ap (readIn hi) (sym (word-no _ (bytes "(call ") 0 _ (sym w.ensures ∙ false_of_not w.result c.before.if1.true)))
+    ∙ ap (read_in hi) (sym (word_no _ (bytes "(call ") 0 _ (sym w.ensures ∙ false_of_not w.result c.before.if1.true)))
 
 jobs-at-requires : tie.Need-jobs-at-requires
 jobs-at-requires c κs = search rules
@@ -42,8 +42,8 @@ returns-2 c = λ hi.
     let w = e.before.starts-at in
     let t = e.before.before.before.before.args.line.now in
     c.without-jobs2.ensures
-    ∙ ap (readIn hi) (sym (word-yes t (bytes "(call ") 0 6 _ (sym w.ensures ∙ true_of_not w.result e.if1.false) refl
-    ∙ call_none (readJobs (drop 6 t)) j.result j.ensures (false_of_not j.result.found c.before.if2.true)))
+    ∙ ap (read_in hi) (sym (word_yes t (bytes "(call ") 0 6 _ (sym w.ensures ∙ true_of_not w.result e.if1.false) refl
+    ∙ call_none (read_jobs (drop 6 t)) j.result j.ensures (false_of_not j.result.found c.before.if2.true)))
 
 returns-3 : tie.Need-returns-3
 unfolding bytes call_in
@@ -52,11 +52,11 @@ returns-3 c = λ hi.
     let e = c.before.before.before.before in
     let w = e.before.starts-at in
     let t = e.before.before.before.before.args.line.now in
-    call-some hi (readJobs (drop 6 t)) j.result j.ensures (true_of_not j.result.found c.before.if2.false)
-    ∙ ap (readIn hi) (sym (word-yes t (bytes "(call ") 0 6 _ (sym w.ensures ∙ true_of_not w.result e.if1.false) refl))
+    call_some hi (read_jobs (drop 6 t)) j.result j.ensures (true_of_not j.result.found c.before.if2.false)
+    ∙ ap (read_in hi) (sym (word_yes t (bytes "(call ") 0 6 _ (sym w.ensures ∙ true_of_not w.result e.if1.false) refl))
 
-pub call-line-spec : {M : Type 1} → statement M
-call-line-spec =
+pub call_line_spec : {M : Type 1} → statement M
+call_line_spec =
     tie.close
     (tie.spec
     slice-aggregate-starts-at

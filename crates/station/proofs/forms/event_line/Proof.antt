@@ -1,8 +1,8 @@
 -- `event_line` meets its contract: the first form that is there.
 -- Assumes nothing.
 use mathlib.Core.Path.{sym, ◌∙◌}
-use Rattle.station.specs.Form.{◌orElse◌, clockIn, call_in, tieIn}
-use Rattle.station.proofs.forms.LineForms.{read_first, read-second}
+use Rattle.station.specs.Form.{◌or_else◌, clock_in, call_in, tie_in}
+use Rattle.station.proofs.forms.LineForms.{read_first, read_second}
 use borrow.Author.Rules.{rules}
 use Rattle.station.proofs.forms.event_line.Statement.{statement}
 use Rattle.station.proofs.forms.event_line.Tie as tie
@@ -17,7 +17,7 @@ returns : tie.Need-returns
 returns c = λ hi.
     let r = c.before.before.clock-line in
     let t = c.before.before.before.before.args.line.now in
-    read_first hi (clockIn t) (call_in t or_else tieIn t) r.result (r.ensures hi) (sym c.before.has-form.ensures ∙ c.if1.true)
+    read_first hi (clock_in t) (call_in t or_else tie_in t) r.result (r.ensures hi) (sym c.before.has-form.ensures ∙ c.if1.true)
 
 call-line-requires : tie.Need-call-line-requires
 call-line-requires c κs = search rules
@@ -31,8 +31,8 @@ returns-2 c = λ hi.
     let e = c.before.before.before in
     let r = e.before.before.clock-line in
     let t = e.before.before.before.before.args.line.now in
-    read-second hi (clockIn t) (call_in t or_else tieIn t) r.result b.result
-    (read_first hi (call_in t) (tieIn t) b.result (b.ensures hi) (sym c.before.has-form2.ensures ∙ c.if2.true))
+    read_second hi (clock_in t) (call_in t or_else tie_in t) r.result b.result
+    (read_first hi (call_in t) (tie_in t) b.result (b.ensures hi) (sym c.before.has-form2.ensures ∙ c.if2.true))
     (r.ensures hi) (sym e.before.has-form.ensures ∙ e.if1.false)
 
 tie-line-requires : tie.Need-tie-line-requires
@@ -46,13 +46,13 @@ returns-3 c = λ hi.
     let r = e.before.before.clock-line in
     let t = e.before.before.before.before.args.line.now in
     let p = c.tie-line in
-    read-second hi (clockIn t) (call_in t or_else tieIn t) r.result p.result
-    (read-second hi (call_in t) (tieIn t) b.result p.result (p.ensures hi) (b.ensures hi)
+    read_second hi (clock_in t) (call_in t or_else tie_in t) r.result p.result
+    (read_second hi (call_in t) (tie_in t) b.result p.result (p.ensures hi) (b.ensures hi)
     (sym d.before.has-form2.ensures ∙ d.if2.false))
     (r.ensures hi) (sym e.before.has-form.ensures ∙ e.if1.false)
 
-pub event-line-spec : {M : Type 1} → statement M
-event-line-spec =
+pub event_line_spec : {M : Type 1} → statement M
+event_line_spec =
     tie.close
     (tie.spec
     clock-line-requires

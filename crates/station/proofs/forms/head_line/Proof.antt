@@ -2,8 +2,8 @@
 -- Assumes nothing.
 use Prim.Native.Nat.{min}
 use mathlib.Core.Path.{sym, ◌∙◌}
-use Rattle.station.specs.Form.{◌orElse◌, frameIn, busyIn, presetIn, supplyIn}
-use Rattle.station.proofs.forms.LineForms.{read_first, read-second}
+use Rattle.station.specs.Form.{◌or_else◌, frame_in, busy_in, preset_in, supply_in}
+use Rattle.station.proofs.forms.LineForms.{read_first, read_second}
 use borrow.Author.Rules.{rules}
 use Rattle.station.proofs.forms.head_line.Statement.{statement}
 use Rattle.station.proofs.forms.head_line.Tie as tie
@@ -20,7 +20,7 @@ returns c =
     let s = c.before.before.before.before.args in
     let t = s.line.now in
     let hi = min s.slots 64 in
-    read_first hi (frameIn t) (busyIn t or_else presetIn t or_else supplyIn t) r.result (r.ensures hi) (sym c.before.has-form.ensures ∙ c.if1.true)
+    read_first hi (frame_in t) (busy_in t or_else preset_in t or_else supply_in t) r.result (r.ensures hi) (sym c.before.has-form.ensures ∙ c.if1.true)
 
 busy-line-requires : tie.Need-busy-line-requires
 busy-line-requires c κs = search rules
@@ -36,8 +36,8 @@ returns-2 c =
     let s = e.before.before.before.before.args in
     let t = s.line.now in
     let hi = min s.slots 64 in
-    read-second hi (frameIn t) (busyIn t or_else presetIn t or_else supplyIn t) r.result b.result
-    (read_first hi (busyIn t) (presetIn t or_else supplyIn t) b.result b.ensures (sym c.before.has-form2.ensures ∙ c.if2.true))
+    read_second hi (frame_in t) (busy_in t or_else preset_in t or_else supply_in t) r.result b.result
+    (read_first hi (busy_in t) (preset_in t or_else supply_in t) b.result b.ensures (sym c.before.has-form2.ensures ∙ c.if2.true))
     (r.ensures hi) (sym e.before.has-form.ensures ∙ e.if1.false)
 
 preset-line-requires : tie.Need-preset-line-requires
@@ -56,9 +56,9 @@ returns-3 c =
     let s = e.before.before.before.before.args in
     let t = s.line.now in
     let hi = min s.slots 64 in
-    read-second hi (frameIn t) (busyIn t or_else presetIn t or_else supplyIn t) r.result p.result
-    (read-second hi (busyIn t) (presetIn t or_else supplyIn t) b.result p.result
-    (read_first hi (presetIn t) (supplyIn t) p.result (p.ensures hi) (sym c.before.has-form3.ensures ∙ c.if3.true)) b.ensures
+    read_second hi (frame_in t) (busy_in t or_else preset_in t or_else supply_in t) r.result p.result
+    (read_second hi (busy_in t) (preset_in t or_else supply_in t) b.result p.result
+    (read_first hi (preset_in t) (supply_in t) p.result (p.ensures hi) (sym c.before.has-form3.ensures ∙ c.if3.true)) b.ensures
     (sym d.before.has-form2.ensures ∙ d.if2.false))
     (r.ensures hi) (sym e.before.has-form.ensures ∙ e.if1.false)
 
@@ -77,15 +77,15 @@ returns-4 c =
     let t = s.line.now in
     let hi = min s.slots 64 in
     let k = c.supply-line in
-    read-second hi (frameIn t) (busyIn t or_else presetIn t or_else supplyIn t) r.result k.result
-    (read-second hi (busyIn t) (presetIn t or_else supplyIn t) b.result k.result
-    (read-second hi (presetIn t) (supplyIn t) p.result k.result (k.ensures hi) (p.ensures hi)
+    read_second hi (frame_in t) (busy_in t or_else preset_in t or_else supply_in t) r.result k.result
+    (read_second hi (busy_in t) (preset_in t or_else supply_in t) b.result k.result
+    (read_second hi (preset_in t) (supply_in t) p.result k.result (k.ensures hi) (p.ensures hi)
     (sym q.before.has-form3.ensures ∙ q.if3.false)) b.ensures
     (sym d.before.has-form2.ensures ∙ d.if2.false))
     (r.ensures hi) (sym e.before.has-form.ensures ∙ e.if1.false)
 
-pub head-line-spec : {M : Type 1} → statement M
-head-line-spec =
+pub head_line_spec : {M : Type 1} → statement M
+head_line_spec =
     tie.close
     (tie.spec
     frame-line-requires

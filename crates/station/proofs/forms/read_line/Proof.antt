@@ -2,8 +2,8 @@
 -- Assumes nothing.
 use Prim.Native.Nat.{min}
 use mathlib.Core.Path.{sym, ◌∙◌}
-use Rattle.station.specs.method.ReadLine.{headForm, eventForm}
-use Rattle.station.proofs.forms.LineForms.{read_first, read-second, form-parts}
+use Rattle.station.specs.method.ReadLine.{head_form, event_form}
+use Rattle.station.proofs.forms.LineForms.{read_first, read_second, form_parts}
 use borrow.Author.Rules.{rules}
 use Rattle.station.proofs.forms.read_line.Statement.{statement}
 use Rattle.station.proofs.forms.read_line.Tie as tie
@@ -20,8 +20,8 @@ returns c =
     let s = c.before.before.before.before.args in
     let t = s.line.now in
     let hi = min s.slots 64 in
-    rw (form-parts t)
-    (read_first hi (headForm t) (eventForm t) r.result r.ensures (sym c.before.has-form.ensures ∙ c.if1.true))
+    rw (form_parts t)
+    (read_first hi (head_form t) (event_form t) r.result r.ensures (sym c.before.has-form.ensures ∙ c.if1.true))
 
 event-line-requires : tie.Need-event-line-requires
 event-line-requires c κs = search rules
@@ -33,12 +33,12 @@ returns-2 c =
     let s = d.before.before.before.before.args in
     let t = s.line.now in
     let hi = min s.slots 64 in
-    rw (form-parts t)
-    (read-second hi (headForm t) (eventForm t) r.result c.event-line.result (c.event-line.ensures hi) r.ensures
+    rw (form_parts t)
+    (read_second hi (head_form t) (event_form t) r.result c.event-line.result (c.event-line.ensures hi) r.ensures
     (sym d.before.has-form.ensures ∙ d.if1.false))
 
-pub read-line-spec : {M : Type 1} → statement M
-read-line-spec =
+pub read_line_spec : {M : Type 1} → statement M
+read_line_spec =
     tie.close
     (tie.spec
     head-line-requires

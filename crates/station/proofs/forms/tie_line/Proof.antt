@@ -2,8 +2,8 @@
 -- Assumes nothing.
 use mathlib.Core.Path.{sym, ◌∙◌, ap}
 use Rattle.station.specs.Text.{bytes}
-use Rattle.station.specs.method.ReadLine.{readIn}
-use Rattle.station.proofs.forms.LineForms.{tie-hold, tie-place, tie_none}
+use Rattle.station.specs.method.ReadLine.{read_in}
+use Rattle.station.proofs.forms.LineForms.{tie_hold_lem, tie_place_lem, tie_none}
 use borrow.Author.Rules.{rules}
 use Rattle.station.proofs.forms.tie_line.Statement.{statement}
 use Rattle.station.proofs.forms.tie_line.Tie as tie
@@ -21,7 +21,7 @@ returns : tie.Need-returns
 unfolding bytes
 returns c = λ hi.
     let w = c.before.before.closes_at in
-    c.without-jobs.ensures ∙ ap (readIn hi) (sym (tie-hold _ (sym w.ensures ∙ c.before.if1.true)))
+    c.without-jobs.ensures ∙ ap (read_in hi) (sym (tie_hold_lem _ (sym w.ensures ∙ c.before.if1.true)))
 
 slice-aggregate-closes-at-2 : tie.Need-slice-aggregate-closes-at-2
 slice-aggregate-closes-at-2 c = search rules
@@ -39,7 +39,7 @@ returns-2 c = λ hi.
     let e = c.before.before.before.before in
     let t = e.before.before.before.before.args.line.now in
     c.without-jobs2.ensures
-    ∙ ap (readIn hi) (sym (tie-place t (sym e.before.closes_at.ensures ∙ e.if1.false) (sym w.ensures ∙ c.before.if2.true)))
+    ∙ ap (read_in hi) (sym (tie_place_lem t (sym e.before.closes_at.ensures ∙ e.if1.false) (sym w.ensures ∙ c.before.if2.true)))
 
 without-jobs-requires-3 : tie.Need-without-jobs-requires-3
 without-jobs-requires-3 c κs = search rules
@@ -51,10 +51,10 @@ returns-3 c = λ hi.
     let e = c.before.before.before.before in
     let t = e.before.before.before.before.args.line.now in
     c.without-jobs3.ensures
-    ∙ ap (readIn hi) (sym (tie_none t (sym e.before.closes_at.ensures ∙ e.if1.false) (sym w.ensures ∙ c.before.if2.false)))
+    ∙ ap (read_in hi) (sym (tie_none t (sym e.before.closes_at.ensures ∙ e.if1.false) (sym w.ensures ∙ c.before.if2.false)))
 
-pub tie-line-spec : {M : Type 1} → statement M
-tie-line-spec =
+pub tie_line_spec : {M : Type 1} → statement M
+tie_line_spec =
     tie.close
     (tie.spec
     slice-aggregate-closes-at

@@ -7,7 +7,7 @@ use mathlib.Core.Path.{sym, ◌∙◌, subst}
 use lib.ListN.{length}
 use borrow.Author.Rules.{rules}
 use Rattle.station.specs.declared.heads.steps.State.{State}
-use Rattle.station.proofs.heads.LineLoop.{AtLine, at-start, LineRead, line-inside, line-bytes, at_next, out-ends, out-fails, out-whole, out-empty}
+use Rattle.station.proofs.heads.LineLoop.{AtLine, at_start, LineRead, line_inside, line_bytes, at_next, out_ends, out_fails, out_whole, out_empty}
 use Rattle.station.proofs.heads.read_lines.Statement.{statement}
 use Rattle.station.proofs.heads.read_lines.Tie as tie
 
@@ -24,7 +24,7 @@ loop-holds : tie.Need-loop-init invariant-loop decreases-loop
 loop-holds c =
     let s = c.before.before in
     subst (λ (x : State). AtLine s.args.text.now s.args.presets x 0 0) (sym c.no-state.ensures)
-    (at-start s.args.text.now s.args.presets s.requires (omega (arith, s.well-formed.1.1.0)))
+    (at_start s.args.text.now s.args.presets s.requires (omega (arith, s.well-formed.1.1.0)))
 
 line-at-requires : tie.Need-line-at-requires invariant-loop decreases-loop
 line-at-requires c κs = search rules
@@ -48,7 +48,7 @@ accept-requires : tie.Need-accept-requires invariant-loop decreases-loop
 accept-requires c κs = search rules
 
 returns : tie.Need-returns invariant-loop decreases-loop
-returns c = let r = c.before.before.before.before in c.accept.ensures ∙ out-ends r.before.before.before.before.before.before.args.head (line_read r) c.before.enum-told2.given.1
+returns c = let r = c.before.before.before.before in c.accept.ensures ∙ out_ends r.before.before.before.before.before.before.args.head (line_read r) c.before.enum-told2.given.1
 
 enum-known-verdict : tie.Need-enum-known-verdict invariant-loop decreases-loop
 enum-known-verdict c = search rules
@@ -60,16 +60,16 @@ refuse-requires : tie.Need-refuse-requires invariant-loop decreases-loop
 refuse-requires c κs = search rules
 
 returns-2 : tie.Need-returns-2 invariant-loop decreases-loop
-returns-2 c = let r = c.before.before.before.before.before in c.refuse.ensures ∙ out-fails r.before.before.before.before.before.before.args.head (line_read r) c.before.before.verdict.given.1
+returns-2 c = let r = c.before.before.before.before.before in c.refuse.ensures ∙ out_fails r.before.before.before.before.before.before.args.head (line_read r) c.before.before.verdict.given.1
 
 add_at : tie.Need-overflow-add-at invariant-loop decreases-loop
-add_at c = let r = c.before.before.before in omega (arith, line-inside (line_read r), r.before.before.before.before.before.before.well-formed.0)
+add_at c = let r = c.before.before.before in omega (arith, line_inside (line_read r), r.before.before.before.before.before.before.well-formed.0)
 
 add-n : tie.Need-overflow-add-n invariant-loop decreases-loop
 add-n c = let a = line_read c.before.before.before in omega (arith, a.here.few, a.within)
 
 loop-less : tie.Need-loop-smaller invariant-loop decreases-loop
-loop-less c = let a = line_read c.before.before.before in omega (arith, line-bytes a, a.within)
+loop-less c = let a = line_read c.before.before.before in omega (arith, line_bytes a, a.within)
 
 loop-again : tie.Need-loop-preserved invariant-loop decreases-loop
 loop-again c = at_next (line_read c.before.before.before) c.enum_told.given.1
@@ -82,17 +82,17 @@ accept-requires-2 c κs = search rules
 
 returns-3 : tie.Need-returns-3 invariant-loop decreases-loop
 returns-3 c =
-    c.accept2.ensures ∙ out-whole c.before.before.before.before.before.before.before.args.head c.before.before.before.before.loop.invariant c.before.before.before.loop-test.false (sym c.before.before.has-begun.ensures ∙ c.before.if1.true)
+    c.accept2.ensures ∙ out_whole c.before.before.before.before.before.before.before.args.head c.before.before.before.before.loop.invariant c.before.before.before.loop-test.false (sym c.before.before.has-begun.ensures ∙ c.before.if1.true)
 
 refuse-requires-2 : tie.Need-refuse-requires-2 invariant-loop decreases-loop
 refuse-requires-2 c κs = search rules
 
 returns-4 : tie.Need-returns-4 invariant-loop decreases-loop
 returns-4 c =
-    c.refuse2.ensures ∙ out-empty c.before.before.before.before.before.before.before.args.head c.before.before.before.before.loop.invariant c.before.before.before.loop-test.false (sym c.before.before.has-begun.ensures ∙ c.before.if1.false)
+    c.refuse2.ensures ∙ out_empty c.before.before.before.before.before.before.before.args.head c.before.before.before.before.loop.invariant c.before.before.before.loop-test.false (sym c.before.before.has-begun.ensures ∙ c.before.if1.false)
 
-pub read-lines-spec : {M : Type 1} → statement M
-read-lines-spec =
+pub read_lines_spec : {M : Type 1} → statement M
+read_lines_spec =
     tie.close
     (tie.spec
     invariant-loop

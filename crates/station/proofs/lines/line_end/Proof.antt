@@ -6,7 +6,7 @@ use native.Mathlib.Omega.{arith}
 use mathlib.Core.Path.{◌≡◌, refl}
 use lib.ListN.{length, drop}
 use Rattle.station.specs.Line.{line_of}
-use Rattle.station.proofs.lines.FirstLine.{line-here, line-further, line-past}
+use Rattle.station.proofs.lines.FirstLine.{line_here, line_further, line_past}
 use Rattle.station.proofs.lines.line_end.Statement.{statement}
 use Rattle.station.proofs.lines.line_end.Tie as tie
 
@@ -26,7 +26,7 @@ add-result : tie.Need-overflow-add-result invariant-loop decreases-loop
 add-result c = omega arith
 
 returns : tie.Need-returns invariant-loop decreases-loop
-returns c = omega (arith, line-here c.before.before.before.before.args.text.now c.before.before.before.loop.i (omega arith) c.if1.true)
+returns c = omega (arith, line_here c.before.before.before.before.args.text.now c.before.before.before.loop.i (omega arith) c.if1.true)
 
 add-i : tie.Need-overflow-add-i invariant-loop decreases-loop
 add-i c = omega arith
@@ -38,14 +38,14 @@ loop-again : tie.Need-loop-preserved invariant-loop decreases-loop
 loop-again c =
     let t = c.before.before.before.before.args.text.now in
     let i = c.before.before.before.loop.i in
-    omega (arith, line-further t i (i + 1) refl (omega arith) c.if1.false)
+    omega (arith, line_further t i (i + 1) refl (omega arith) c.if1.false)
 
 returns-2 : tie.Need-returns-2 invariant-loop decreases-loop
 returns-2 c =
-    omega (arith, line-past c.before.before.args.text.now c.before.loop.i (omega arith))
+    omega (arith, line_past c.before.before.args.text.now c.before.loop.i (omega arith))
 
-pub line-end-spec : {M : Type 1} → statement M
-line-end-spec =
+pub line_end_spec : {M : Type 1} → statement M
+line_end_spec =
     tie.close
     (tie.spec
     invariant-loop

@@ -6,7 +6,7 @@ use mathlib.Core.Path.{◌≡◌}
 use borrow.Author.Rules.{rules}
 use lib.ListN.{length, drop}
 use Rattle.station.specs.Line.{line_of}
-use Rattle.station.proofs.lines.FirstLine.{line-here, line-further}
+use Rattle.station.proofs.lines.FirstLine.{line_here, line_further}
 use Rattle.station.proofs.lines.line_length.Statement.{statement}
 use Rattle.station.proofs.lines.line_length.Tie as tie
 
@@ -32,7 +32,7 @@ returns : tie.Need-returns invariant-loop decreases-loop
 returns c =
     let t = c.before.before.before.before.before.args.text.now in
     let i = c.before.before.before.loop.i in
-    omega (arith, line-here t i (omega arith) c.if1.true)
+    omega (arith, line_here t i (omega arith) c.if1.true)
 
 add-if2 : tie.Need-overflow-add-if2 invariant-loop decreases-loop
 add-if2 c = omega arith
@@ -47,8 +47,8 @@ returns-2 : tie.Need-returns-2 invariant-loop decreases-loop
 returns-2 c =
     let t = c.before.before.before.before.before.before.before.args.text.now in
     let i = c.before.before.before.before.before.loop.i in
-    let x = line-further t i (i + 1) (omega arith) (omega arith) c.before.before.if1.false in
-    omega (arith, line-here t (i + 1) (omega arith) c.if2.true)
+    let x = line_further t i (i + 1) (omega arith) (omega arith) c.before.before.if1.false in
+    omega (arith, line_here t (i + 1) (omega arith) c.if2.true)
 
 add-if3 : tie.Need-overflow-add-if3 invariant-loop decreases-loop
 add-if3 c = omega arith
@@ -63,9 +63,9 @@ returns-3 : tie.Need-returns-3 invariant-loop decreases-loop
 returns-3 c =
     let t = c.before.before.before.before.before.before.before.before.before.args.text.now in
     let i = c.before.before.before.before.before.before.before.loop.i in
-    let x = line-further t i (i + 1) (omega arith) (omega arith) c.before.before.before.before.if1.false in
-    let y = line-further t (i + 1) (i + 2) (omega arith) (omega arith) c.before.before.if2.false in
-    omega (arith, line-here t (i + 2) (omega arith) c.if3.true)
+    let x = line_further t i (i + 1) (omega arith) (omega arith) c.before.before.before.before.if1.false in
+    let y = line_further t (i + 1) (i + 2) (omega arith) (omega arith) c.before.before.if2.false in
+    omega (arith, line_here t (i + 2) (omega arith) c.if3.true)
 
 add-if4 : tie.Need-overflow-add-if4 invariant-loop decreases-loop
 add-if4 c = omega arith
@@ -81,10 +81,10 @@ returns-4 c =
     let d = c.before.before.before.before.before.before in
     let t = d.before.before.before.before.before.args.text.now in
     let i = d.before.before.before.loop.i in
-    let x = line-further t i (i + 1) (omega arith) (omega arith) d.if1.false in
-    let y = line-further t (i + 1) (i + 2) (omega arith) (omega arith) c.before.before.before.before.if2.false in
-    let z = line-further t (i + 2) (i + 3) (omega arith) (omega arith) c.before.before.if3.false in
-    omega (arith, line-here t (i + 3) (omega arith) c.if4.true)
+    let x = line_further t i (i + 1) (omega arith) (omega arith) d.if1.false in
+    let y = line_further t (i + 1) (i + 2) (omega arith) (omega arith) c.before.before.before.before.if2.false in
+    let z = line_further t (i + 2) (i + 3) (omega arith) (omega arith) c.before.before.if3.false in
+    omega (arith, line_here t (i + 3) (omega arith) c.if4.true)
 
 add-i : tie.Need-overflow-add-i invariant-loop decreases-loop
 add-i c = omega arith
@@ -97,10 +97,10 @@ loop-again c =
     let d = c.before.before.before.before.before.before in
     let t = d.before.before.before.before.before.args.text.now in
     let i = d.before.before.before.loop.i in
-    let x = line-further t i (i + 1) (omega arith) (omega arith) d.if1.false in
-    let y = line-further t (i + 1) (i + 2) (omega arith) (omega arith) c.before.before.before.before.if2.false in
-    let z = line-further t (i + 2) (i + 3) (omega arith) (omega arith) c.before.before.if3.false in
-    (omega arith, omega (arith, line-further t (i + 3) (i + 4) (omega arith) (omega arith) c.if4.false))
+    let x = line_further t i (i + 1) (omega arith) (omega arith) d.if1.false in
+    let y = line_further t (i + 1) (i + 2) (omega arith) (omega arith) c.before.before.before.before.if2.false in
+    let z = line_further t (i + 2) (i + 3) (omega arith) (omega arith) c.before.before.if3.false in
+    (omega arith, omega (arith, line_further t (i + 3) (i + 4) (omega arith) (omega arith) c.if4.false))
 
 line-end-requires : tie.Need-line-end-requires invariant-loop decreases-loop
 line-end-requires c κs = search rules
@@ -108,8 +108,8 @@ line-end-requires c κs = search rules
 returns-5 : tie.Need-returns-5 invariant-loop decreases-loop
 returns-5 c = omega (arith, c.line-end.ensures)
 
-pub line-length-spec : {M : Type 1} → statement M
-line-length-spec =
+pub line_length_spec : {M : Type 1} → statement M
+line_length_spec =
     tie.close
     (tie.spec
     invariant-loop

@@ -8,15 +8,15 @@ use native.Mathlib.Numerals.{add-one}
 use mathlib.Core.Path.{◌≡◌, refl, sym, ◌∙◌}
 use lib.ListN.{length, drop}
 use Rattle.laws.proofs.Tests.{false_of_not, true_of_not}
-use Rattle.station.specs.Decimal.{digitCount}
-use Rattle.station.specs.method.Numeral.{front, frontFrom}
-use Rattle.station.proofs.numbers.Decimals.{lead, count-more, count_none, front-none, plain-none, plain-digits, seen_more}
+use Rattle.station.specs.Decimal.{digit_count}
+use Rattle.station.specs.method.Numeral.{front, front_from}
+use Rattle.station.proofs.numbers.Decimals.{lead, count_more, count_none, front_none, plain_none, plain_digits, seen_more}
 use Rattle.station.proofs.numbers.number_at.Statement.{statement}
 use Rattle.station.proofs.numbers.number_at.Tie as tie
 use Rattle.station.specs.Jobs.{seen}
 
 abbrev invariant-loop : tie.invariant-loop
-invariant-loop text at value₀ i₀ value i = (value ≤ 65535) × (i + digitCount (drop i text) ≡ at + digitCount (drop at text)) × (seen (frontFrom value (drop i text)) ≡ seen (front (drop at text)))
+invariant-loop text at value₀ i₀ value i = (value ≤ 65535) × (i + digit_count (drop i text) ≡ at + digit_count (drop at text)) × (seen (front_from value (drop i text)) ≡ seen (front (drop at text)))
 
 abbrev decreases-loop : tie.decreases-loop
 decreases-loop text at value₀ i₀ value i = length text - i
@@ -31,8 +31,8 @@ returns c =
     let d = c.before.digit_at in
     let no = sym d.ensures ∙ false_of_not d.result c.if1.true in
     let n = count_none t s.at no in
-    let e : s.at + digitCount (drop s.at t) ≡ s.at = omega arith in
-    rw (plain-none t s.at n, e, front-none t s.at 0 no) refl
+    let e : s.at + digit_count (drop s.at t) ≡ s.at = omega arith in
+    rw (plain_none t s.at n, e, front_none t s.at 0 no) refl
 
 shared-slice-read-with-digit : tie.Need-shared-slice-read-with-digit invariant-loop decreases-loop
 shared-slice-read-with-digit c =
@@ -63,7 +63,7 @@ loop-holds c =
     let yes = sym d.ensures ∙ true_of_not d.result c.before.before.if1.false in
     let t = s.text.now in
     let w = c.with-digit.ensures in
-    rw (add-one s.at) (omega arith, omega (arith, count-more t s.at yes), seen_more t s.at 0 c.with-digit.result yes w)
+    rw (add-one s.at) (omega arith, omega (arith, count_more t s.at yes), seen_more t s.at 0 c.with-digit.result yes w)
 
 digit-at-requires-2 : tie.Need-digit-at-requires-2 invariant-loop decreases-loop
 digit-at-requires-2 c κs = search rules
@@ -106,7 +106,7 @@ loop-again c =
     let t = s.text.now in
     let w = c.with-digit2.ensures in
     rw (add-one l.i)
-    (omega arith, omega (arith, count-more t l.i yes), seen_more t l.i l.value c.with-digit2.result yes w ∙ l.invariant.2)
+    (omega arith, omega (arith, count_more t l.i yes), seen_more t l.i l.value c.with-digit2.result yes w ∙ l.invariant.2)
 
 shared-slice-read-found : tie.Need-shared-slice-read-found invariant-loop decreases-loop
 shared-slice-read-found c =
@@ -131,12 +131,12 @@ returns-2 c =
     let t = s.text.now in
     let l = c.before.before.before.loop in
     let no = sym c.before.before.digit-at2.ensures ∙ c.before.if2.false in
-    let n : l.i ≡ s.at + digitCount (drop s.at t) = omega (arith, count_none t l.i no) in
-    let v : l.value ≡ seen (front (drop s.at t)) = omega (arith, front-none t l.i l.value no, l.invariant.2) in
-    rw (plain-digits t s.at l.i yes (sym n), n, v) refl
+    let n : l.i ≡ s.at + digit_count (drop s.at t) = omega (arith, count_none t l.i no) in
+    let v : l.value ≡ seen (front (drop s.at t)) = omega (arith, front_none t l.i l.value no, l.invariant.2) in
+    rw (plain_digits t s.at l.i yes (sym n), n, v) refl
 
-pub number-at-spec : {M : Type 1} → statement M
-number-at-spec =
+pub number_at_spec : {M : Type 1} → statement M
+number_at_spec =
     tie.close
     (tie.spec
     invariant-loop

@@ -3,7 +3,7 @@
 use mathlib.Core.Path.{sym, ◌∙◌}
 use Rattle.station.specs.Text.{bytes}
 use Rattle.laws.proofs.Tests.{false_of_not, true_of_not}
-use Rattle.station.proofs.numbers.Decimals.{last-missing, last-other, last_found}
+use Rattle.station.proofs.numbers.Decimals.{last_missing, last_other, last_found}
 use borrow.Author.Rules.{rules}
 use Rattle.station.proofs.numbers.number_last.Statement.{statement}
 use Rattle.station.proofs.numbers.number_last.Tie as tie
@@ -18,7 +18,7 @@ returns : tie.Need-returns
 returns c =
     let s = c.before.before.before.before.before.args in
     let n = c.before.before.before.number_at in
-    last-missing s.text.now s.at n.result n.ensures c.no-numeral.result c.no-numeral.ensures
+    last_missing s.text.now s.at n.result n.ensures c.no-numeral.result c.no-numeral.ensures
     (false_of_not n.result.found c.before.if1.true)
 
 slice-aggregate-closes-at : tie.Need-slice-aggregate-closes-at
@@ -36,7 +36,7 @@ returns-2 c =
     let s = c.before.before.before.before.before.before.before.before.args in
     let n = c.before.before.before.before.before.before.number_at in
     let w = c.before.before.closes_at in
-    last-other s.text.now s.at n.result n.ensures c.no-numeral2.result c.no-numeral2.ensures
+    last_other s.text.now s.at n.result n.ensures c.no-numeral2.result c.no-numeral2.ensures
     (true_of_not n.result.found c.before.before.before.before.if1.false) (sym w.ensures ∙ false_of_not w.result c.before.if2.true)
 
 returns-3 : tie.Need-returns-3
@@ -48,8 +48,8 @@ returns-3 c =
     last_found s.text.now s.at n.result n.ensures
     (true_of_not n.result.found c.before.before.before.if1.false) (sym w.ensures ∙ true_of_not w.result c.if2.false)
 
-pub number-last-spec : {M : Type 1} → statement M
-number-last-spec =
+pub number_last_spec : {M : Type 1} → statement M
+number_last_spec =
     tie.close
     (tie.spec
     number-at-requires

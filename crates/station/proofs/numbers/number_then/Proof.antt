@@ -3,7 +3,7 @@
 use native.Mathlib.Omega.{arith}
 use mathlib.Core.Path.{sym, ◌∙◌}
 use Rattle.laws.proofs.Tests.{false_of_not, true_of_not}
-use Rattle.station.proofs.numbers.Decimals.{then-missing, then-other, then_found, then-fits}
+use Rattle.station.proofs.numbers.Decimals.{then_missing, then_other, then_found, then_fits}
 use borrow.Author.Rules.{rules}
 use Rattle.station.proofs.numbers.number_then.Statement.{statement}
 use Rattle.station.proofs.numbers.number_then.Tie as tie
@@ -18,7 +18,7 @@ returns : tie.Need-returns
 returns c =
     let s = c.before.before.before.before.before.before.args in
     let n = c.before.before.before.number_at in
-    then-missing s.text.now s.at n.result n.ensures s.word.now c.no-numeral.result c.no-numeral.ensures
+    then_missing s.text.now s.at n.result n.ensures s.word.now c.no-numeral.result c.no-numeral.ensures
     (false_of_not n.result.found c.before.if1.true)
 
 starts-at-requires : tie.Need-starts-at-requires
@@ -32,7 +32,7 @@ returns-2 c =
     let s = c.before.before.before.before.before.before.before.before.args in
     let n = c.before.before.before.before.before.number_at in
     let w = c.before.before.starts-at in
-    then-other s.text.now s.at n.result n.ensures s.word.now c.no-numeral2.result c.no-numeral2.ensures
+    then_other s.text.now s.at n.result n.ensures s.word.now c.no-numeral2.result c.no-numeral2.ensures
     (true_of_not n.result.found c.before.before.before.if1.false) (sym w.ensures ∙ false_of_not w.result c.before.if2.true)
 
 add-t9 : tie.Need-overflow-add-t9
@@ -40,7 +40,7 @@ add-t9 c =
     let s = c.before.before.before.before.before.before.before.args in
     let n = c.before.before.before.before.number_at in
     let w = c.before.starts-at in
-    let e = then-fits s.text.now s.at n.result n.ensures s.word.now
+    let e = then_fits s.text.now s.at n.result n.ensures s.word.now
     (true_of_not n.result.found c.before.before.if1.false) (sym w.ensures ∙ true_of_not w.result c.if2.false) in
     omega arith
 
@@ -52,8 +52,8 @@ returns-3 c =
     then_found s.text.now s.at n.result n.ensures s.word.now
     (true_of_not n.result.found c.before.before.if1.false) (sym w.ensures ∙ true_of_not w.result c.if2.false)
 
-pub number-then-spec : {M : Type 1} → statement M
-number-then-spec =
+pub number_then_spec : {M : Type 1} → statement M
+number_then_spec =
     tie.close
     (tie.spec
     number-at-requires

@@ -7,7 +7,7 @@ use native.Mathlib.Numerals.{add-one}
 use mathlib.Core.Path.{◌≡◌, refl, sym, ◌∙◌}
 use lib.ListN.{length, drop, length-drop}
 use Rattle.station.specs.Form.{starts}
-use Rattle.station.proofs.numbers.Decimals.{starts_more, starts_other, starts-done, starts-longer, starts_none}
+use Rattle.station.proofs.numbers.Decimals.{starts_more, starts_other, starts_done, starts_longer, starts_none}
 use Rattle.station.proofs.numbers.starts_at.Statement.{statement}
 use Rattle.station.proofs.numbers.starts_at.Tie as tie
 
@@ -26,7 +26,7 @@ sub-if2 c = omega arith
 returns-2 : tie.Need-returns-2 invariant-loop decreases-loop
 returns-2 c =
     let s = c.before.before.args in
-    sym (starts-longer s.word.now (drop s.at s.text.now) (omega (arith, length-drop s.at s.text.now)))
+    sym (starts_longer s.word.now (drop s.at s.text.now) (omega (arith, length-drop s.at s.text.now)))
 
 loop-holds : tie.Need-loop-init invariant-loop decreases-loop
 loop-holds c = let e : c.before.before.args.at + 0 ≡ c.before.before.args.at = omega arith in rw e refl
@@ -63,10 +63,10 @@ returns-4 : tie.Need-returns-4 invariant-loop decreases-loop
 returns-4 c =
     let s = c.before.before.before.before.args in
     let l = c.before.loop in
-    sym (starts-done s.word.now s.text.now l.i (s.at + l.i) (omega arith)) ∙ l.invariant
+    sym (starts_done s.word.now s.text.now l.i (s.at + l.i) (omega arith)) ∙ l.invariant
 
-pub starts-at-spec : {M : Type 1} → statement M
-starts-at-spec =
+pub starts_at_spec : {M : Type 1} → statement M
+starts_at_spec =
     tie.close
     (tie.spec
     invariant-loop

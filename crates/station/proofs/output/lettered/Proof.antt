@@ -3,7 +3,7 @@ use native.Mathlib.Omega.{arith}
 use mathlib.Core.Path.{◌∙◌}
 use lib.ListN.{length-set}
 use Rattle.station.specs.Text.{bytes}
-use Rattle.station.proofs.output.Runs.{wrote-two, wrote_then, wrote-length}
+use Rattle.station.proofs.output.Runs.{wrote_two, wrote_then, wrote_length}
 use borrow.Author.Rules.{rules}
 use Rattle.station.proofs.output.lettered.Statement.{statement}
 use Rattle.station.proofs.output.lettered.Tie as tie
@@ -27,11 +27,11 @@ number-within-requires : tie.Need-number-within-requires
 number-within-requires c κs = simp length-set (omega arith)
 
 same_length : tie.Need-same-length
-same_length c = wrote-length c.before.before.number-within.ensures ∙ simp length-set
+same_length c = wrote_length c.before.before.number-within.ensures ∙ simp length-set
 
 returns : tie.Need-returns
 unfolding bytes
-returns c = let a = c.before.before.before.before.before.before.before.args in wrote_then (wrote-two a.out.now a.at 32 a.letter (omega arith)) c.before.before.number-within.ensures
+returns c = let a = c.before.before.before.before.before.before.before.args in wrote_then (wrote_two a.out.now a.at 32 a.letter (omega arith)) c.before.before.number-within.ensures
 
 put-requires : tie.Need-put-requires
 put-requires c κs = search rules
@@ -49,8 +49,8 @@ returns-2 : tie.Need-returns-2
 unfolding bytes
 returns-2 c = wrote_then c.before.before.before.before.before.before.before.before.before.before.put.ensures (wrote_then c.before.before.before.before.before.before.put2.ensures c.before.before.number.ensures)
 
-pub lettered-spec : {M : Type 1} → statement M
-lettered-spec =
+pub lettered_spec : {M : Type 1} → statement M
+lettered_spec =
     tie.close
     (tie.spec
     places-before-requires

@@ -3,9 +3,9 @@ use Prim.Native.Nat.{◌+◌, ◌/◌}
 use native.Mathlib.Omega.{arith}
 use mathlib.Core.Path.{◌∙◌}
 use lib.ListN.{length-set}
-use Rattle.station.proofs.Decimal.{digits-small}
-use Rattle.station.proofs.output.TwoDigits.{digits-two, digits-hundreds}
-use Rattle.station.proofs.output.Runs.{wrote-byte, wrote_then, wrote-length, wrote-place}
+use Rattle.station.proofs.Decimal.{digits_small}
+use Rattle.station.proofs.output.TwoDigits.{digits_two, digits_hundreds}
+use Rattle.station.proofs.output.Runs.{wrote_byte, wrote_then, wrote_length, wrote_place}
 use borrow.Author.Rules.{rules}
 use Rattle.station.proofs.output.number_within.Statement.{statement}
 use Rattle.station.proofs.output.number_within.Tie as tie
@@ -26,7 +26,7 @@ same_length : tie.Need-same-length
 same_length c = search rules
 
 returns : tie.Need-returns
-returns c = let a = c.before.before.args in rw (digits-small a.n (omega arith)) (wrote-byte a.out.now a.at (48 + a.n) (omega arith))
+returns c = let a = c.before.before.args in rw (digits_small a.n (omega arith)) (wrote_byte a.out.now a.at (48 + a.n) (omega arith))
 
 two-digits-requires : tie.Need-two-digits-requires
 two-digits-requires c κs = search rules
@@ -35,7 +35,7 @@ same-length-2 : tie.Need-same-length-2
 same-length-2 c = search rules
 
 returns-2 : tie.Need-returns-2
-returns-2 c = rw (digits-two c.before.before.before.before.before.before.before.args.n (omega arith) (omega arith)) c.before.before.two_digits.ensures
+returns-2 c = rw (digits_two c.before.before.before.before.before.before.before.args.n (omega arith) (omega arith)) c.before.before.two_digits.ensures
 
 long-number-requires : tie.Need-long-number-requires
 long-number-requires c κs = search rules
@@ -62,30 +62,30 @@ two-digits-requires-2 : tie.Need-two-digits-requires-2
 two-digits-requires-2 c κs = (omega arith, simp length-set (omega arith))
 
 same-length-4 : tie.Need-same-length-4
-same-length-4 c = wrote-length c.before.before.two-digits2.ensures ∙ simp length-set
+same-length-4 c = wrote_length c.before.before.two-digits2.ensures ∙ simp length-set
 
 returns-4 : tie.Need-returns-4
 returns-4 c = let a = c.before.before.before.before.before.before.before.before.before.args in
-    rw (digits-hundreds a.n (omega arith), digits-small (a.n / 100) (omega arith))
-    (wrote_then (wrote-byte a.out.now a.at (48 + a.n / 100) (omega arith)) c.before.before.two-digits2.ensures)
+    rw (digits_hundreds a.n (omega arith), digits_small (a.n / 100) (omega arith))
+    (wrote_then (wrote_byte a.out.now a.at (48 + a.n / 100) (omega arith)) c.before.before.two-digits2.ensures)
 
 two-digits-requires-3 : tie.Need-two-digits-requires-3
 two-digits-requires-3 c κs = search rules
 
 two-digits-requires-4 : tie.Need-two-digits-requires-4
 two-digits-requires-4 c κs = let first = c.before.before.before.two-digits3.ensures in
-    (omega arith, omega (arith, wrote-length first, wrote-place first (omega arith)))
+    (omega arith, omega (arith, wrote_length first, wrote_place first (omega arith)))
 
 same-length-5 : tie.Need-same-length-5
 same-length-5 c = search rules
 
 returns-5 : tie.Need-returns-5
 returns-5 c = let a = c.before.before.before.before.before.before.before.before.before.before.before.before.before.args in
-    rw (digits-hundreds a.n (omega arith), digits-two (a.n / 100) (omega arith) (omega arith))
+    rw (digits_hundreds a.n (omega arith), digits_two (a.n / 100) (omega arith) (omega arith))
     (wrote_then c.before.before.before.before.before.before.two-digits3.ensures c.before.before.two-digits4.ensures)
 
-pub number-within-spec : {M : Type 1} → statement M
-number-within-spec =
+pub number_within_spec : {M : Type 1} → statement M
+number_within_spec =
     tie.close
     (tie.spec
     cast-out

@@ -5,20 +5,20 @@ use mathlib.Core.Path.{◌≡◌}
 use mathlib.Core.List.{append_assoc}
 use lib.ListN.{length, length-set}
 use Rattle.station.specs.Text.{bytes}
-use Rattle.station.proofs.output.TwoDigits.{after-number}
-use Rattle.station.proofs.output.Runs.{wrote-byte, wrote-two, wrote_then}
+use Rattle.station.proofs.output.TwoDigits.{after_number}
+use Rattle.station.proofs.output.Runs.{wrote_byte, wrote_two, wrote_then}
 use borrow.Author.Rules.{rules}
 use Rattle.station.proofs.output.numbers_end.Statement.{statement}
 use Rattle.station.proofs.output.numbers_end.Tie as tie
 
 -- the place after the first number, and after the second, of an output as long as it was
 first : (c : tie.After-number-within) → let a = c.before.before.before.before.before.args in (c.number-within.result ≤ a.at + 20) × (length c.number-within.new.0 ≡ length a.out.now)
-first c = after-number c.before.before.before.before.before.args.m (omega arith) c.number-within.ensures
+first c = after_number c.before.before.before.before.before.args.m (omega arith) c.number-within.ensures
 
 second : (c : tie.After-number-within2)
     → (c.number-within2.result + 2 ≤ length c.number-within2.new.0) × (length c.number-within2.new.0 ≡ length c.before.before.before.before.before.before.before.before.before.args.out.now)
 second c = let m = first c.before.before.before.before in
-    let n = after-number c.before.before.before.before.before.before.before.before.before.args.n (omega arith) c.number-within2.ensures in
+    let n = after_number c.before.before.before.before.before.before.before.before.before.args.n (omega arith) c.number-within2.ensures in
     (omega (arith, simp length-set at n.1), omega (arith, simp length-set at n.1))
 
 places-before-requires : tie.Need-places-before-requires
@@ -72,10 +72,10 @@ unfolding bytes
 returns-2 c = let m = c.before.before.before.before.before.before.number-within in
     let n = c.before.before.number-within2 in
     wrote_then m.ensures
-    (wrote_then (wrote-byte m.new.0 m.result 32 (omega (arith, first c.before.before.before.before.before.before))) (wrote_then n.ensures (wrote-two n.new.0 n.result 41 10 (second c.before.before).0)))
+    (wrote_then (wrote_byte m.new.0 m.result 32 (omega (arith, first c.before.before.before.before.before.before))) (wrote_then n.ensures (wrote_two n.new.0 n.result 41 10 (second c.before.before).0)))
 
-pub numbers-end-spec : {M : Type 1} → statement M
-numbers-end-spec =
+pub numbers_end_spec : {M : Type 1} → statement M
+numbers_end_spec =
     tie.close
     (tie.spec
     places-before-requires

@@ -1,7 +1,7 @@
 -- `output::two_digits` meets its contract. Assumes nothing.
 use native.Mathlib.Omega.{arith}
 use lib.ListN.{length-set}
-use Rattle.station.proofs.output.Runs.{wrote-two}
+use Rattle.station.proofs.output.Runs.{wrote_two}
 use borrow.Author.Rules.{rules}
 use Rattle.station.proofs.output.two_digits.Statement.{statement}
 use Rattle.station.proofs.output.two_digits.Tie as tie
@@ -34,10 +34,10 @@ same_length : tie.Need-same-length
 same_length c = search rules
 
 returns : tie.Need-returns
-returns c = let a = c.args in wrote-two a.out.now a.at _ _ (omega arith)
+returns c = let a = c.args in wrote_two a.out.now a.at _ _ (omega arith)
 
-pub two-digits-spec : {M : Type 1} → statement M
-two-digits-spec =
+pub two_digits_spec : {M : Type 1} → statement M
+two_digits_spec =
     tie.close
     (tie.spec
     cast-out

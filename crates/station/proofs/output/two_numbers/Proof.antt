@@ -21,6 +21,6 @@ returns : tie.Need-returns
 unfolding bytes
 returns c = wrote_then c.before.before.before.before.before.before.before.before.before.before.number.ensures (wrote_then c.before.before.before.before.before.before.put.ensures c.before.before.number2.ensures)
 
-pub two-numbers-spec : {M : Type 1} → statement M
-two-numbers-spec =
+pub two_numbers_spec : {M : Type 1} → statement M
+two_numbers_spec =
     tie.close (tie.spec number-requires put-requires number-requires-2 same_length returns)

@@ -7,7 +7,7 @@ use mathlib.Core.Path.{◌≡◌, refl}
 use lib.ListN.{length, drop, get_or}
 use lib.Seq.{drop-cons, drop-length}
 use Rattle.station.specs.Wrote.{Left}
-use Rattle.station.proofs.output.Runs.{wrote-byte, left-all, left-wrote, left-none}
+use Rattle.station.proofs.output.Runs.{wrote_byte, left_all, left_wrote, left_none}
 use borrow.Author.Rules.{rules}
 use Rattle.station.proofs.output.word.Statement.{statement}
 use Rattle.station.proofs.output.word.Tie as tie
@@ -33,7 +33,7 @@ returns c = c.before.before.word-by-bytes.ensures
 loop-holds : tie.Need-loop-init invariant-loop decreases-loop
 loop-holds c = let a = c.before.before.before.before.args in
     let z : a.at + 0 ≡ a.at = omega arith in
-    (omega arith, omega arith, rw z (left-all a.out.now a.at a.text.now))
+    (omega arith, omega arith, rw z (left_all a.out.now a.at a.text.now))
 
 shared-slice-read-out : tie.Need-shared-slice-read-out invariant-loop decreases-loop
 shared-slice-read-out c = omega arith
@@ -59,7 +59,7 @@ loop-again c = let loop = c.before.before.loop in
     let e : a.at + suc i ≡ a.at + i + 1 = omega arith in (
       omega arith,
       omega arith,
-      rw (add-one i, e) (left-wrote (get_or text i 0 ∷ []) (drop (suc i) text) (rw (drop-cons text i 0) at loop.invariant.2) (wrote-byte loop.out (a.at + i) (get_or text i 0) (omega arith))),
+      rw (add-one i, e) (left_wrote (get_or text i 0 ∷ []) (drop (suc i) text) (rw (drop-cons text i 0) at loop.invariant.2) (wrote_byte loop.out (a.at + i) (get_or text i 0) (omega arith))),
     )
 
 add-result : tie.Need-overflow-add-result invariant-loop decreases-loop
@@ -73,10 +73,10 @@ returns-2 c = let loop = c.before.loop in
     let text = c.before.before.before.before.before.before.args.text.now in
     let e : loop.i ≡ length text = omega arith in
     let none : drop loop.i text ≡ [] = rw (e, drop-length text) refl in
-    left-none (rw none at loop.invariant.2)
+    left_none (rw none at loop.invariant.2)
 
-pub word-spec : {M : Type 1} → statement M
-word-spec =
+pub word_spec : {M : Type 1} → statement M
+word_spec =
     tie.close
     (tie.spec
     invariant-loop

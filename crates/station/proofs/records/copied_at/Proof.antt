@@ -4,7 +4,7 @@ use native.Mathlib.Omega.{arith}
 use mathlib.Core.Path.{sym}
 use lib.ListN.{get_or-eq_default}
 use borrow.Author.Rules.{rules}
-use Rattle.station.specs.Types.{noRecord}
+use Rattle.station.specs.Types.{no_record}
 use Rattle.station.proofs.records.copied_at.Statement.{statement}
 use Rattle.station.proofs.records.copied_at.Tie as tie
 
@@ -20,7 +20,7 @@ returns c = search rules
 returns-2 : tie.Need-returns-2
 returns-2 c =
     let a = c.before.args in
-    sym (get_or-eq_default a.t1 noRecord (omega (arith, c.before.well-formed.0)))
+    sym (get_or-eq_default a.t1 no_record (omega (arith, c.before.well-formed.0)))
 
-pub copied-at-spec : {M : Type 1} → statement M
-copied-at-spec = tie.close (tie.spec mul-result array-copy-out-result returns returns-2)
+pub copied_at_spec : {M : Type 1} → statement M
+copied_at_spec = tie.close (tie.spec mul-result array-copy-out-result returns returns-2)

@@ -41,14 +41,14 @@ use denote.Triple.Spec.{Meets, triple_of}
 use denote.Triple.Table.{entered, cited}
 use denote.Triple.Walked.{says, Stays, stay_dropped, walk_of, Goes-dropped, ends_at}
 use denote.Exit.{yes}
-use Rattle.station.specs.Types.{noRecord}
+use Rattle.station.specs.Types.{no_record}
 use Rattle.station.specs.declared.types.Preset.{Preset}
 use Rattle.station.specs.contracts.types.Preset as T
 use Rattle.station.proofs.types.Preset.TheLaws as T'
 use Rattle.station.specs.Records.{loaded}
-use Rattle.station.proofs.records.RecordRow.{val, vals, tells, makes, typed, Bank, copied-mir, copied-val, copied-tells, copied-makes, copied-typed}
-use Rattle.station.proofs.records.CopiedLoops.{loading, loading-more, loading-all}
-use Rattle.station.proofs.WalkSteps.{asks, hands, hands-one, tests, full, empty, ◌&◌, none, leaves-fn, meets-by}
+use Rattle.station.proofs.records.RecordRow.{val, vals, tells, makes, typed, Bank, copied_mir, copied_val, copied_tells, copied_makes, copied_typed}
+use Rattle.station.proofs.records.CopiedLoops.{loading, loading_more, loading_all}
+use Rattle.station.proofs.WalkSteps.{asks, hands, hands_one, tests, full, empty, ◌&◌, none, leaves_fn, meets_by}
 use Rattle.station.specs.contracts.records.no_records as no-records
 use Rattle.station.proofs.records.no_records.Symbol as no-records-def
 use Rattle.station.proofs.records.no_records.Symbol.{name as #no-records}
@@ -101,11 +101,11 @@ module _ {M : Type 1} {𝓤 : Ura M} (𝓛 : Logic 𝓤) (mem : Memory → SProp
   abbrev Post : Val → SProp 𝓤
   Post = (walk_of 𝓛 load.ended stayed (load.clauses 𝓛 mem run)).post bound
 
-  exits : (r : List Preset) → Is Bank r (copied-val r ∷ []) → r ≡ loaded ys → ent 𝓤 (A.lft κ q) (Post (copied-val r))
+  exits : (r : List Preset) → Is Bank r (copied_val r ∷ []) → r ≡ loaded ys → ent 𝓤 (A.lft κ q) (Post (copied_val r))
   exits r is e =
       qed 𝓛 (‵ (flft κ q) ∷ []) ∵
-      suffices ! _ (ends_at 𝓛 load.ended stayed (load.clauses 𝓛 mem run) bound (copied-val r) r (tt, tt) (tt, tt)) $ says ! e $
-      nothing ! $ move ! (1 ∷ 0 ∷ []) $ join ! $ frame ! $ nothing ! $ nothing ! $ fjoin ! $ frame ! $ owned ! Bank (Is Bank) (copied-makes 𝓛) r _ is $ done !
+      suffices ! _ (ends_at 𝓛 load.ended stayed (load.clauses 𝓛 mem run) bound (copied_val r) r (tt, tt) (tt, tt)) $ says ! e $
+      nothing ! $ move ! (1 ∷ 0 ∷ []) $ join ! $ frame ! $ nothing ! $ nothing ! $ fjoin ! $ frame ! $ owned ! Bank (Is Bank) (copied_makes 𝓛) r _ is $ done !
 
   -- what each callee's triple binds outside
   abbrev to_none : (NoRecords 𝓛 mem run).Ghost
@@ -116,14 +116,14 @@ module _ {M : Type 1} {𝓤 : Ura M} (𝓛 : Logic 𝓤) (mem : Memory → SProp
 
   goes_at : (i : ℕ) → i < 2 ^ 64 → ent 𝓤 (sep 𝓤 (A.lft κ q) (sem 𝓛 Own)) ((RecordAt 𝓛 mem run).pre (to_at i))
   goes_at i fits =
-      qed 𝓛 (‵ (flft κ q) ∷ ‵ Own ∷ []) ∵ nothing ! $ owned ! usize (Is usize) (uint_Makes 𝓛 w64) i _ (refl, fits) $ fjoin ! $ move ! (2 ∷ 0 ∷ []) $ fjoin ! $ hands-one !
+      qed 𝓛 (‵ (flft κ q) ∷ ‵ Own ∷ []) ∵ nothing ! $ owned ! usize (Is usize) (uint_Makes 𝓛 w64) i _ (refl, fits) $ fjoin ! $ move ! (2 ∷ 0 ∷ []) $ fjoin ! $ hands_one !
 
   abbrev to-with : List Preset → ℕ → Preset → (WithRecord 𝓛 mem run).Ghost
-  to-with copied i r = ((tt, tt, tt, (copied, (i, (r, tt))), (copied-val copied ∷ [], (vint w64 i ∷ [], (vals r, tt)))), tt)
+  to-with copied i r = ((tt, tt, tt, (copied, (i, (r, tt))), (copied_val copied ∷ [], (vint w64 i ∷ [], (vals r, tt)))), tt)
 
   -- the place, that it is at most 32, and that the copied as it is filled so far has 32 records
   abbrev Upto : Type 0
-  Upto = (i : ℕ) × ((i ≤ 32) × Is Bank (loading ys i) (copied-val (loading ys i) ∷ []))
+  Upto = (i : ℕ) × ((i ≤ 32) × Is Bank (loading ys i) (copied_val (loading ys i) ∷ []))
 
   abbrev Nearer : Upto → Upto → Type 0
   Nearer j i = 32 - j.0 < 32 - i.0
@@ -138,8 +138,8 @@ module _ {M : Type 1} {𝓤 : Ura M} (𝓛 : Logic 𝓤) (mem : Memory → SProp
   nearer : (i : Upto) → Holds (ltb i.0 32) → 32 - (i.0 + 1) < 32 - i.0
   nearer i less = omega (arith, ltb→lt i.0 32 less)
 
-  at-end : (i : Upto) → Holds (not (ltb i.0 32)) → i.0 ≡ 32
-  at-end i over = omega (arith, nltb→le i.0 32 over, i.1.0)
+  at_end : (i : Upto) → Holds (not (ltb i.0 32)) → i.0 ≡ 32
+  at_end i over = omega (arith, nltb→le i.0 32 over, i.1.0)
 
   place-fits : (i : Upto) → i.0 < 2 ^ 64
   place-fits i = omega (arith, i.1.0)
@@ -162,12 +162,12 @@ module _ {M : Type 1} {𝓤 : Ura M} (𝓛 : Logic 𝓤) (mem : Memory → SProp
       slice = slice_ty (ty_ref (named 0) imm (pointee (T.the_row).written))
 
       abbrev En : Env 𝓤 H
-      En = (copied-mir, l₀) ∷ (slice, l₁) ∷ (copied-mir, l₂) ∷ (ty_int w64, l₃) ∷ (ty_bool, l₄) ∷ (T'.mir, l₅) ∷ []
+      En = (copied_mir, l₀) ∷ (slice, l₁) ∷ (copied_mir, l₂) ∷ (ty_int w64, l₃) ∷ (ty_bool, l₄) ∷ (T'.mir, l₅) ∷ []
 
       -- the loop's invariant
       abbrev At : Upto → List (Item 𝓤)
       At i = ‵ (flft κ q) ∷ ‵ Own ∷ ‵ (froom T'.mir l₅ 0) ∷ ‵ (fdies T'.mir l₅) ∷ ‵ (froom ty_bool l₄ 0) ∷ ‵ (fdies ty_bool l₄) ∷ ‵ (fat full_share (ty_int w64) l₃ 0 (vint w64 i.0)) ∷ ‵ (fdies (ty_int w64) l₃)
-          ∷ ‵ (fat full_share copied-mir l₂ 0 (copied-val (loading ys i.0))) ∷ ‵ (fdies copied-mir l₂) ∷ ‵ (fat full_share slice l₁ 0 v) ∷ ‵ (fdies slice l₁) ∷ ‵ (froom copied-mir l₀ 0) ∷ ‵ (fdies copied-mir l₀) ∷ []
+          ∷ ‵ (fat full_share copied_mir l₂ 0 (copied_val (loading ys i.0))) ∷ ‵ (fdies copied_mir l₂) ∷ ‵ (fat full_share slice l₁ 0 v) ∷ ‵ (fdies slice l₁) ∷ ‵ (froom copied_mir l₀ 0) ∷ ‵ (fdies copied_mir l₀) ∷ []
 
       -- a turn ends nearer to 32, or the loop is left and the rest of the body runs
       abbrev Turned : Upto → Out → SProp 𝓤
@@ -181,23 +181,23 @@ module _ {M : Type 1} {𝓤 : Ura M} (𝓛 : Logic 𝓤) (mem : Memory → SProp
           (λ less. move ! (1 ∷ []) $ use1 𝓛 (‵ Own ⊛ ‵ Own) ((shr_slice_copy 𝓛 (named 0) κ T.the_row).twice s (v ∷ [])) $ split ! $ move ! (2 ∷ 0 ∷ []) $
           use2 𝓛 (raw ((RecordAt 𝓛 mem run).pre (to_at i.0))) (goes_at i.0 (place-fits i)) $
           -- [what `record_at` asks; what the slice owns; _5; …; _4; …; _3; …; _2; …; _1; …; _0; …]
-          asks ! fm record-at.ended (record-at.clauses 𝓛 mem run) known_at_lem (to_at i.0) (‵ (flft κ q) ⊛ ‵ ftrue) refl (λ r ws. r ≡ get_or ys i.0 noRecord) (λ r ws. refl) val tells
+          asks ! fm record-at.ended (record-at.clauses 𝓛 mem run) known_at_lem (to_at i.0) (‵ (flft κ q) ⊛ ‵ ftrue) refl (λ r ws. r ≡ get_or ys i.0 no_record) (λ r ws. refl) val tells
           (and_then ! (reads ! (from ! (stop !)) (look ! 10 refl)) (and_then ! (reads ! (from ! (stop !)) (look ! 6 refl)) (no_more !))) (λ r ws is e. land ! (from ! (stop !)) (init ! 3 refl (typed r is)) $
           use0 𝓛 (raw ((WithRecord 𝓛 mem run).pre (to-with (loading ys i.0) i.0 r)))
-          (hands 𝓛 with-record.ended (with-record.clauses 𝓛 mem run) (to-with (loading ys i.0) i.0 r) refl (copied-makes 𝓛, (uint_Makes 𝓛 w64, (makes 𝓛, tt))) (i.1.1, ((refl, place-fits i), (is, tt)))) $
+          (hands 𝓛 with-record.ended (with-record.clauses 𝓛 mem run) (to-with (loading ys i.0) i.0 r) refl (copied_makes 𝓛, (uint_Makes 𝓛 w64, (makes 𝓛, tt))) (i.1.1, ((refl, place-fits i), (is, tt)))) $
           -- [what `with_record` asks; the token; nothing said; what the slice owns; _5; …; _4; …; _3; …; _2; …; _1; …; _0; …]
-          asks ! fm with-record.ended (with-record.clauses 𝓛 mem run) known-with (to-with (loading ys i.0) i.0 r) (‵ ftrue) refl (λ r' ws'. r' ≡ set (loading ys i.0) i.0 r) (λ r' ws'. refl) copied-val copied-tells
-          (and_then ! (reads ! (from ! (stop !)) (look ! 10 refl)) (and_then ! (reads ! (from ! (stop !)) (look ! 8 refl)) (and_then ! (reads ! (from ! (stop !)) (look ! 4 refl)) (no_more !)))) (λ r' ws' is' e'. land ! (from ! (stop !)) (store ! 11 refl (copied-typed 𝓛 r' is')) $
+          asks ! fm with-record.ended (with-record.clauses 𝓛 mem run) known-with (to-with (loading ys i.0) i.0 r) (‵ ftrue) refl (λ r' ws'. r' ≡ set (loading ys i.0) i.0 r) (λ r' ws'. refl) copied_val copied_tells
+          (and_then ! (reads ! (from ! (stop !)) (look ! 10 refl)) (and_then ! (reads ! (from ! (stop !)) (look ! 8 refl)) (and_then ! (reads ! (from ! (stop !)) (look ! 4 refl)) (no_more !)))) (λ r' ws' is' e'. land ! (from ! (stop !)) (store ! 11 refl (copied_typed 𝓛 r' is')) $
           -- [true; nothing said; the token; nothing said; what the slice owns; _5; …; _4; …; _3; …; _2; …; _1; …; _0; …]
-          let grown : r' ≡ loading ys (i.0 + 1) = e' ∙ ap (set (loading ys i.0) i.0) e ∙ loading-more ys i.0 (ltb→lt i.0 32 less) in
+          let grown : r' ≡ loading ys (i.0 + 1) = e' ∙ ap (set (loading ys i.0) i.0) e ∙ loading_more ys i.0 (ltb→lt i.0 32 less) in
           assigns_last ! (bin ! (reads ! (from ! (stop !)) (look ! 9 refl)) (lit ! tt) (record { fits = next_fits i })) (from ! (stop !)) (store ! 9 refl (tt, record { fits = next_fits i })) $
-          forget ! 5 refl $ forget ! 7 refl $ rewrite ! 11 (λ (l : List Preset). ‵ (fat full_share copied-mir l₂ 0 (copied-val l))) grown refl $
+          forget ! 5 refl $ forget ! 7 refl $ rewrite ! 11 (λ (l : List Preset). ‵ (fat full_share copied_mir l₂ 0 (copied_val l))) grown refl $
           move ! (2 ∷ []) $ split ! $ keep ! (0 ∷ 5 ∷ 6 ∷ 7 ∷ 8 ∷ 9 ∷ 10 ∷ 11 ∷ 12 ∷ 13 ∷ 14 ∷ 15 ∷ 16 ∷ 17 ∷ []) $
-          again ! Nearer At i (i.0 + 1, (next_le i less, subst (λ (l : List Preset). Is Bank l (copied-val l ∷ [])) grown is')) (nearer i less))))
+          again ! Nearer At i (i.0 + 1, (next_le i less, subst (λ (l : List Preset). Is Bank l (copied_val l ∷ [])) grown is')) (nearer i less))))
           (λ over. exec ! C Λ En mir.t-4 (at_ret En Post) $
-          assigns ! (of_opd ! (reads ! (from ! (stop !)) (look ! 8 refl))) (from ! (stop !)) (init ! 12 refl (copied-typed 𝓛 (loading ys i.0) i.1.1)) $
-          returns ! (look ! 12 refl) $ leaves-fn ! 2 (full refl refl & full refl refl & full refl refl & full refl refl & full refl refl & empty refl refl & none) $
-          keep ! (0 ∷ []) $ by ! (exits (loading ys i.0) i.1.1 (ap (loading ys) (at-end i over) ∙ loading-all ys)))
+          assigns ! (of_opd ! (reads ! (from ! (stop !)) (look ! 8 refl))) (from ! (stop !)) (init ! 12 refl (copied_typed 𝓛 (loading ys i.0) i.1.1)) $
+          returns ! (look ! 12 refl) $ leaves_fn ! 2 (full refl refl & full refl refl & full refl refl & full refl refl & full refl refl & empty refl refl & none) $
+          keep ! (0 ∷ []) $ by ! (exits (loading ys i.0) i.1.1 (ap (loading ys) (at_end i over) ∙ loading_all ys)))
 
     walk : length ys < 2 ^ 64 → ent 𝓤 (on_entry 𝓛 load.signature (κ, tt) (q, tt) (s, tt) (v ∷ [], tt)) (WpFn 𝓤 H C Λ code.function (v ∷ []) Post)
     walk g =
@@ -205,17 +205,17 @@ module _ {M : Type 1} {𝓤 : Ura M} (𝓛 : Logic 𝓤) (mem : Memory → SProp
         alloc1 ! (λ l₀. alloc1 ! (λ l₁. alloc1 ! (λ l₂. alloc1 ! (λ l₃. alloc1 ! (λ l₄. alloc1 ! (λ l₅. alloc0 ! $ params1 ! $ pass1 ! (init ! 8 refl (tt, (tt, (record { fits = g }, tt)))) $ pass0 ! $
         -- [_5; …; _4; …; _3; …; _2; …; _1; …; _0; …; the token; what presets owns]
         use0 𝓛 (raw ((NoRecords 𝓛 mem run).pre to_none)) (hands 𝓛 no-records.ended (no-records.clauses 𝓛 mem run) to_none refl tt tt) $
-        asks ! fm no-records.ended (no-records.clauses 𝓛 mem run) known-none to_none (‵ ftrue) refl (λ r ws. r ≡ replicate 32 noRecord) (λ r ws. refl) copied-val copied-tells (no_more !) (λ r ws is e.
-        land ! (from ! (stop !)) (init ! 8 refl (copied-typed 𝓛 r is)) $ rewrite ! 8 (λ (l : List Preset). ‵ (fat full_share copied-mir l₂ 0 (copied-val l))) e refl $
+        asks ! fm no-records.ended (no-records.clauses 𝓛 mem run) known-none to_none (‵ ftrue) refl (λ r ws. r ≡ replicate 32 no_record) (λ r ws. refl) copied_val copied_tells (no_more !) (λ r ws is e.
+        land ! (from ! (stop !)) (init ! 8 refl (copied_typed 𝓛 r is)) $ rewrite ! 8 (λ (l : List Preset). ‵ (fat full_share copied_mir l₂ 0 (copied_val l))) e refl $
         assigns ! (of_opd ! (lit ! tt)) (from ! (stop !)) (init ! 6 refl (tt, record { fits = lit< tt })) $
         move ! (15 ∷ []) $ fsplit ! $ move ! (16 ∷ []) $ split ! $ keep ! (0 ∷ 2 ∷ 6 ∷ 7 ∷ 8 ∷ 9 ∷ 10 ∷ 11 ∷ 12 ∷ 13 ∷ 14 ∷ 15 ∷ 16 ∷ 17 ∷ []) $
-        first ! $ blocks ! $ loops ! 𝓣 Nearer Nearer-wf (At l₀ l₁ l₂ l₃ l₄ l₅) (turns l₀ l₁ l₂ l₃ l₄ l₅) (0, (lit≤ tt, subst (λ (l : List Preset). Is Bank l (copied-val l ∷ [])) e is)))))))))
+        first ! $ blocks ! $ loops ! 𝓣 Nearer Nearer-wf (At l₀ l₁ l₂ l₃ l₄ l₅) (turns l₀ l₁ l₂ l₃ l₄ l₅) (0, (lit≤ tt, subst (λ (l : List Preset). Is Bank l (copied_val l ∷ [])) e is)))))))))
 
 meets : {M : Type 1} {𝓤 : Ura M} (𝓛 : Logic 𝓤) → (mem : Memory → SProp 𝓤) (run : Routine → Fun 𝓤) (𝓣 : Tables 𝓤 𝓛.H)
     → Triple 𝓤 (𝓣.C #no-records) (NoRecords 𝓛 mem run) → Triple 𝓤 (𝓣.C #record-at) (RecordAt 𝓛 mem run) → Triple 𝓤 (𝓣.C #with-record) (WithRecord 𝓛 mem run)
     → Meets 𝓛 load.signature (WpFn 𝓤 𝓛.H 𝓣.C 𝓣.Λ code.function) (load.spec 𝓛 mem run)
 meets 𝓛 mem run 𝓣 known-none known_at_lem known-with =
-    meets-by 𝓛 load.ended stayed (Goes-dropped 𝓛 1 (shr_slice_of (0 ∷ []) tt (plain (λ _. T.the_row))) yes (λ κs x f. refl), tt) (load.clauses 𝓛 mem run) code.function 𝓣
+    meets_by 𝓛 load.ended stayed (Goes-dropped 𝓛 1 (shr_slice_of (0 ∷ []) tt (plain (λ _. T.the_row))) yes (λ κs x f. refl), tt) (load.clauses 𝓛 mem run) code.function 𝓣
     (λ κs. (shr_slice_vals, tt)) (λ κs. (shr_slice_Tells (named 0) κs.0 T.the_row, tt)) (λ κs qs bounds a g are. walk 𝓛 mem run κs.0 qs.0 a.0 𝓣 known-none known_at_lem known-with are.0.0.1.0)
 
 pub load_spec : {M : Type 1} → stated.statement M

@@ -37,12 +37,12 @@ use denote.Triple.Spec.{Meets, triple_of}
 use denote.Triple.Table.{entered}
 use denote.Triple.Walked.{says, Stays, stay_dropped, walk_of, Goes-dropped, ends_at}
 use denote.Exit.{yes}
-use Rattle.station.specs.Types.{noRecord}
+use Rattle.station.specs.Types.{no_record}
 use Rattle.station.specs.declared.types.Preset.{Preset}
 use Rattle.station.specs.contracts.types.Preset as T
 use Rattle.station.proofs.types.Preset.TheLaws as T'
-use Rattle.station.proofs.records.RecordRow.{val, vals, tells, copies, makes, typed, zeros-are}
-use Rattle.station.proofs.WalkSteps.{full, empty, ◌&◌, none, leaves-fn, meets-by}
+use Rattle.station.proofs.records.RecordRow.{val, vals, tells, copies, makes, typed, zeros_are}
+use Rattle.station.proofs.WalkSteps.{full, empty, ◌&◌, none, leaves_fn, meets_by}
 use Rattle.station.specs.contracts.records.record_at.Key.{name as #record-at}
 use Rattle.station.specs.contracts.records.record_at as record-at
 use Rattle.station.proofs.records.record_at.Statement as stated
@@ -72,7 +72,7 @@ module _ {M : Type 1} {𝓤 : Ura M} (𝓛 : Logic 𝓤) (mem : Memory → SProp
   abbrev Post : Val → SProp 𝓤
   Post = (walk_of 𝓛 record-at.ended stayed (record-at.clauses 𝓛 mem run)).post bound
 
-  exits : (r : Preset) → Is T.the_row r (vals r) → r ≡ get_or ys i noRecord → ent 𝓤 (A.lft κ q) (Post (val r))
+  exits : (r : Preset) → Is T.the_row r (vals r) → r ≡ get_or ys i no_record → ent 𝓤 (A.lft κ q) (Post (val r))
   exits r is e =
       qed 𝓛 (‵ (flft κ q) ∷ []) ∵
       suffices ! _ (ends_at 𝓛 record-at.ended stayed (record-at.clauses 𝓛 mem run) bound (val r) r (tt, (tt, tt)) (tt, (tt, tt))) $ says ! e $
@@ -104,28 +104,28 @@ module _ {M : Type 1} {𝓤 : Ura M} (𝓛 : Logic 𝓤) (mem : Memory → SProp
         assigns ! (bin ! (load ! (from ! (fld ! refl (stop !))) (look_in ! 15 (sub ! 0 refl (whole !)))) (load ! (from ! (stop !)) (look ! 7 refl)) tt) (from ! (stop !)) (init ! 5 refl (tt, tt)) $
         rewrite ! 5 (λ (p : ℕ). ‵ (fat full_share ty_ptr l₆ 0 (vptr b p))) (sym (place_is 4 o i)) refl $
         looks_slice ! tt T.the_row (Is T.the_row) (shows 𝓛 T.the_row) vals tells (copies 𝓛) ys b o (λ q'.
-        elem_out ! T.the_row (Is T.the_row) (shows 𝓛 T.the_row) vals tells q' ys i noRecord b o (ltb→lt i (length ys) less) (λ is.
+        elem_out ! T.the_row (Is T.the_row) (shows 𝓛 T.the_row) vals tells q' ys i no_record b o (ltb→lt i (length ys) less) (λ is.
         -- [presets[i]; what it owns; the others; what shuts; the fractured borrow; true; _7; …; _6; …; _5; …; _4; …; _3; …; _2; …; _1; …; _0; …]
         assigns ! (of_opd ! (load ! (from ! (hop ! (look ! 8 refl) (stop !))) (look_raw ! 0 refl))) (from ! (stop !)) (init ! 6 refl (typed _ is)) $
         assigns ! (of_opd ! (load ! (from ! (stop !)) (look ! 6 refl))) (from ! (stop !)) (init ! 20 refl (typed _ is)) $
-        elem_back ! T.the_row q' ys i noRecord (vals (get_or ys i noRecord)) b o (ltb→lt i (length ys) less) $ shuts_slice ! tt T.the_row q' ys b o $
-        returns_within ! Post refl (look ! 17 refl) $ leaves-fn ! 3 (full refl refl & full refl refl & full refl refl & full refl refl & full refl refl & full refl refl & full refl refl & full refl refl & none) $
-        keep ! (0 ∷ []) $ by ! (exits (get_or ys i noRecord) is refl))))
+        elem_back ! T.the_row q' ys i no_record (vals (get_or ys i no_record)) b o (ltb→lt i (length ys) less) $ shuts_slice ! tt T.the_row q' ys b o $
+        returns_within ! Post refl (look ! 17 refl) $ leaves_fn ! 3 (full refl refl & full refl refl & full refl refl & full refl refl & full refl refl & full refl refl & full refl refl & full refl refl & none) $
+        keep ! (0 ∷ []) $ by ! (exits (get_or ys i no_record) is refl))))
         (λ over. skips ! $ exec ! C Λ (En l₀ l₁ l₂ l₃ l₄ l₅ l₆ l₇) mir.t-4 (at_ret (En l₀ l₁ l₂ l₃ l₄ l₅ l₆ l₇) Post) $
-        assigns ! (agg ! (and_then ! (lit ! tt) (and_then ! (lit ! tt) (and_then ! (lit ! tt) (and_then ! (lit ! tt) (no_more !)))))) (from ! (stop !)) (init ! 17 refl (typed noRecord zeros-are)) $
-        returns ! (look ! 17 refl) $ leaves-fn ! 3 (full refl refl & full refl refl & full refl refl & full refl refl & full refl refl & empty refl refl & empty refl refl & empty refl refl & none) $
-        keep ! (1 ∷ []) $ by ! (exits noRecord zeros-are (sym (get_or-eq_default ys noRecord (nltb→le i (length ys) over)))))))))))))
+        assigns ! (agg ! (and_then ! (lit ! tt) (and_then ! (lit ! tt) (and_then ! (lit ! tt) (and_then ! (lit ! tt) (no_more !)))))) (from ! (stop !)) (init ! 17 refl (typed no_record zeros_are)) $
+        returns ! (look ! 17 refl) $ leaves_fn ! 3 (full refl refl & full refl refl & full refl refl & full refl refl & full refl refl & empty refl refl & empty refl refl & empty refl refl & none) $
+        keep ! (1 ∷ []) $ by ! (exits no_record zeros_are (sym (get_or-eq_default ys no_record (nltb→le i (length ys) over)))))))))))))
 
 meets : {M : Type 1} {𝓤 : Ura M} (𝓛 : Logic 𝓤) → (mem : Memory → SProp 𝓤) (run : Routine → Fun 𝓤) (𝓣 : Tables 𝓤 𝓛.H)
     → Meets 𝓛 record-at.signature (WpFn 𝓤 𝓛.H 𝓣.C 𝓣.Λ code.function) (record-at.spec 𝓛 mem run)
 meets 𝓛 mem run 𝓣 =
-    meets-by 𝓛 record-at.ended stayed (Goes-dropped 𝓛 1 (shr_slice_of (0 ∷ []) tt (plain (λ _. T.the_row))) yes (λ κs x f. refl), (Goes-dropped 𝓛 1 (plain (λ _. usize)) yes (λ κs x f. refl), tt))
+    meets_by 𝓛 record-at.ended stayed (Goes-dropped 𝓛 1 (shr_slice_of (0 ∷ []) tt (plain (λ _. T.the_row))) yes (λ κs x f. refl), (Goes-dropped 𝓛 1 (plain (λ _. usize)) yes (λ κs x f. refl), tt))
     (record-at.clauses 𝓛 mem run) code.function 𝓣 (λ κs. (shr_slice_vals, (uint_vals w64, tt))) (λ κs. (shr_slice_Tells (named 0) κs.0 T.the_row, (uint_Tells w64, tt)))
     (λ κs qs bounds a g are. walk 𝓛 mem run κs.0 qs.0 a.0.ref_ptr.0 a.0.ref_ptr.1 0 a.0.now a.1.0 𝓣.C 𝓣.Λ are.0.0.1 are.1.0.1)
 
-pub record-at-spec : {M : Type 1} → stated.statement M
+pub record_at_spec : {M : Type 1} → stated.statement M
 unfolding code.routine tables_of
-record-at-spec 𝓤 𝓛 𝓜 𝓡 =
+record_at_spec 𝓤 𝓛 𝓜 𝓡 =
     entered 𝓤 𝓛.H (triple_of 𝓛 record-at.signature (record-at.spec 𝓛 𝓜.mem 𝓡.run))
     (tables 𝓤 𝓛.H 𝓜 𝓡 code.env).C (tables 𝓤 𝓛.H 𝓜 𝓡 code.env).Λ #record-at code.function (code.unfolded 𝓤 𝓛.H 𝓜 𝓡)
     (meets 𝓛 𝓜.mem 𝓡.run (tables_of 𝓤 𝓛.H 𝓜 (tables 𝓤 𝓛.H 𝓜 𝓡 code.env)))

@@ -34,7 +34,7 @@ use denote.Triple.Walked.{says, Stays, stay_dropped, walk_of, Goes-dropped, ends
 use denote.Exit.{yes}
 use Rattle.station.specs.declared.types.Preset.{Preset}
 use Rattle.station.specs.contracts.types.Preset as T
-use Rattle.station.proofs.WalkSteps.{full, ◌&◌, none, leaves-fn, meets-by}
+use Rattle.station.proofs.WalkSteps.{full, ◌&◌, none, leaves_fn, meets_by}
 use Rattle.station.specs.contracts.records.record_count.Key.{name as #record-count}
 use Rattle.station.specs.contracts.records.record_count as record-count
 use Rattle.station.proofs.records.record_count.Statement as stated
@@ -71,17 +71,17 @@ module _ {M : Type 1} {𝓤 : Ura M} (𝓛 : Logic 𝓤) (mem : Memory → SProp
       qed 𝓛 ((‵ (flft κ q) ⊛ ‵ ftrue) ∷ ‵ (owns (ShrSlice (named 0) κ T.the_row ∷ []) (s, tt) (v ∷ [], tt)) ∷ []) ∵ enter ! C Λ code.function (v ∷ []) _ $
       alloc1 ! (λ l₀. alloc1 ! (λ l₁. alloc0 ! $ params1 ! $ pass1 ! (init ! 0 refl (tt, (tt, (record { fits = g }, tt)))) $ pass0 ! $
       assigns ! (of_opd ! (load ! (from ! (fld ! refl (stop !))) (look_in ! 0 (sub ! 1 refl (whole !))))) (from ! (stop !)) (init ! 2 refl (tt, record { fits = g })) $
-      returns ! (look ! 2 refl) $ leaves-fn ! 0 (full refl refl & full refl refl & none) $ split ! $ keep ! (0 ∷ []) $ by ! (exits g)))
+      returns ! (look ! 2 refl) $ leaves_fn ! 0 (full refl refl & full refl refl & none) $ split ! $ keep ! (0 ∷ []) $ by ! (exits g)))
 
 meets : {M : Type 1} {𝓤 : Ura M} (𝓛 : Logic 𝓤) → (mem : Memory → SProp 𝓤) (run : Routine → Fun 𝓤) (𝓣 : Tables 𝓤 𝓛.H)
     → Meets 𝓛 record-count.signature (WpFn 𝓤 𝓛.H 𝓣.C 𝓣.Λ code.function) (record-count.spec 𝓛 mem run)
 meets 𝓛 mem run 𝓣 =
-    meets-by 𝓛 record-count.ended stayed (Goes-dropped 𝓛 1 (shr_slice_of (0 ∷ []) tt (plain (λ _. T.the_row))) yes (λ κs x f. refl), tt) (record-count.clauses 𝓛 mem run) code.function 𝓣
+    meets_by 𝓛 record-count.ended stayed (Goes-dropped 𝓛 1 (shr_slice_of (0 ∷ []) tt (plain (λ _. T.the_row))) yes (λ κs x f. refl), tt) (record-count.clauses 𝓛 mem run) code.function 𝓣
     (λ κs. (shr_slice_vals, tt)) (λ κs. (shr_slice_Tells (named 0) κs.0 T.the_row, tt)) (λ κs qs bounds a g are. walk 𝓛 mem run κs.0 qs.0 a.0 𝓣.C 𝓣.Λ are.0.0.1.0)
 
-pub record-count-spec : {M : Type 1} → stated.statement M
+pub record_count_spec : {M : Type 1} → stated.statement M
 unfolding code.routine tables_of
-record-count-spec 𝓤 𝓛 𝓜 𝓡 =
+record_count_spec 𝓤 𝓛 𝓜 𝓡 =
     entered 𝓤 𝓛.H (triple_of 𝓛 record-count.signature (record-count.spec 𝓛 𝓜.mem 𝓡.run))
     (tables 𝓤 𝓛.H 𝓜 𝓡 code.env).C (tables 𝓤 𝓛.H 𝓜 𝓡 code.env).Λ #record-count code.function (code.unfolded 𝓤 𝓛.H 𝓜 𝓡)
     (meets 𝓛 𝓜.mem 𝓡.run (tables_of 𝓤 𝓛.H 𝓜 (tables 𝓤 𝓛.H 𝓜 𝓡 code.env)))

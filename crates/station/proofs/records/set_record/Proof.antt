@@ -38,12 +38,12 @@ use denote.Triple.Spec.{Meets, triple_of}
 use denote.Triple.Table.{entered}
 use denote.Triple.Walked.{says, Stays, stay_slice, stay_dropped, walk_of, Goes-slice, Goes-dropped, ends_at}
 use denote.Exit.{yes}
-use Rattle.station.specs.Types.{noRecord}
+use Rattle.station.specs.Types.{no_record}
 use Rattle.station.specs.declared.types.Preset.{Preset}
 use Rattle.station.specs.contracts.types.Preset as T
 use Rattle.station.proofs.types.Preset.TheLaws as T'
 use Rattle.station.proofs.records.RecordRow.{val, vals, tells, makes, typed}
-use Rattle.station.proofs.WalkSteps.{full, empty, ◌&◌, none, leaves-fn, meets-by}
+use Rattle.station.proofs.WalkSteps.{full, empty, ◌&◌, none, leaves_fn, meets_by}
 use Rattle.station.specs.contracts.records.set_record.Key.{name as #set-record}
 use Rattle.station.specs.contracts.records.set_record as set-record
 use Rattle.station.proofs.records.set_record.Statement as stated
@@ -109,7 +109,7 @@ module _ {M : Type 1} {𝓤 : Ura M} (𝓛 : Logic 𝓤) (mem : Memory → SProp
         assigns ! (bin ! (load ! (from ! (fld ! refl (stop !))) (look_in ! 15 (sub ! 0 refl (whole !)))) (load ! (from ! (stop !)) (look ! 5 refl)) tt) (from ! (stop !)) (init ! 3 refl (tt, tt)) $
         rewrite ! 3 (λ (p : ℕ). ‵ (fat full_share ty_ptr l₇ 0 (vptr b p))) (sym (place_is 4 o i)) refl $
         move ! (1 ∷ []) $ fsplit ! $ drop ! $ fsplit ! $ opens_slice ! tt T.the_row ys b o $
-        elem_out ! T.the_row (Is T.the_row) (shows 𝓛 T.the_row) vals tells full_share ys i noRecord b o (ltb→lt i (length ys) less) (λ _.
+        elem_out ! T.the_row (Is T.the_row) (shows 𝓛 T.the_row) vals tells full_share ys i no_record b o (ltb→lt i (length ys) less) (λ _.
         -- [presets[i]; what it owns; the others; the open borrow; obs; auth; true; _7; …; _6; …; _5; …; _4; …; _3; …; _2; …; _1; …; _0; …]
         assigns_last ! (of_opd ! (load ! (from ! (stop !)) (look ! 15 refl))) (from ! (hop ! (look ! 7 refl) (stop !))) (store_raw ! 0 refl (typed r is)) $
         exec ! C Λ (En l₀ l₁ l₂ l₃ l₄ l₅ l₆ l₇) mir.t-4 (at_ret (En l₀ l₁ l₂ l₃ l₄ l₅ l₆ l₇) Post) $
@@ -117,24 +117,24 @@ module _ {M : Type 1} {𝓤 : Ura M} (𝓛 : Logic 𝓤) (mem : Memory → SProp
         closes_slice ! tt T.the_row ys (set ys i r) (length-set ys i r) b o $
         -- [obs; the borrow; the token; true; _7; …]
         assigns ! (of_opd ! (unit_lit !)) (from ! (stop !)) (init ! 18 refl (tt, tt)) $
-        returns ! (look ! 18 refl) $ leaves-fn ! 4 (full refl refl & full refl refl & full refl refl & full refl refl & full refl refl & full refl refl & full refl refl & full refl refl & none) $
+        returns ! (look ! 18 refl) $ leaves_fn ! 4 (full refl refl & full refl refl & full refl refl & full refl refl & full refl refl & full refl refl & full refl refl & full refl refl & none) $
         fjoin ! $ pure_i ! (mut_slice_at T.the_row (x (set ys i r)) (v ∷ [])) (tt, (tt, tt)) (ap (λ (m : ℕ). slice_val (b, o) m ∷ []) (sym (length-set ys i r)), subst (Room T.the_row) (sym (length-set ys i r)) sized) $ fjoin ! $
         keep ! (1 ∷ 0 ∷ []) $ by ! (exits (set ys i r) refl (length-set ys i r))))
         (λ over. skips ! $ exec ! C Λ (En l₀ l₁ l₂ l₃ l₄ l₅ l₆ l₇) mir.t-4 (at_ret (En l₀ l₁ l₂ l₃ l₄ l₅ l₆ l₇) Post) $
         assigns ! (of_opd ! (unit_lit !)) (from ! (stop !)) (init ! 17 refl (tt, tt)) $
-        returns ! (look ! 17 refl) $ leaves-fn ! 3 (full refl refl & full refl refl & full refl refl & full refl refl & full refl refl & full refl refl & empty refl refl & empty refl refl & none) $
+        returns ! (look ! 17 refl) $ leaves_fn ! 3 (full refl refl & full refl refl & full refl refl & full refl refl & full refl refl & full refl refl & empty refl refl & empty refl refl & none) $
         keep ! (0 ∷ 1 ∷ []) $ by ! (exits ys (sym (set_out ys i r (nltb→le i (length ys) over))) refl))))))))))
 
 meets : {M : Type 1} {𝓤 : Ura M} (𝓛 : Logic 𝓤) → (mem : Memory → SProp 𝓤) (run : Routine → Fun 𝓤) (𝓣 : Tables 𝓤 𝓛.H)
     → Meets 𝓛 set-record.signature (WpFn 𝓤 𝓛.H 𝓣.C 𝓣.Λ code.function) (set-record.spec 𝓛 mem run)
 meets 𝓛 mem run 𝓣 =
-    meets-by 𝓛 set-record.ended stayed (Goes-slice 𝓛 1 0 tt (plain (λ _. T.the_row)), (Goes-dropped 𝓛 1 (plain (λ _. usize)) yes (λ κs x f. refl), (Goes-dropped 𝓛 1 (plain (λ _. T.the_row)) yes (λ κs x f. refl), tt)))
+    meets_by 𝓛 set-record.ended stayed (Goes-slice 𝓛 1 0 tt (plain (λ _. T.the_row)), (Goes-dropped 𝓛 1 (plain (λ _. usize)) yes (λ κs x f. refl), (Goes-dropped 𝓛 1 (plain (λ _. T.the_row)) yes (λ κs x f. refl), tt)))
     (set-record.clauses 𝓛 mem run) code.function 𝓣 (λ κs. (mut_slice_vals, (uint_vals w64, (vals, tt)))) (λ κs. (mut_slice_Tells (named 0) κs.0 T.the_row, (uint_Tells w64, (tells, tt))))
     (λ κs qs bounds a g are. walk 𝓛 mem run κs.0 qs.0 a.0.ref_ptr.0 a.0.ref_ptr.1 a.0.ghost_name a.0.now a.1.0 a.1.1.0 𝓣.C 𝓣.Λ are.0.0.1 are.1.0.1 are.1.1.0)
 
-pub set-record-spec : {M : Type 1} → stated.statement M
+pub set_record_spec : {M : Type 1} → stated.statement M
 unfolding code.routine tables_of
-set-record-spec 𝓤 𝓛 𝓜 𝓡 =
+set_record_spec 𝓤 𝓛 𝓜 𝓡 =
     entered 𝓤 𝓛.H (triple_of 𝓛 set-record.signature (set-record.spec 𝓛 𝓜.mem 𝓡.run))
     (tables 𝓤 𝓛.H 𝓜 𝓡 code.env).C (tables 𝓤 𝓛.H 𝓜 𝓡 code.env).Λ #set-record code.function (code.unfolded 𝓤 𝓛.H 𝓜 𝓡)
     (meets 𝓛 𝓜.mem 𝓡.run (tables_of 𝓤 𝓛.H 𝓜 (tables 𝓤 𝓛.H 𝓜 𝓡 code.env)))

@@ -21,5 +21,5 @@ returns-2 c =
     let a = c.before.args in
     sym (set_out a.copied a.at a.given (omega (arith, c.before.well-formed.0)))
 
-pub with-record-spec : {M : Type 1} → statement M
-with-record-spec = tie.close (tie.spec mul-after array-set-from-after returns returns-2)
+pub with_record_spec : {M : Type 1} → statement M
+with_record_spec = tie.close (tie.spec mul-after array-set-from-after returns returns-2)

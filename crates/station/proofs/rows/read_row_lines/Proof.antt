@@ -6,10 +6,10 @@ use native.Mathlib.Omega.{arith}
 use mathlib.Core.Path.{sym, ◌∙◌}
 use lib.ListN.{length}
 use Rattle.station.specs.Row.{RowIn, with_row}
-use Rattle.station.specs.method.RowFields.{rowIs}
+use Rattle.station.specs.method.RowFields.{row_is}
 use borrow.Author.Rules.{rules}
 use Rattle.laws.proofs.Tests.{false_of_not, true_of_not}
-use Rattle.station.proofs.rows.RowLoop.{AtRow, rows_start, RowRead, row-further, row_fits, rows_next, out-no-row, out-outside, out-rows}
+use Rattle.station.proofs.rows.RowLoop.{AtRow, rows_start, RowRead, row_further, row_fits, rows_next, out_no_row, out_outside, out_rows}
 use Rattle.station.proofs.rows.read_row_lines.Statement.{statement}
 use Rattle.station.proofs.rows.read_row_lines.Tie as tie
 
@@ -40,7 +40,7 @@ refuse-requires c κs = search rules
 returns : tie.Need-returns invariant-loop decreases-loop
 returns c = λ ps.
     let r = c.before.before.before in
-    c.refuse.ensures ∙ out-no-row (row_read r) (false_of_not r.row_at.result.found c.before.if1.true) ps
+    c.refuse.ensures ∙ out_no_row (row_read r) (false_of_not r.row_at.result.found c.before.if1.true) ps
 
 row-in-requires : tie.Need-row-in-requires invariant-loop decreases-loop
 row-in-requires c κs = search rules
@@ -57,11 +57,11 @@ returns-2 c = λ ps.
     let r = e.before.before.before.before in
     let s = r.before.before.before.before in
     c.refuse2.ensures
-    ∙ out-outside (row_read r) s.requires.1 s.requires.2 (true_of_not r.row_at.result.found e.before.before.if1.false)
+    ∙ out_outside (row_read r) s.requires.1 s.requires.2 (true_of_not r.row_at.result.found e.before.before.if1.false)
     (sym e.before.row_in.ensures ∙ false_of_not e.before.row_in.result e.if2.true) ps
 
 -- the row lies in the widest frame
-fits : (c : tie.Else2 invariant-loop decreases-loop) → RowIn 64 8 (rowIs c.before.before.before.before.row_at.result)
+fits : (c : tie.Else2 invariant-loop decreases-loop) → RowIn 64 8 (row_is c.before.before.before.before.row_at.result)
 fits c =
     let r = c.before.before.before.before in
     let s = r.before.before.before.before in
@@ -97,7 +97,7 @@ loop-less c =
     let e = c.before.before in
     let r = e.before.before.before.before in
     let a = row_read r in
-    omega (arith, row-further a (true_of_not r.row_at.result.found e.before.before.if1.false), a.within)
+    omega (arith, row_further a (true_of_not r.row_at.result.found e.before.before.if1.false), a.within)
 
 loop-again : tie.Need-loop-preserved invariant-loop decreases-loop
 unfolding with_row
@@ -113,10 +113,10 @@ accept-requires : tie.Need-accept-requires invariant-loop decreases-loop
 accept-requires c κs = search rules
 
 returns-3 : tie.Need-returns-3 invariant-loop decreases-loop
-returns-3 c = λ ps. c.accept.ensures ∙ out-rows c.before.before.loop.invariant c.before.loop-test.false ps
+returns-3 c = λ ps. c.accept.ensures ∙ out_rows c.before.before.loop.invariant c.before.loop-test.false ps
 
-pub read-row-lines-spec : {M : Type 1} → statement M
-read-row-lines-spec =
+pub read_row_lines_spec : {M : Type 1} → statement M
+read_row_lines_spec =
     tie.close
     (tie.spec
     invariant-loop

@@ -4,8 +4,8 @@ use native.Mathlib.Omega.{arith}
 use mathlib.Core.Path.{sym, ◌∙◌}
 use borrow.Author.Rules.{rules}
 use Rattle.laws.proofs.Tests.{false_of_not, true_of_not}
-use Rattle.station.proofs.check.ValidRecord.{valid-head}
-use Rattle.station.proofs.rows.RowCauses.{rows_long, rows-invalid, rows-tried}
+use Rattle.station.proofs.check.ValidRecord.{valid_head}
+use Rattle.station.proofs.rows.RowCauses.{rows_long, rows_invalid, rows_tried}
 use Rattle.station.proofs.rows.read_rows_by_value.Statement.{statement}
 use Rattle.station.proofs.rows.read_rows_by_value.Tie as tie
 
@@ -28,13 +28,13 @@ returns-2 c =
     let a = c.before.before.before.before.before.args in
     let v = c.before.before.valid-record in
     c.refuse2.ensures
-    ∙ rows-invalid 32 a.head a.presets a.text.now (omega arith) (omega arith) (sym v.ensures ∙ false_of_not v.result c.before.if2.true)
+    ∙ rows_invalid 32 a.head a.presets a.text.now (omega arith) (omega arith) (sym v.ensures ∙ false_of_not v.result c.before.if2.true)
 
 read-row-lines-requires : tie.Need-read-row-lines-requires
 read-row-lines-requires c κs =
     let a = c.before.before.before.before.args in
     let v = c.before.valid-record in
-    let w = valid-head a.head a.presets (sym v.ensures ∙ true_of_not v.result c.if2.false) in
+    let w = valid_head a.head a.presets (sym v.ensures ∙ true_of_not v.result c.if2.false) in
     (omega arith, w.slots-high, w.bridges-high)
 
 returns-3 : tie.Need-returns-3
@@ -42,7 +42,7 @@ returns-3 c =
     let a = c.before.before.before.before.before.args in
     let v = c.before.before.valid-record in
     c.read-row-lines.ensures a.presets
-    ∙ rows-tried 32 a.head a.presets a.text.now (omega arith) (omega arith) (sym v.ensures ∙ true_of_not v.result c.before.if2.false)
+    ∙ rows_tried 32 a.head a.presets a.text.now (omega arith) (omega arith) (sym v.ensures ∙ true_of_not v.result c.before.if2.false)
 
-pub read-rows-by-value-spec : {M : Type 1} → statement M
-read-rows-by-value-spec = tie.close (tie.spec refuse-requires returns valid-record-requires refuse-requires-2 returns-2 read-row-lines-requires returns-3)
+pub read_rows_by_value_spec : {M : Type 1} → statement M
+read_rows_by_value_spec = tie.close (tie.spec refuse-requires returns valid-record-requires refuse-requires-2 returns-2 read-row-lines-requires returns-3)

@@ -22,6 +22,6 @@ returns : tie.Need-returns
 unfolding bytes
 returns c = simp append_assoc at (wrote_then c.before.before.before.before.before.before.before.before.before.before.put.ensures (wrote_then c.before.before.before.before.before.before.two-numbers.ensures c.before.before.bracket-end.ensures))
 
-pub bracket-spec : {M : Type 1} → statement M
-bracket-spec =
+pub bracket_spec : {M : Type 1} → statement M
+bracket_spec =
     tie.close (tie.spec put-requires two-numbers-requires bracket-end-requires same_length returns)

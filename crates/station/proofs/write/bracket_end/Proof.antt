@@ -30,8 +30,8 @@ returns-2 : tie.Need-returns-2
 unfolding bytes
 returns-2 c = rw c.before.before.before.before.before.if1.false c.before.before.word2.ensures
 
-pub bracket-end-spec : {M : Type 1} → statement M
-bracket-end-spec =
+pub bracket_end_spec : {M : Type 1} → statement M
+bracket_end_spec =
     tie.close
     (tie.spec
     slice-aggregate-word

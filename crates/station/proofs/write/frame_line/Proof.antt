@@ -29,8 +29,8 @@ returns : tie.Need-returns
 unfolding print bytes
 returns c = simp append_assoc at (wrote_then c.before.before.before.before.before.before.before.before.before.before.before.word.ensures (wrote_then c.before.before.before.before.before.before.before.two-numbers.ensures c.before.before.word2.ensures))
 
-pub frame-line-spec : {M : Type 1} → statement M
-frame-line-spec =
+pub frame_line_spec : {M : Type 1} → statement M
+frame_line_spec =
     tie.close
     (tie.spec
     slice-aggregate-word

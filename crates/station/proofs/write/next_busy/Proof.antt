@@ -4,13 +4,13 @@ use native.Mathlib.Numerals.{add-one}
 use native.Mathlib.Omega.{arith}
 use mathlib.Core.Path.{◌≡◌, refl, sym, ◌∙◌}
 use Rattle.laws.proofs.Comparisons.{eqb_yes, eqb_no}
-use Rattle.station.specs.method.Runs.{busyFrom}
-use Rattle.station.proofs.write.MaskRuns.{busy-here, busy-next, busy-end}
+use Rattle.station.specs.method.Runs.{busy_from}
+use Rattle.station.proofs.write.MaskRuns.{busy_here, busy_next, busy_end}
 use Rattle.station.proofs.write.next_busy.Statement.{statement}
 use Rattle.station.proofs.write.next_busy.Tie as tie
 
 abbrev invariant-loop : tie.invariant-loop
-invariant-loop mask from i₀ i = busyFrom (64 - i) mask i ≡ busyFrom (64 - from) mask from
+invariant-loop mask from i₀ i = busy_from (64 - i) mask i ≡ busy_from (64 - from) mask from
 
 abbrev decreases-loop : tie.decreases-loop
 decreases-loop mask from i₀ i = 64 - i
@@ -24,7 +24,7 @@ shr-if1 c = omega arith
 returns : tie.Need-returns invariant-loop decreases-loop
 returns c = let i = c.before.before.loop.i in
     let mask = c.before.before.before.args.mask in
-    sym (busy-here 64 mask i (eqb_yes (mask / 2 ^ i % 2) 1 c.if1.true)) ∙ c.before.before.loop.invariant
+    sym (busy_here 64 mask i (eqb_yes (mask / 2 ^ i % 2) 1 c.if1.true)) ∙ c.before.before.loop.invariant
 
 add-i : tie.Need-overflow-add-i invariant-loop decreases-loop
 add-i c = omega arith
@@ -35,12 +35,12 @@ loop-less c = omega arith
 loop-again : tie.Need-loop-preserved invariant-loop decreases-loop
 loop-again c = let i = c.before.before.loop.i in
     let mask = c.before.before.before.args.mask in
-    rw add-one (sym (busy-next 64 mask i c.before.loop-test.true (eqb_no (mask / 2 ^ i % 2) 1 c.if1.false)) ∙ c.before.before.loop.invariant)
+    rw add-one (sym (busy_next 64 mask i c.before.loop-test.true (eqb_no (mask / 2 ^ i % 2) 1 c.if1.false)) ∙ c.before.before.loop.invariant)
 
 returns-2 : tie.Need-returns-2 invariant-loop decreases-loop
-returns-2 c = sym (busy-end 64 c.before.before.args.mask c.before.loop.i c.loop-test.false) ∙ c.before.loop.invariant
+returns-2 c = sym (busy_end 64 c.before.before.args.mask c.before.loop.i c.loop-test.false) ∙ c.before.loop.invariant
 
-pub next-busy-spec : {M : Type 1} → statement M
-next-busy-spec =
+pub next_busy_spec : {M : Type 1} → statement M
+next_busy_spec =
     tie.close
     (tie.spec invariant-loop decreases-loop loop-holds shr-if1 returns add-i loop-less loop-again returns-2)

@@ -47,8 +47,8 @@ returns : tie.Need-returns
 unfolding print bytes
 returns c = simp append_assoc at (wrote_then c.before.before.before.before.before.before.before.before.before.before.before.before.before.before.before.before.before.before.before.before.before.before.before.word.ensures (wrote_then c.before.before.before.before.before.before.before.before.before.before.before.before.before.before.before.before.before.two-numbers.ensures (wrote_then c.before.before.before.before.before.before.before.before.before.before.before.before.before.put.ensures (wrote_then c.before.before.before.before.before.before.before.two-numbers2.ensures c.before.before.word2.ensures))))
 
-pub preset-line-spec : {M : Type 1} → statement M
-preset-line-spec =
+pub preset_line_spec : {M : Type 1} → statement M
+preset_line_spec =
     tie.close
     (tie.spec
     slice-aggregate-word

@@ -7,24 +7,24 @@ use mathlib.Core.List.{map}
 use lib.ListN.{length, take, drop, get_or}
 use lib.Seq.{drop-length, length-take-le}
 use Rattle.station.specs.Text.{join}
-use Rattle.station.specs.Form.{presetLine, print}
-use Rattle.station.specs.Types.{presetIn, presetsIn, noRecord}
+use Rattle.station.specs.Form.{preset_line, print}
+use Rattle.station.specs.Types.{preset_in, presets_in, no_record}
 use Rattle.station.specs.Wrote.{Left}
-use Rattle.station.proofs.output.Runs.{left-all, left-wrote, left-none}
-use Rattle.station.proofs.write.HeadLines.{preset-lines-step}
+use Rattle.station.proofs.output.Runs.{left_all, left_wrote, left_none}
+use Rattle.station.proofs.write.HeadLines.{preset_lines_step}
 use borrow.Author.Rules.{rules}
 use Rattle.station.proofs.write.preset_lines.Statement.{statement}
 use Rattle.station.proofs.write.preset_lines.Tie as tie
 
 abbrev invariant-loop : tie.invariant-loop
 invariant-loop out₀ at count presets place₀ i₀ out position i = (i ≤ count)
-    × Left out₀ at (join (map print (map presetLine (presetsIn count presets)))) out position (join (map print (map presetLine (map presetIn (drop i (take count presets))))))
+    × Left out₀ at (join (map print (map preset_line (presets_in count presets)))) out position (join (map print (map preset_line (map preset_in (drop i (take count presets))))))
 
 abbrev decreases-loop : tie.decreases-loop
 decreases-loop out₀ at count presets place₀ i₀ out position i = count - i
 
 loop-holds : tie.Need-loop-init invariant-loop decreases-loop
-loop-holds c = let a = c.before.args in (omega arith, left-all a.out.now a.at (join (map print (map presetLine (presetsIn a.count a.t3)))))
+loop-holds c = let a = c.before.args in (omega arith, left_all a.out.now a.at (join (map print (map preset_line (presets_in a.count a.t3)))))
 
 mul-preset : tie.Need-overflow-mul-preset invariant-loop decreases-loop
 mul-preset c = omega arith
@@ -47,9 +47,9 @@ loop-again c = let loop = c.before.before.before.before.before.before.loop in
     let n : length a.t3 ≡ 32 = omega arith in (
       omega arith,
       rw add-one
-          (left-wrote (print (presetLine (presetIn (get_or a.t3 loop.i noRecord))))
-          (join (map print (map presetLine (map presetIn (drop (suc loop.i) (take a.count a.t3))))))
-          (rw (preset-lines-step loop.i a.count a.t3 c.before.before.before.before.before.loop-test.true (omega arith)) at loop.invariant.1) c.before.before.preset-line.ensures),
+          (left_wrote (print (preset_line (preset_in (get_or a.t3 loop.i no_record))))
+          (join (map print (map preset_line (map preset_in (drop (suc loop.i) (take a.count a.t3))))))
+          (rw (preset_lines_step loop.i a.count a.t3 c.before.before.before.before.before.loop-test.true (omega arith)) at loop.invariant.1) c.before.before.preset-line.ensures),
     )
 
 same_length : tie.Need-same-length invariant-loop decreases-loop
@@ -61,10 +61,10 @@ returns c = let loop = c.before.loop in
     let n : length a.t3 ≡ 32 = omega arith in
     let m : length (take a.count a.t3) ≡ a.count = length-take-le a.count a.t3 (omega arith) in
     let e : loop.i ≡ length (take a.count a.t3) = omega arith in
-    left-none (rw (e, drop-length (take a.count a.t3)) at loop.invariant.1)
+    left_none (rw (e, drop-length (take a.count a.t3)) at loop.invariant.1)
 
-pub preset-lines-spec : {M : Type 1} → statement M
-preset-lines-spec =
+pub preset_lines_spec : {M : Type 1} → statement M
+preset_lines_spec =
     tie.close
     (tie.spec
     invariant-loop

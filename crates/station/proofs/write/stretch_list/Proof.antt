@@ -6,19 +6,19 @@ use native.Mathlib.Omega.{arith}
 use mathlib.Core.Path.{◌≡◌, refl, sym, ap}
 use mathlib.Core.Bool.{true}
 use lib.Dec.{ltb}
-use Rattle.station.specs.Head.{hasBit}
+use Rattle.station.specs.Head.{has_bit}
 use Rattle.station.specs.Writing.{stretches}
-use Rattle.station.specs.method.Runs.{stretchesFrom, bracketsOf, bracketText}
+use Rattle.station.specs.method.Runs.{stretches_from, brackets_of, bracket_text}
 use Rattle.station.specs.Wrote.{Left}
-use Rattle.station.proofs.write.MaskRuns.{busy-found, busy-high, free-high, from-next-busy, NextRun, next-run, bracket-step}
-use Rattle.station.proofs.output.Runs.{left-all, left-wrote, left-none}
+use Rattle.station.proofs.write.MaskRuns.{busy_found, busy_high, free_high, from_next_busy, NextRun, next_run, bracket_step}
+use Rattle.station.proofs.output.Runs.{left_all, left_wrote, left_none}
 use borrow.Author.Rules.{rules}
 use Rattle.station.proofs.write.stretch_list.Statement.{statement}
 use Rattle.station.proofs.write.stretch_list.Tie as tie
 
 abbrev invariant-loop : tie.invariant-loop
-invariant-loop out₀ at mask place₀ from₀ out position from = (from ≤ 64) × (from < 64 → hasBit mask from ≡ true)
-    × Left out₀ at (bracketsOf (stretches 64 1 mask)) out position (bracketsOf (stretchesFrom (64 - from) mask from))
+invariant-loop out₀ at mask place₀ from₀ out position from = (from ≤ 64) × (from < 64 → has_bit mask from ≡ true)
+    × Left out₀ at (brackets_of (stretches 64 1 mask)) out position (brackets_of (stretches_from (64 - from) mask from))
 
 abbrev decreases-loop : tie.decreases-loop
 decreases-loop out₀ at mask place₀ from₀ out position from = 64 - from
@@ -30,10 +30,10 @@ loop-holds : tie.Need-loop-init invariant-loop decreases-loop
 loop-holds c = let a = c.before.before.args in
     let mask = a.mask in
     let e = c.next-busy.ensures in
-    let all : stretches 64 1 mask ≡ stretchesFrom 64 mask 0 = ap (stretches 64 1) (sym (div-one mask)) in (
-      rw e (busy-high 64 mask 0),
-      (λ h. rw e (busy-found 64 mask 0 (rw e at h))),
-      rw (e, ← from-next-busy 64 mask 0 64 refl, ← all) (left-all a.out.now a.at (bracketsOf (stretches 64 1 mask))),
+    let all : stretches 64 1 mask ≡ stretches_from 64 mask 0 = ap (stretches 64 1) (sym (div-one mask)) in (
+      rw e (busy_high 64 mask 0),
+      (λ h. rw e (busy_found 64 mask 0 (rw e at h))),
+      rw (e, ← from_next_busy 64 mask 0 64 refl, ← all) (left_all a.out.now a.at (brackets_of (stretches 64 1 mask))),
     )
 
 next-free-requires : tie.Need-next-free-requires invariant-loop decreases-loop
@@ -49,7 +49,7 @@ cast-bracket : tie.Need-overflow-cast-bracket invariant-loop decreases-loop
 cast-bracket c = omega arith
 
 cast-bracket-2 : tie.Need-overflow-cast-bracket-2 invariant-loop decreases-loop
-cast-bracket-2 c = omega (arith, c.before.before.next-free.ensures, free-high (64 - c.before.before.before.before.loop.from) c.before.before.before.before.before.before.before.args.mask c.before.before.before.before.loop.from)
+cast-bracket-2 c = omega (arith, c.before.before.next-free.ensures, free_high (64 - c.before.before.before.before.loop.from) c.before.before.before.before.before.before.before.args.mask c.before.before.before.before.loop.from)
 
 bracket-requires : tie.Need-bracket-requires invariant-loop decreases-loop
 bracket-requires c κs = search rules
@@ -58,7 +58,7 @@ bracket-requires c κs = search rules
 ahead : (c : tie.After-slice-known2 invariant-loop decreases-loop) → NextRun c.before.before.before.before.before.before.before.before.before.before.args.mask c.before.before.before.before.before.before.before.loop.from c.before.before.before.before.next-busy2.result
 ahead c =
     let h = c.before.before.before.before.before.before.loop-test.true in
-    next-run c.before.before.before.before.before.before.before.before.before.before.args.mask c.before.before.before.before.before.before.before.loop.from c.before.before.before.before.before.next-free.result c.before.before.before.before.next-busy2.result h (c.before.before.before.before.before.before.before.loop.invariant.1 h)
+    next_run c.before.before.before.before.before.before.before.before.before.before.args.mask c.before.before.before.before.before.before.before.loop.from c.before.before.before.before.before.next-free.result c.before.before.before.before.next-busy2.result h (c.before.before.before.before.before.before.before.loop.invariant.1 h)
     c.before.before.before.before.before.next-free.ensures c.before.before.before.before.next-busy2.ensures
 
 loop-less : tie.Need-loop-smaller invariant-loop decreases-loop
@@ -69,10 +69,10 @@ loop-again c = let loop = c.before.before.before.before.before.before.before.loo
     let mask = c.before.before.before.before.before.before.before.before.before.before.args.mask in
     let to = c.before.before.before.before.before.next-free in
     let next = c.before.before.before.before.next-busy2 in
-    let step = bracket-step mask loop.from to.result next.result c.before.before.before.before.before.before.loop-test.true (loop.invariant.1 c.before.before.before.before.before.before.loop-test.true) to.ensures next.ensures in (
+    let step = bracket_step mask loop.from to.result next.result c.before.before.before.before.before.before.loop-test.true (loop.invariant.1 c.before.before.before.before.before.before.loop-test.true) to.ensures next.ensures in (
       (ahead c).high,
       (ahead c).found,
-      left-wrote (bracketText (suc loop.from) to.result (ltb next.result 64)) (bracketsOf (stretchesFrom (64 - next.result) mask next.result))
+      left_wrote (bracket_text (suc loop.from) to.result (ltb next.result 64)) (brackets_of (stretches_from (64 - next.result) mask next.result))
           (rw step at loop.invariant.2) (rw add-one at c.before.before.bracket.ensures),
     )
 
@@ -83,10 +83,10 @@ returns : tie.Need-returns invariant-loop decreases-loop
 unfolding stretches
 returns c = let loop = c.before.loop in
     let e : 64 - loop.from ≡ 0 = omega arith in
-    left-none (rw e at loop.invariant.2)
+    left_none (rw e at loop.invariant.2)
 
-pub stretch-list-spec : {M : Type 1} → statement M
-stretch-list-spec =
+pub stretch_list_spec : {M : Type 1} → statement M
+stretch_list_spec =
     tie.close
     (tie.spec
     invariant-loop

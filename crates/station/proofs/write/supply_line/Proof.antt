@@ -1,6 +1,6 @@
 -- `write::supply_line` meets its contract. Assumes nothing.
 use Rattle.station.specs.Text.{bytes}
-use Rattle.station.proofs.write.HeadLines.{supply-text}
+use Rattle.station.proofs.write.HeadLines.{supply_text}
 use Rattle.station.proofs.output.Runs.{wrote_none, wrote_then}
 use borrow.Author.Rules.{rules}
 use Rattle.station.proofs.write.supply_line.Statement.{statement}
@@ -32,11 +32,11 @@ returns-2 : tie.Need-returns-2
 unfolding bytes
 returns-2 c = let first = c.before.before.before.before.before.before.before.before.before.before.before in
     let a = first.before.before.before.before.before.args in
-    rw (supply-text a.motors first.before.before.before.if1.false)
+    rw (supply_text a.motors first.before.before.before.if1.false)
     (wrote_then first.word.ensures (wrote_then c.before.before.before.before.before.before.before.number.ensures c.before.before.word2.ensures))
 
-pub supply-line-spec : {M : Type 1} → statement M
-supply-line-spec =
+pub supply_line_spec : {M : Type 1} → statement M
+supply_line_spec =
     tie.close
     (tie.spec
     returns

@@ -23,6 +23,6 @@ returns-2 : tie.Need-returns-2
 returns-2 c = let a = c.before.before.args in
     rw c.if1.false (wrote_none a.out.now a.at)
 
-pub tie-line-spec : {M : Type 1} → statement M
-tie-line-spec =
+pub tie_line_spec : {M : Type 1} → statement M
+tie_line_spec =
     tie.close (tie.spec slice-aggregate-word word-requires same_length returns returns-2)

@@ -36,8 +36,8 @@ loop-again c = omega arith
 returns-2 : tie.Need-returns-2 invariant-loop decreases-loop
 returns-2 c = search rules
 
-pub is-table-spec : {M : Type 1} → statement M
-is-table-spec =
+pub is_table_spec : {M : Type 1} → statement M
+is_table_spec =
     tie.close
     (tie.spec
     invariant-loop

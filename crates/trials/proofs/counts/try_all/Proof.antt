@@ -33,8 +33,8 @@ loop-again c = omega arith
 returns : tie.Need-returns invariant-loop decreases-loop
 returns c = search rules
 
-pub try-all-spec : {M : Type 1} → statement M
-try-all-spec =
+pub try_all_spec : {M : Type 1} → statement M
+try_all_spec =
     tie.close
     (tie.spec
     invariant-loop

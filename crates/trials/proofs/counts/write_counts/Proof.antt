@@ -69,8 +69,8 @@ loop-again c = omega arith
 returns : tie.Need-returns invariant-loop decreases-loop
 returns c = search rules
 
-pub write-counts-spec : {M : Type 1} → statement M
-write-counts-spec =
+pub write_counts_spec : {M : Type 1} → statement M
+write_counts_spec =
     tie.close
     (tie.spec
     invariant-loop

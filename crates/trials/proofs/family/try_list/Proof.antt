@@ -39,8 +39,8 @@ loop-again c = omega arith
 returns : tie.Need-returns invariant-loop decreases-loop
 returns c = search rules
 
-pub try-list-spec : {M : Type 1} → statement M
-try-list-spec =
+pub try_list_spec : {M : Type 1} → statement M
+try_list_spec =
     tie.close
     (tie.spec
     invariant-loop

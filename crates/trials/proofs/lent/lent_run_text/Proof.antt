@@ -39,13 +39,13 @@ use Rattle.station.specs.contracts.types.Head as Hd
 use Rattle.frame.specs.declared.text.TextAnswer.{TextAnswer}
 use Rattle.frame.specs.contracts.text.TextAnswer as Rs
 use Rattle.frame.proofs.text.TextAnswer.TheLaws as Rs'
-use Rattle.station.proofs.Walks.{Bank, copied-val, copied-tells, copied-typed, head-val, head-tells, head-makes, head-typed}
-use Rattle.station.proofs.Walks.{full, ◌&◌, none, leaves-fn, meets-by}
+use Rattle.station.proofs.Walks.{Bank, copied_val, copied_tells, copied_typed, head_val, head_tells, head_makes, head_typed}
+use Rattle.station.proofs.Walks.{full, ◌&◌, none, leaves_fn, meets_by}
 use Rattle.frame.specs.contracts.text.run_text as callee
 use Rattle.frame.proofs.text.run_text.Symbol as callee-def
 use Rattle.frame.proofs.text.run_text.Symbol.{name as #callee}
 use Rattle.frame.proofs.text.run_text.Met as callee-thm
-use Rattle.trials.proofs.Lending.{Local, list, Mutable, LentMut, lends-mut, mut_back, calls-on, hands-four}
+use Rattle.trials.proofs.Lending.{Local, list, Mutable, LentMut, lends_mut, mut_back, calls_on, hands_four}
 use Rattle.trials.specs.contracts.lent.lent_run_text.Key.{name as #own}
 use Rattle.trials.specs.contracts.lent.lent_run_text as own
 use Rattle.trials.proofs.lent.lent_run_text.Statement as stated
@@ -59,7 +59,7 @@ abbrev Callee : {M : Type 1} {𝓤 : Ura M} (𝓛 : Logic 𝓤) (mem : Memory �
 Callee 𝓛 mem run = triple_of 𝓛 callee.signature (callee.spec 𝓛 mem run)
 
 module _ {M : Type 1} {𝓤 : Ura M} (𝓛 : Logic 𝓤) (mem : Memory → SProp 𝓤) (run : Routine → Fun 𝓤) (κ₀ κ₁ κ₂ : Lft) (q₀ q₁ q₂ : Share) (t : MutBor (List ℕ)) (h : Head) (ps : List Preset) (bx ox : ℕ) (γx : GName) (lx : List ℕ) (c : ℕ) (hold : Bool) (bw ow : ℕ) (γw : GName) (lw : List ℕ)
-    (is-h : Is Hd.the_row h (head-val h ∷ [])) (is-ps : Is Bank ps (copied-val ps ∷ [])) (is_c : Is usize c (vint w64 c ∷ [])) where
+    (is-h : Is Hd.the_row h (head_val h ∷ [])) (is-ps : Is Bank ps (copied_val ps ∷ [])) (is_c : Is usize c (vint w64 c ∷ [])) where
   -- the machine values of the slices
   open 𝓛 use {H, A}
 
@@ -82,7 +82,7 @@ module _ {M : Type 1} {𝓤 : Ura M} (𝓛 : Logic 𝓤) (mem : Memory → SProp
   a = (t, (h, (ps, (x, (c, (hold, (w, tt)))))))
 
   abbrev at : Vals own.signature (κ₀, (κ₁, (κ₂, tt)))
-  at = (vt ∷ [], (head-val h ∷ [], (copied-val ps ∷ [], (vx ∷ [], (vint w64 c ∷ [], (vbool hold ∷ [], (vw ∷ [], tt)))))))
+  at = (vt ∷ [], (head_val h ∷ [], (copied_val ps ∷ [], (vx ∷ [], (vint w64 c ∷ [], (vbool hold ∷ [], (vw ∷ [], tt)))))))
 
   -- what the triple binds outside
   abbrev bound : (walk_of 𝓛 own.ended stayed (own.clauses 𝓛 mem run)).Ghost
@@ -108,25 +108,25 @@ module _ {M : Type 1} {𝓤 : Ura M} (𝓛 : Logic 𝓤) (mem : Memory → SProp
 
   -- what the callee's triple binds outside, and that the caller has what it asks, the records lying in the local b and lent for ν under the name δ
   abbrev to-callee : ℕ → ℕ → GName → (Callee 𝓛 mem run).Ghost
-  to-callee b ν δ = (((κ₀, ((ν ∷ []), (κ₁, (κ₂, tt)))), (q₀, (full_share, (q₁, (q₂, tt)))), tt, (t, (h, (list 𝓛 b ps (ν ∷ []) δ, (x, (c, (hold, (w, tt))))))), (vt ∷ [], (head-val h ∷ [], (slice_val (b, 0) 32 ∷ [], (vx ∷ [], (vint w64 c ∷ [], (vbool hold ∷ [], (vw ∷ [], tt)))))))), tt)
+  to-callee b ν δ = (((κ₀, ((ν ∷ []), (κ₁, (κ₂, tt)))), (q₀, (full_share, (q₁, (q₂, tt)))), tt, (t, (h, (list 𝓛 b ps (ν ∷ []) δ, (x, (c, (hold, (w, tt))))))), (vt ∷ [], (head_val h ∷ [], (slice_val (b, 0) 32 ∷ [], (vx ∷ [], (vint w64 c ∷ [], (vbool hold ∷ [], (vw ∷ [], tt)))))))), tt)
 
   goes : (b ν : ℕ) (δ : GName) → ent 𝓤 (sep 𝓤 (sep 𝓤 (sep 𝓤 (sep 𝓤 (sep 𝓤 (sep 𝓤 (sep 𝓤 (A.lft κ₀ q₀) (A.lft (ν ∷ []) full_share)) (A.lft κ₁ q₁)) (A.lft κ₂ q₂)) (sem 𝓛 (Own-t))) (sem 𝓛 (Mutable 𝓛 b ps (ν ∷ []) δ))) (sem 𝓛 (Own-x))) (sem 𝓛 (Own-w))) ((Callee 𝓛 mem run).pre (to-callee b ν δ))
   goes b ν δ =
-      qed 𝓛 ((((((((‵ (flft κ₀ q₀) ⊛ ‵ (flft (ν ∷ []) full_share)) ⊛ ‵ (flft κ₁ q₁)) ⊛ ‵ (flft κ₂ q₂)) ⊛ ‵ (Own-t)) ⊛ ‵ (Mutable 𝓛 b ps (ν ∷ []) δ)) ⊛ ‵ (Own-x)) ⊛ ‵ (Own-w)) ∷ []) ∵ split ! $ split ! $ split ! $ split ! $ split ! $ split ! $ split ! $ nothing ! $ move ! (8 ∷ 0 ∷ []) $ fjoin ! $ owned ! bool (Is bool) (bool_Makes 𝓛) hold _ refl $ fjoin ! $ owned ! usize (Is usize) (uint_Makes 𝓛 w64) c _ is_c $ fjoin ! $ move ! (7 ∷ 0 ∷ []) $ fjoin ! $ move ! (6 ∷ 0 ∷ []) $ fjoin ! $ owned ! Hd.the_row (Is Hd.the_row) (head-makes 𝓛) h _ is-h $ fjoin ! $ move ! (5 ∷ 0 ∷ []) $ fjoin ! $ hands-four !
+      qed 𝓛 ((((((((‵ (flft κ₀ q₀) ⊛ ‵ (flft (ν ∷ []) full_share)) ⊛ ‵ (flft κ₁ q₁)) ⊛ ‵ (flft κ₂ q₂)) ⊛ ‵ (Own-t)) ⊛ ‵ (Mutable 𝓛 b ps (ν ∷ []) δ)) ⊛ ‵ (Own-x)) ⊛ ‵ (Own-w)) ∷ []) ∵ split ! $ split ! $ split ! $ split ! $ split ! $ split ! $ split ! $ nothing ! $ move ! (8 ∷ 0 ∷ []) $ fjoin ! $ owned ! bool (Is bool) (bool_Makes 𝓛) hold _ refl $ fjoin ! $ owned ! usize (Is usize) (uint_Makes 𝓛 w64) c _ is_c $ fjoin ! $ move ! (7 ∷ 0 ∷ []) $ fjoin ! $ move ! (6 ∷ 0 ∷ []) $ fjoin ! $ owned ! Hd.the_row (Is Hd.the_row) (head_makes 𝓛) h _ is-h $ fjoin ! $ move ! (5 ∷ 0 ∷ []) $ fjoin ! $ hands_four !
 
   module _ (𝓣 : Tables 𝓤 H) (known : Triple 𝓤 (𝓣.C #callee) (Callee 𝓛 mem run)) where
     fm : FmC 𝓤 H 𝓛.laws 𝓣.C
     fm = fm_of 𝓤 H 𝓛.laws 𝓣
 
-    walk : length t.now < 2 ^ 64 → Room u16 (length lx) → Room u8 (length lw) → ent 𝓤 (on_entry 𝓛 own.signature (κ₀, (κ₁, (κ₂, tt))) (q₀, (q₁, (q₂, tt))) a at) (WpFn 𝓤 H 𝓣.C 𝓣.Λ code.function (vt ∷ head-val h ∷ copied-val ps ∷ vx ∷ vint w64 c ∷ vbool hold ∷ vw ∷ []) After)
+    walk : length t.now < 2 ^ 64 → Room u16 (length lx) → Room u8 (length lw) → ent 𝓤 (on_entry 𝓛 own.signature (κ₀, (κ₁, (κ₂, tt))) (q₀, (q₁, (q₂, tt))) a at) (WpFn 𝓤 H 𝓣.C 𝓣.Λ code.function (vt ∷ head_val h ∷ copied_val ps ∷ vx ∷ vint w64 c ∷ vbool hold ∷ vw ∷ []) After)
     walk g-t g-x g-w =
-        qed 𝓛 ((‵ (flft κ₀ q₀) ⊛ (‵ (flft κ₁ q₁) ⊛ (‵ (flft κ₂ q₂) ⊛ ‵ ftrue))) ∷ ‵ (owns (ShrSlice (named 0) κ₀ u8 ∷ Hd.the_row ∷ Bank ∷ MutSlice (named 1) κ₁ u16 ∷ usize ∷ bool ∷ MutSlice (named 2) κ₂ u8 ∷ []) a at) ∷ []) ∵ enter ! 𝓣.C 𝓣.Λ code.function (vt ∷ head-val h ∷ copied-val ps ∷ vx ∷ vint w64 c ∷ vbool hold ∷ vw ∷ []) _ $
+        qed 𝓛 ((‵ (flft κ₀ q₀) ⊛ (‵ (flft κ₁ q₁) ⊛ (‵ (flft κ₂ q₂) ⊛ ‵ ftrue))) ∷ ‵ (owns (ShrSlice (named 0) κ₀ u8 ∷ Hd.the_row ∷ Bank ∷ MutSlice (named 1) κ₁ u16 ∷ usize ∷ bool ∷ MutSlice (named 2) κ₂ u8 ∷ []) a at) ∷ []) ∵ enter ! 𝓣.C 𝓣.Λ code.function (vt ∷ head_val h ∷ copied_val ps ∷ vx ∷ vint w64 c ∷ vbool hold ∷ vw ∷ []) _ $
         alloc1 ! (λ l₀. alloc1 ! (λ l₁. alloc1 ! (λ l₂. alloc1 ! (λ l₃. alloc1 ! (λ l₄. alloc1 ! (λ l₅. alloc1 ! (λ l₆. alloc1 ! (λ l₇. alloc1 ! (λ l₈. alloc1 ! (λ l₉. alloc1 ! (λ l₁₀. alloc1 ! (λ l₁₁. alloc1 ! (λ l₁₂. alloc1 ! (λ l₁₃. alloc1 ! (λ l₁₄. alloc0 ! $ params1 ! $
-        pass1 ! (init ! 26 refl (tt, (tt, (record { fits = g-t }, tt)))) $ pass1 ! (init ! 24 refl (head-typed 𝓛 h is-h)) $ pass1 ! (init ! 22 refl (copied-typed 𝓛 ps is-ps)) $ pass1 ! (init ! 20 refl (tt, (tt, (record { fits = g-x.0 }, tt)))) $ pass1 ! (init ! 18 refl (tt, record { fits = is_c.1 })) $ pass1 ! (init ! 16 refl (tt, tt)) $ pass1 ! (init ! 14 refl (tt, (tt, (record { fits = g-w.0 }, tt)))) $ pass0 ! $
+        pass1 ! (init ! 26 refl (tt, (tt, (record { fits = g-t }, tt)))) $ pass1 ! (init ! 24 refl (head_typed 𝓛 h is-h)) $ pass1 ! (init ! 22 refl (copied_typed 𝓛 ps is-ps)) $ pass1 ! (init ! 20 refl (tt, (tt, (record { fits = g-x.0 }, tt)))) $ pass1 ! (init ! 18 refl (tt, record { fits = is_c.1 })) $ pass1 ! (init ! 16 refl (tt, tt)) $ pass1 ! (init ! 14 refl (tt, (tt, (record { fits = g-w.0 }, tt)))) $ pass0 ! $
         -- [the locals, the last one first; the tokens; what the parameters own]
         move ! (31 ∷ []) $ fsplit ! $ move ! (1 ∷ []) $ fsplit ! $ drop ! $ fsplit ! $ drop ! $ fsplit ! $ move ! (1 ∷ []) $ fsplit ! $ drop ! $ fsplit ! $ drop ! $ fsplit ! $ move ! (1 ∷ []) $ drop ! $ move ! (33 ∷ []) $ split ! $ move ! (1 ∷ []) $ split ! $ move ! (1 ∷ []) $ split ! $ move ! (1 ∷ []) $ drop ! $
         -- [the tokens and what the slices own, the last first; the locals]
-        assigns ! (of_opd ! (reads ! (from ! (stop !)) (look ! 28 refl))) (from ! (stop !)) (init ! 18 refl (copied-typed 𝓛 ps is-ps)) $
+        assigns ! (of_opd ! (reads ! (from ! (stop !)) (look ! 28 refl))) (from ! (stop !)) (init ! 18 refl (copied_typed 𝓛 ps is-ps)) $
         assigns ! (addr ! (from ! (stop !))) (from ! (stop !)) (init ! 16 refl (tt, tt)) $
         assigns ! (agg ! (and_then ! (reads ! (from ! (stop !)) (look ! 16 refl)) (and_then ! (lit ! tt) (no_more !)))) (from ! (stop !)) (init ! 14 refl (tt, (tt, (record { fits = lit< tt }, tt)))) $
         assigns ! (addr ! (from ! (fld ! refl (hop ! (look_in ! 26 (sub ! 0 refl (whole !))) (stop !))))) (from ! (stop !)) (init ! 12 refl (tt, tt)) $
@@ -134,29 +134,29 @@ module _ {M : Type 1} {𝓤 : Ura M} (𝓛 : Logic 𝓤) (mem : Memory → SProp
         assigns ! (addr ! (from ! (fld ! refl (hop ! (look_in ! 20 (sub ! 0 refl (whole !))) (stop !))))) (from ! (stop !)) (init ! 8 refl (tt, tt)) $
         assigns ! (agg ! (and_then ! (reads ! (from ! (stop !)) (look ! 8 refl)) (and_then ! (reads ! (from ! (fld ! refl (stop !))) (look_in ! 20 (sub ! 1 refl (whole !)))) (no_more !)))) (from ! (stop !)) (init ! 6 refl (tt, (tt, (record { fits = g-w.0 }, tt)))) $
         -- the records are lent for a lifetime ν
-        lft_new ! tt (λ ν. move ! (19 ∷ []) $ use1 𝓛 (later (some (λ (δ : GName). ‵ (Mutable 𝓛 l₈ ps (ν ∷ []) δ) ⊛ ‵ (LentMut 𝓛 l₈ ps (ν ∷ []) (length ps) δ)))) (lends-mut 𝓛 l₈ ps (ν ∷ []) is-ps) $ await ! tt $ pick ! (λ δ. split ! $
+        lft_new ! tt (λ ν. move ! (19 ∷ []) $ use1 𝓛 (later (some (λ (δ : GName). ‵ (Mutable 𝓛 l₈ ps (ν ∷ []) δ) ⊛ ‵ (LentMut 𝓛 l₈ ps (ν ∷ []) (length ps) δ)))) (lends_mut 𝓛 l₈ ps (ν ∷ []) is-ps) $ await ! tt $ pick ! (λ δ. split ! $
         -- the call
         move ! (5 ∷ 2 ∷ 4 ∷ 3 ∷ 8 ∷ 0 ∷ 7 ∷ 6 ∷ []) $ join ! $ join ! $ join ! $ join ! $ join ! $ join ! $ join ! $ use1 𝓛 (raw ((Callee 𝓛 mem run).pre (to-callee l₈ ν δ))) (goes l₈ ν δ) $
-        calls-on ! fm callee.ended (callee.clauses 𝓛 mem run) known (to-callee l₈ ν δ) (‵ (flft κ₀ q₀) ⊛ (‵ (flft (ν ∷ []) full_share) ⊛ (‵ (flft κ₁ q₁) ⊛ (‵ (flft κ₂ q₂) ⊛ ‵ ftrue)))) refl Rs'.lowered (Rs'.lowers).val_is
+        calls_on ! fm callee.ended (callee.clauses 𝓛 mem run) known (to-callee l₈ ν δ) (‵ (flft κ₀ q₀) ⊛ (‵ (flft (ν ∷ []) full_share) ⊛ (‵ (flft κ₁ q₁) ⊛ (‵ (flft κ₂ q₂) ⊛ ‵ ftrue)))) refl Rs'.lowered (Rs'.lowers).val_is
         (and_then ! (reads ! (from ! (stop !)) (look ! 27 refl)) (and_then ! (reads ! (from ! (stop !)) (look ! 25 refl)) (and_then ! (reads ! (from ! (stop !)) (look ! 10 refl)) (and_then ! (reads ! (from ! (stop !)) (look ! 6 refl)) (and_then ! (reads ! (from ! (stop !)) (look ! 19 refl)) (and_then ! (reads ! (from ! (stop !)) (look ! 17 refl)) (and_then ! (reads ! (from ! (stop !)) (look ! 2 refl)) (no_more !))))))))
         (λ r ws is. land ! (from ! (stop !)) (init ! 30 refl ((LL.lawful Rs.the_type Rs'.the_laws 𝓛).typed r _ is).0) $
         move ! (1 ∷ []) $ fsplit ! $ drop ! $ fsplit ! $ drop ! $ fsplit ! $ fsplit ! $ move ! (1 ∷ []) $ feq_l ! (λ eps. move ! (1 ∷ []) $ fsplit ! $ fsplit ! $ move ! (1 ∷ []) $ feq_l ! (λ ex. move ! (1 ∷ []) $ fsplit ! $ drop ! $ fsplit ! $ drop ! $ fsplit ! $ fsplit ! $ move ! (1 ∷ []) $ feq_l ! (λ ew. move ! (1 ∷ []) $ drop ! $ move ! (3 ∷ []) $ split ! $ move ! (1 ∷ []) $ split ! $ move ! (1 ∷ []) $ split ! $ move ! (1 ∷ []) $ split ! $ move ! (1 ∷ []) $ drop ! $
         -- ν is ended, and the records lie in the local again
-        move ! (2 ∷ []) $ lft_end ! tt $ move ! (0 ∷ 7 ∷ 6 ∷ []) $ use3 𝓛 (later (given (Is Bank ws.1.1.0 (copied-val ws.1.1.0 ∷ [])) (‵ (Local 𝓛 l₈ ws.1.1.0)))) (mut_back 𝓛 l₈ ws.1.1.0 (ν ∷ []) (length ps) δ is-ps.1.0.1) $ await ! tt $ learn ! (λ is-z.
-        returns ! (look ! 33 refl) $ move ! (1 ∷ 2 ∷ 3 ∷ 4 ∷ 5 ∷ 6 ∷ 7 ∷ 8 ∷ 9 ∷ 10 ∷ 11 ∷ 12 ∷ 13 ∷ 14 ∷ 15 ∷ 16 ∷ 17 ∷ 0 ∷ []) $ leaves-fn ! 5 (full refl refl & full refl refl & full refl refl & full refl refl & full refl refl & full refl refl & full refl refl & full refl refl & full refl refl & full refl refl & full refl refl & full refl refl & full refl refl & full refl refl & full refl refl & none) $
+        move ! (2 ∷ []) $ lft_end ! tt $ move ! (0 ∷ 7 ∷ 6 ∷ []) $ use3 𝓛 (later (given (Is Bank ws.1.1.0 (copied_val ws.1.1.0 ∷ [])) (‵ (Local 𝓛 l₈ ws.1.1.0)))) (mut_back 𝓛 l₈ ws.1.1.0 (ν ∷ []) (length ps) δ is-ps.1.0.1) $ await ! tt $ learn ! (λ is-z.
+        returns ! (look ! 33 refl) $ move ! (1 ∷ 2 ∷ 3 ∷ 4 ∷ 5 ∷ 6 ∷ 7 ∷ 8 ∷ 9 ∷ 10 ∷ 11 ∷ 12 ∷ 13 ∷ 14 ∷ 15 ∷ 16 ∷ 17 ∷ 0 ∷ []) $ leaves_fn ! 5 (full refl refl & full refl refl & full refl refl & full refl refl & full refl refl & full refl refl & full refl refl & full refl refl & full refl refl & full refl refl & full refl refl & full refl refl & full refl refl & full refl refl & full refl refl & none) $
         keep ! (2 ∷ 1 ∷ 0 ∷ 4 ∷ 3 ∷ []) $ by ! (exits r ws.1.1.1.0 ws.1.1.1.1.1.1.0 is ex ew)))))))))))))))))))))))
 
 meets : {M : Type 1} {𝓤 : Ura M} (𝓛 : Logic 𝓤) → (mem : Memory → SProp 𝓤) (run : Routine → Fun 𝓤) (𝓣 : Tables 𝓤 𝓛.H) → Triple 𝓤 (𝓣.C #callee) (Callee 𝓛 mem run)
     → Meets 𝓛 own.signature (WpFn 𝓤 𝓛.H 𝓣.C 𝓣.Λ code.function) (own.spec 𝓛 mem run)
 meets 𝓛 mem run 𝓣 known =
-    meets-by 𝓛 own.ended stayed (Goes-dropped 𝓛 3 (shr_slice_of (0 ∷ []) tt (plain (λ _. u8))) yes (λ κs x f. refl), (Goes-dropped 𝓛 3 (plain (λ _. Hd.the_row)) yes (λ κs x f. refl), (Goes-dropped 𝓛 3 (plain (λ _. Bank)) yes (λ κs x f. refl), (Goes-gave_slice 𝓛 3 1 tt (plain (λ _. u16)), (Goes-dropped 𝓛 3 (plain (λ _. usize)) yes (λ κs x f. refl), (Goes-dropped 𝓛 3 (plain (λ _. bool)) yes (λ κs x f. refl), (Goes-gave_slice 𝓛 3 2 tt (plain (λ _. u8)), tt)))))))
+    meets_by 𝓛 own.ended stayed (Goes-dropped 𝓛 3 (shr_slice_of (0 ∷ []) tt (plain (λ _. u8))) yes (λ κs x f. refl), (Goes-dropped 𝓛 3 (plain (λ _. Hd.the_row)) yes (λ κs x f. refl), (Goes-dropped 𝓛 3 (plain (λ _. Bank)) yes (λ κs x f. refl), (Goes-gave_slice 𝓛 3 1 tt (plain (λ _. u16)), (Goes-dropped 𝓛 3 (plain (λ _. usize)) yes (λ κs x f. refl), (Goes-dropped 𝓛 3 (plain (λ _. bool)) yes (λ κs x f. refl), (Goes-gave_slice 𝓛 3 2 tt (plain (λ _. u8)), tt)))))))
     (own.clauses 𝓛 mem run) code.function 𝓣
-    (λ κs. (shr_slice_vals, ((λ h. head-val h ∷ []), ((λ ps. copied-val ps ∷ []), (mut_slice_vals, (uint_vals w64, (bool_vals, (mut_slice_vals, tt)))))))) (λ κs. (shr_slice_Tells (named 0) κs.0 u8, (head-tells, (copied-tells, (mut_slice_Tells (named 1) κs.1.0 u16, (uint_Tells w64, (bool_Tells, (mut_slice_Tells (named 2) κs.1.1.0 u8, tt))))))))
+    (λ κs. (shr_slice_vals, ((λ h. head_val h ∷ []), ((λ ps. copied_val ps ∷ []), (mut_slice_vals, (uint_vals w64, (bool_vals, (mut_slice_vals, tt)))))))) (λ κs. (shr_slice_Tells (named 0) κs.0 u8, (head_tells, (copied_tells, (mut_slice_Tells (named 1) κs.1.0 u16, (uint_Tells w64, (bool_Tells, (mut_slice_Tells (named 2) κs.1.1.0 u8, tt))))))))
     (λ κs qs bounds a g are. walk 𝓛 mem run κs.0 κs.1.0 κs.1.1.0 qs.0 qs.1.0 qs.1.1.0 a.0 a.1.0 a.1.1.0 a.1.1.1.0.ref_ptr.0 a.1.1.1.0.ref_ptr.1 a.1.1.1.0.ghost_name a.1.1.1.0.now a.1.1.1.1.0 a.1.1.1.1.1.0 a.1.1.1.1.1.1.0.ref_ptr.0 a.1.1.1.1.1.1.0.ref_ptr.1 a.1.1.1.1.1.1.0.ghost_name a.1.1.1.1.1.1.0.now are.1.0 are.1.1.0 are.1.1.1.1.0 𝓣 known are.0.0.1.0 are.1.1.1.0.0.1 are.1.1.1.1.1.1.0.0.1)
 
-pub lent-run-text-spec : {M : Type 1} → stated.statement M
+pub lent_run_text_spec : {M : Type 1} → stated.statement M
 unfolding code.routine tables_of
-lent-run-text-spec 𝓤 𝓛 𝓜 𝓡 =
+lent_run_text_spec 𝓤 𝓛 𝓜 𝓡 =
     entered 𝓤 𝓛.H (triple_of 𝓛 own.signature (own.spec 𝓛 𝓜.mem 𝓡.run))
     (tables 𝓤 𝓛.H 𝓜 𝓡 code.env).C (tables 𝓤 𝓛.H 𝓜 𝓡 code.env).Λ #own code.function (code.unfolded 𝓤 𝓛.H 𝓜 𝓡)
     (meets 𝓛 𝓜.mem 𝓡.run (tables_of 𝓤 𝓛.H 𝓜 (tables 𝓤 𝓛.H 𝓜 𝓡 code.env))

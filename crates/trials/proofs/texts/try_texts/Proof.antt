@@ -39,8 +39,8 @@ loop-again c = omega arith
 returns : tie.Need-returns invariant-loop decreases-loop
 returns c = search rules
 
-pub try-texts-spec : {M : Type 1} → statement M
-try-texts-spec =
+pub try_texts_spec : {M : Type 1} → statement M
+try_texts_spec =
     tie.close
     (tie.spec
     invariant-loop

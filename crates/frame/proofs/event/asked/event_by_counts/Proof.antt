@@ -1,6 +1,6 @@
 -- `event::asked::event_by_counts` meets its contract: a law for what each line asks. Assumes nothing.
 use Rattle.placing.specs.State.{state_of}
-use Rattle.frame.proofs.event.EventAnswers.{line-clock, line-place, line-tie, line-fault, clock-counts}
+use Rattle.frame.proofs.event.EventAnswers.{line_clock, line_place, line_tie, line_fault, clock_counts}
 use borrow.Author.Rules.{rules}
 use Rattle.frame.proofs.event.asked.event_by_counts.Statement.{statement}
 use Rattle.frame.proofs.event.asked.event_by_counts.Tie as tie
@@ -51,8 +51,8 @@ returns c =
     let r = k.before.before.before.before.before in
     let s = r.before.before.before in
     let a = s.args in (
-      line-clock a.head a.presets (state_of a.table.now a.clock a.hold) a.line.now r.read-event.ensures k.before.before.event.given.1 k.asked-clock.ensures,
-      clock-counts a.head a.presets _ (state_of a.table.now a.clock a.hold) k.asked-clock.ensures v run right c.pass-slots.ensures,
+      line_clock a.head a.presets (state_of a.table.now a.clock a.hold) a.line.now r.read-event.ensures k.before.before.event.given.1 k.asked-clock.ensures,
+      clock_counts a.head a.presets _ (state_of a.table.now a.clock a.hold) k.asked-clock.ensures v run right c.pass-slots.ensures,
     )
 
 same-length-2 : tie.Need-same-length-2
@@ -66,7 +66,7 @@ returns-2 c =
     let s = r.before.before.before in
     let a = s.args in
     let done = k.call-by-counts.ensures v run right in (
-      line-place a.head a.presets (state_of a.table.now a.clock a.hold) a.line.now r.read-event.ensures k.before.before.before.before.before.before.event2.given.1 done.0
+      line_place a.head a.presets (state_of a.table.now a.clock a.hold) a.line.now r.read-event.ensures k.before.before.before.before.before.before.event2.given.1 done.0
           c.call-outcome.ensures.0 c.call-outcome.ensures.1 c.call-outcome.ensures.2,
       rw c.call-outcome.ensures.1 done.1,
     )
@@ -78,7 +78,7 @@ returns-3 c =
     let s = r.before.before.before in
     let a = s.args in
     rw c.answered.ensures
-    (line-tie a.head a.presets (state_of a.table.now a.clock a.hold) a.line.now r.read-event.ensures c.before.before.event3.given.1, right)
+    (line_tie a.head a.presets (state_of a.table.now a.clock a.hold) a.line.now r.read-event.ensures c.before.before.event3.given.1, right)
 
 returns-4 : tie.Need-returns-4
 returns-4 c =
@@ -87,10 +87,10 @@ returns-4 c =
     let s = r.before.before.before in
     let a = s.args in
     rw c.answered2.ensures
-    (line-fault a.head a.presets (state_of a.table.now a.clock a.hold) a.line.now r.read-event.ensures c.before.before.event4.given.1, right)
+    (line_fault a.head a.presets (state_of a.table.now a.clock a.hold) a.line.now r.read-event.ensures c.before.before.event4.given.1, right)
 
-pub event-by-counts-spec : {M : Type 1} → statement M
-event-by-counts-spec =
+pub event_by_counts_spec : {M : Type 1} → statement M
+event_by_counts_spec =
     tie.close
     (tie.spec
     read-event-requires

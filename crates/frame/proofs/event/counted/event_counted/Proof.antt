@@ -2,14 +2,14 @@
 use borrow.Author.Rules.{rules}
 use Rattle.placing.specs.State.{state_of}
 use Rattle.frame.specs.Event.{Event}
-use Rattle.frame.proofs.event.ListOfRecords.{event-few, event-enough}
+use Rattle.frame.proofs.event.ListOfRecords.{event_few, event_enough}
 use Rattle.frame.proofs.event.counted.event_counted.Statement.{statement}
 use Rattle.frame.proofs.event.counted.event_counted.Tie as tie
 
 returns : tie.Need-returns
 returns c =
     let a = c.before.before.before.args in
-    event-few a.records a.head a.copied (state_of a.table.now a.clock a.hold) (Event.line a.line.now) c.if1.true
+    event_few a.records a.head a.copied (state_of a.table.now a.clock a.hold) (Event.line a.line.now) c.if1.true
 
 event-by-value-requires : tie.Need-event-by-value-requires
 event-by-value-requires c κs = search rules
@@ -22,7 +22,7 @@ returns-2 c =
     let e = c.before.before in
     let i = e.before.before in
     let a = i.before.before.before.args in
-    event-enough a.records a.head a.copied (state_of a.table.now a.clock a.hold) (Event.line a.line.now) i.if1.false e.event-by-value.ensures.0
+    event_enough a.records a.head a.copied (state_of a.table.now a.clock a.hold) (Event.line a.line.now) i.if1.false e.event-by-value.ensures.0
 
-pub event-counted-spec : {M : Type 1} → statement M
-event-counted-spec = tie.close (tie.spec returns event-by-value-requires same_length returns-2)
+pub event_counted_spec : {M : Type 1} → statement M
+event_counted_spec = tie.close (tie.spec returns event-by-value-requires same_length returns-2)

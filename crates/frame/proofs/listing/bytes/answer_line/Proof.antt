@@ -1,6 +1,6 @@
 -- `listing::bytes::answer_line` meets its contract, by the answer. Assumes nothing.
 use Rattle.station.specs.Text.{bytes}
-use Rattle.frame.specs.Listing.{answerLine}
+use Rattle.frame.specs.Listing.{answer_line}
 use borrow.Author.Rules.{rules}
 use Rattle.frame.proofs.listing.bytes.answer_line.Statement.{statement}
 use Rattle.frame.proofs.listing.bytes.answer_line.Tie as tie
@@ -39,32 +39,32 @@ same_length : tie.Need-same-length
 same_length c = search rules
 
 returns : tie.Need-returns
-unfolding answerLine bytes
+unfolding answer_line bytes
 returns c = rw c.before.before.before.before.before.before.answer.given.1 c.before.before.number-line.ensures
 
 same-length-2 : tie.Need-same-length-2
 same-length-2 c = search rules
 
 returns-2 : tie.Need-returns-2
-unfolding answerLine
+unfolding answer_line
 returns-2 c = rw c.before.before.before.before.before.answer2.given.1 c.before.before.tie-line.ensures
 
 same-length-3 : tie.Need-same-length-3
 same-length-3 c = search rules
 
 returns-3 : tie.Need-returns-3
-unfolding answerLine bytes
+unfolding answer_line bytes
 returns-3 c = rw c.before.before.before.before.before.before.answer3.given.1 c.before.before.number-line2.ensures
 
 same-length-4 : tie.Need-same-length-4
 same-length-4 c = search rules
 
 returns-4 : tie.Need-returns-4
-unfolding answerLine bytes
+unfolding answer_line bytes
 returns-4 c = rw c.before.before.before.before.before.answer4.given.1 c.before.before.refused-line.ensures
 
-pub answer-line-spec : {M : Type 1} → statement M
-answer-line-spec =
+pub answer_line_spec : {M : Type 1} → statement M
+answer_line_spec =
     tie.close
     (tie.spec
     enum-known-answer

@@ -7,24 +7,24 @@ use mathlib.Core.List.{map}
 use lib.ListN.{length, take, drop, get_or}
 use lib.Seq.{drop-length, length-take-le}
 use Rattle.laws.specs.Lists.{at}
-use Rattle.station.specs.Types.{presetIn, presetsIn, noRecord}
+use Rattle.station.specs.Types.{preset_in, presets_in, no_record}
 use Rattle.station.specs.Wrote.{Left}
-use Rattle.station.proofs.Theorems.{left-all, left-wrote, left-none}
-use Rattle.frame.specs.Listing.{grantedLine, grantedLines}
-use Rattle.frame.proofs.listing.bytes.SlotLines.{granted-step}
+use Rattle.station.proofs.Theorems.{left_all, left_wrote, left_none}
+use Rattle.frame.specs.Listing.{granted_line, granted_lines}
+use Rattle.frame.proofs.listing.bytes.SlotLines.{granted_step}
 use borrow.Author.Rules.{rules}
 use Rattle.frame.proofs.listing.bytes.first_granted.Statement.{statement}
 use Rattle.frame.proofs.listing.bytes.first_granted.Tie as tie
 
 abbrev invariant-loop : tie.invariant-loop
 invariant-loop out₀ at' count presets grants place₀ i₀ out position i = (i ≤ count)
-    × Left out₀ at' (grantedLines grants 0 (presetsIn count presets)) out position (grantedLines grants i (map presetIn (drop i (take count presets))))
+    × Left out₀ at' (granted_lines grants 0 (presets_in count presets)) out position (granted_lines grants i (map preset_in (drop i (take count presets))))
 
 abbrev decreases-loop : tie.decreases-loop
 decreases-loop out₀ at' count presets grants place₀ i₀ out position i = count - i
 
 loop-holds : tie.Need-loop-init invariant-loop decreases-loop
-loop-holds c = let a = c.before.args in (omega arith, left-all a.out.now a.at (grantedLines a.t4 0 (presetsIn a.count a.t3)))
+loop-holds c = let a = c.before.args in (omega arith, left_all a.out.now a.at (granted_lines a.t4 0 (presets_in a.count a.t3)))
 
 mul-preset : tie.Need-overflow-mul-preset invariant-loop decreases-loop
 mul-preset c = omega arith
@@ -56,25 +56,25 @@ loop-again c = let loop = c.before.before.before.before.before.before.before.loo
     let n : length a.t3 ≡ 32 = omega arith in (
       omega arith,
       rw add-one
-          (left-wrote (grantedLine (get_or a.t3 loop.i noRecord).number (at a.t4 loop.i))
-          (grantedLines a.t4 (suc loop.i) (map presetIn (drop (suc loop.i) (take a.count a.t3))))
-          (rw (granted-step a.t4 loop.i a.count a.t3 c.before.before.before.before.before.before.loop-test.true (omega arith)) at loop.invariant.1) c.before.before.granted-line.ensures),
+          (left_wrote (granted_line (get_or a.t3 loop.i no_record).number (at a.t4 loop.i))
+          (granted_lines a.t4 (suc loop.i) (map preset_in (drop (suc loop.i) (take a.count a.t3))))
+          (rw (granted_step a.t4 loop.i a.count a.t3 c.before.before.before.before.before.before.loop-test.true (omega arith)) at loop.invariant.1) c.before.before.granted-line.ensures),
     )
 
 same_length : tie.Need-same-length invariant-loop decreases-loop
 same_length c = c.before.loop.invariant.1.size
 
 returns : tie.Need-returns invariant-loop decreases-loop
-unfolding grantedLines
+unfolding granted_lines
 returns c = let loop = c.before.loop in
     let a = c.before.before.before.args in
     let n : length a.t3 ≡ 32 = omega arith in
     let m : length (take a.count a.t3) ≡ a.count = length-take-le a.count a.t3 (omega arith) in
     let e : loop.i ≡ length (take a.count a.t3) = omega arith in
-    left-none (rw (e, drop-length (take a.count a.t3)) at loop.invariant.1)
+    left_none (rw (e, drop-length (take a.count a.t3)) at loop.invariant.1)
 
-pub first-granted-spec : {M : Type 1} → statement M
-first-granted-spec =
+pub first_granted_spec : {M : Type 1} → statement M
+first_granted_spec =
     tie.close
     (tie.spec
     invariant-loop

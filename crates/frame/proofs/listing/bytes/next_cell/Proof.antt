@@ -1,9 +1,9 @@
 -- `listing::bytes::next_cell` meets its contract, by the kind of the cell. Assumes nothing.
 use mathlib.Core.Path.{sym, ◌∙◌}
 use Rattle.station.specs.Text.{bytes}
-use Rattle.placing.specs.Table.{kind_of, numberIn}
-use Rattle.frame.specs.Listing.{cellText}
-use Rattle.frame.proofs.listing.bytes.SlotLines.{cell-lettered}
+use Rattle.placing.specs.Table.{kind_of, number_in}
+use Rattle.frame.specs.Listing.{cell_text}
+use Rattle.frame.proofs.listing.bytes.SlotLines.{cell_lettered}
 use borrow.Author.Rules.{rules}
 use Rattle.frame.proofs.listing.bytes.next_cell.Statement.{statement}
 use Rattle.frame.proofs.listing.bytes.next_cell.Tie as tie
@@ -21,7 +21,7 @@ same_length : tie.Need-same-length
 same_length c = search rules
 
 returns : tie.Need-returns
-unfolding cellText bytes
+unfolding cell_text bytes
 returns c =
     let k = c.before.before.before.before.before in
     rw (sym k.before.kind-of.ensures ∙ k.if1.true) c.before.before.word.ensures
@@ -36,7 +36,7 @@ same-length-2 : tie.Need-same-length-2
 same-length-2 c = search rules
 
 returns-2 : tie.Need-returns-2
-unfolding cellText bytes
+unfolding cell_text bytes
 returns-2 c =
     let k = c.before.before.before.before.before in
     rw (sym k.before.before.kind-of.ensures ∙ k.if2.true) c.before.before.word2.ensures
@@ -64,11 +64,11 @@ returns-3 c =
     let e = l.before.before in
     let k = e.before in
     let value = k.before.before.args.value in
-    rw (cell-lettered (kind_of value) (numberIn value) (rw k.kind-of.ensures at e.if1.false) (rw k.kind-of.ensures at l.before.if2.false))
+    rw (cell_lettered (kind_of value) (number_in value) (rw k.kind-of.ensures at e.if1.false) (rw k.kind-of.ensures at l.before.if2.false))
     (rw (l.letter.ensures, n.number_in.ensures.0, k.kind-of.ensures) at c.before.before.lettered.ensures)
 
-pub next-cell-spec : {M : Type 1} → statement M
-next-cell-spec =
+pub next_cell_spec : {M : Type 1} → statement M
+next_cell_spec =
     tie.close
     (tie.spec
     kind-of-requires

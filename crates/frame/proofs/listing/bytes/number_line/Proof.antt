@@ -24,8 +24,8 @@ returns : tie.Need-returns
 unfolding bytes
 returns c = wrote_then c.before.before.before.before.before.before.before.before.before.before.before.word.ensures (wrote_then c.before.before.before.before.before.before.before.number.ensures c.before.before.word2.ensures)
 
-pub number-line-spec : {M : Type 1} → statement M
-number-line-spec =
+pub number_line_spec : {M : Type 1} → statement M
+number_line_spec =
     tie.close
     (tie.spec
     word-requires

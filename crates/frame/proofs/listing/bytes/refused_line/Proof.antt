@@ -1,7 +1,7 @@
 -- `listing::bytes::refused_line` meets its contract. Assumes nothing.
 use Rattle.station.specs.Text.{bytes}
 use Rattle.station.proofs.Theorems.{wrote_then}
-use Rattle.frame.specs.Listing.{refusedLine}
+use Rattle.frame.specs.Listing.{refused_line}
 use borrow.Author.Rules.{rules}
 use Rattle.frame.proofs.listing.bytes.refused_line.Statement.{statement}
 use Rattle.frame.proofs.listing.bytes.refused_line.Tie as tie
@@ -25,11 +25,11 @@ same_length : tie.Need-same-length
 same_length c = search rules
 
 returns : tie.Need-returns
-unfolding refusedLine bytes
+unfolding refused_line bytes
 returns c = wrote_then c.before.before.before.before.before.before.word.ensures (rw c.before.before.before.before.before.before.before.before.before.cause-number.ensures at c.before.before.numbers-end.ensures)
 
-pub refused-line-spec : {M : Type 1} → statement M
-refused-line-spec =
+pub refused_line_spec : {M : Type 1} → statement M
+refused_line_spec =
     tie.close
     (tie.spec
     cause-number-requires

@@ -1,10 +1,10 @@
 -- `listing::bytes::slot_line` meets its contract. Assumes nothing.
 use native.Mathlib.Numerals.{add-one}
 use Rattle.station.specs.Text.{bytes}
-use Rattle.station.proofs.Theorems.{left-then, wrote_none, wrote_then}
-use Rattle.frame.specs.Listing.{slotLine, cellTexts}
-use Rattle.frame.specs.method.SlotLines.{ofBridges}
-use Rattle.frame.proofs.listing.bytes.SlotLines.{line-of-slot, no_slot, no-bridges}
+use Rattle.station.proofs.Theorems.{left_then, wrote_none, wrote_then}
+use Rattle.frame.specs.Listing.{slot_line, cell_texts}
+use Rattle.frame.specs.method.SlotLines.{of_bridges}
+use Rattle.frame.proofs.listing.bytes.SlotLines.{line_of_slot_lem, no_slot, no_bridges}
 use borrow.Author.Rules.{rules}
 use Rattle.frame.proofs.listing.bytes.slot_line.Statement.{statement}
 use Rattle.frame.proofs.listing.bytes.slot_line.Tie as tie
@@ -13,7 +13,7 @@ returns : tie.Need-returns
 returns c = let a = c.before.before.before.args in rw (no_slot a.bridges a.table.now a.slot c.if1.true) (wrote_none a.out.now a.at)
 
 returns-2 : tie.Need-returns-2
-returns-2 c = let a = c.before.before.before.before.args in rw (no-bridges a.bridges a.table.now a.slot c.before.if1.false c.if2.true) (wrote_none a.out.now a.at)
+returns-2 c = let a = c.before.before.before.before.args in rw (no_bridges a.bridges a.table.now a.slot c.before.if1.false c.if2.true) (wrote_none a.out.now a.at)
 
 slice-aggregate-word : tie.Need-slice-aggregate-word
 slice-aggregate-word c = search rules
@@ -40,13 +40,13 @@ same_length : tie.Need-same-length
 same_length c = search rules
 
 returns-3 : tie.Need-returns-3
-unfolding slotLine bytes
+unfolding slot_line bytes
 returns-3 c = let a = c.before.before.before.before.before.before.before.before.before.before.before.before.before.before.before.before.before.before.before.before.before.before.args in
-    rw (line-of-slot a.bridges a.table.now a.slot c.before.before.before.before.before.before.before.before.before.before.before.before.before.before.before.before.before.before.before.if1.false c.before.before.before.before.before.before.before.before.before.before.before.before.before.before.before.before.before.before.if2.false)
-    (wrote_then c.before.before.before.before.before.before.before.before.before.before.before.before.before.before.before.word.ensures (wrote_then (rw add-one at c.before.before.before.before.before.before.before.before.before.before.before.number.ensures) (left-then {all = cellTexts (ofBridges a.bridges) a.table.now a.slot 0 a.bridges} c.before.before.before.before.before.before.before.slot-cells.ensures c.before.before.word2.ensures)))
+    rw (line_of_slot_lem a.bridges a.table.now a.slot c.before.before.before.before.before.before.before.before.before.before.before.before.before.before.before.before.before.before.before.if1.false c.before.before.before.before.before.before.before.before.before.before.before.before.before.before.before.before.before.before.if2.false)
+    (wrote_then c.before.before.before.before.before.before.before.before.before.before.before.before.before.before.before.word.ensures (wrote_then (rw add-one at c.before.before.before.before.before.before.before.before.before.before.before.number.ensures) (left_then {all = cell_texts (of_bridges a.bridges) a.table.now a.slot 0 a.bridges} c.before.before.before.before.before.before.before.slot-cells.ensures c.before.before.word2.ensures)))
 
-pub slot-line-spec : {M : Type 1} → statement M
-slot-line-spec =
+pub slot_line_spec : {M : Type 1} → statement M
+slot_line_spec =
     tie.close
     (tie.spec
     returns

@@ -31,8 +31,8 @@ returns-2 : tie.Need-returns-2
 unfolding print bytes
 returns-2 c = rw c.before.before.before.before.before.if1.false c.before.before.word2.ensures
 
-pub tie-line-spec : {M : Type 1} → statement M
-tie-line-spec =
+pub tie_line_spec : {M : Type 1} → statement M
+tie_line_spec =
     tie.close
     (tie.spec
     slice-aggregate-word

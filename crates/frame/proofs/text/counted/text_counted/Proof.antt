@@ -1,6 +1,6 @@
 -- `counted::text_counted` meets its contract: a text that is too long and fewer than 32 records are refused, else the text is run. Assumes nothing.
 use borrow.Author.Rules.{rules}
-use Rattle.frame.proofs.text.ListOfRecords.{text-long, text-few, text-enough}
+use Rattle.frame.proofs.text.ListOfRecords.{text_long, text_few, text_enough}
 use Rattle.frame.proofs.text.counted.text_counted.Statement.{statement}
 use Rattle.frame.proofs.text.counted.text_counted.Tie as tie
 
@@ -10,7 +10,7 @@ refused-at-start-requires c κs = search rules
 returns : tie.Need-returns
 returns c =
     let a = c.before.before.before.before.before.args in
-    text-long a.records a.text.now a.table.now a.out.now a.head a.copied a.clock a.hold c.before.if1.true c.refused-at-start.ensures
+    text_long a.records a.text.now a.table.now a.out.now a.head a.copied a.clock a.hold c.before.if1.true c.refused-at-start.ensures
 
 refused-at-start-requires-2 : tie.Need-refused-at-start-requires-2
 refused-at-start-requires-2 c κs = search rules
@@ -18,7 +18,7 @@ refused-at-start-requires-2 c κs = search rules
 returns-2 : tie.Need-returns-2
 returns-2 c =
     let a = c.before.before.before.before.before.before.args in
-    text-few a.records a.text.now a.table.now a.out.now a.head a.copied a.clock a.hold c.before.before.if1.false c.before.if2.true
+    text_few a.records a.text.now a.table.now a.out.now a.head a.copied a.clock a.hold c.before.before.if1.false c.before.if2.true
     c.refused-at-start2.ensures
 
 run-text-by-value-requires : tie.Need-run-text-by-value-requires
@@ -35,10 +35,10 @@ returns-3 c =
     let r = c.before.before.before.before in
     let i = r.before.before.before in
     let a = i.before.before.before.before.before.args in
-    text-enough a.records a.text.now a.table.now a.out.now a.head a.copied a.clock a.hold i.if2.false r.run-text-by-value.ensures.0
+    text_enough a.records a.text.now a.table.now a.out.now a.head a.copied a.clock a.hold i.if2.false r.run-text-by-value.ensures.0
 
-pub text-counted-spec : {M : Type 1} → statement M
-text-counted-spec =
+pub text_counted_spec : {M : Type 1} → statement M
+text_counted_spec =
     tie.close
     (tie.spec
     refused-at-start-requires

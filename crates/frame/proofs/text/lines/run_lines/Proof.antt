@@ -5,7 +5,7 @@ use native.Mathlib.Omega.{arith}
 use lib.ListN.{length}
 use borrow.Author.Rules.{rules}
 use Rattle.placing.specs.State.{state_of}
-use Rattle.frame.proofs.text.lines.LineLoop.{AtEvent, at_first, line-inside, line-bytes, at_next, at-end}
+use Rattle.frame.proofs.text.lines.LineLoop.{AtEvent, at_first, line_inside, line_bytes, at_next, at_end}
 use Rattle.frame.proofs.text.lines.run_lines.Statement.{statement}
 use Rattle.frame.proofs.text.lines.run_lines.Tie as tie
 
@@ -49,13 +49,13 @@ add_at : tie.Need-overflow-add-at invariant-loop decreases-loop
 add_at c =
     let x = found c in
     let i = x.before.before.loop.inv in
-    omega (arith, line-inside i x.before.loop-test.taken x.line_at_lem.ensures, i.short)
+    omega (arith, line_inside i x.before.loop-test.taken x.line_at_lem.ensures, i.short)
 
 loop-less : tie.Need-loop-smaller invariant-loop decreases-loop
 loop-less c =
     let x = found c in
     let i = x.before.before.loop.inv in
-    omega (arith, line-bytes i x.before.loop-test.taken x.line_at_lem.ensures, x.before.loop-test.taken)
+    omega (arith, line_bytes i x.before.loop-test.taken x.line_at_lem.ensures, x.before.loop-test.taken)
 
 loop-again : tie.Need-loop-preserved invariant-loop decreases-loop
 loop-again c =
@@ -71,10 +71,10 @@ same-length-2 : tie.Need-same-length-2 invariant-loop decreases-loop
 same-length-2 c = c.before.loop.invariant.output.size
 
 returns : tie.Need-returns invariant-loop decreases-loop
-returns c = at-end c.before.loop.invariant c.loop-test.false
+returns c = at_end c.before.loop.invariant c.loop-test.false
 
-pub run-lines-spec : {M : Type 1} → statement M
-run-lines-spec =
+pub run_lines_spec : {M : Type 1} → statement M
+run_lines_spec =
     tie.close
     (tie.spec
     invariant-loop

@@ -2,23 +2,23 @@
 use mathlib.Core.Path.{sym}
 use borrow.Author.Tests.{eq-eqb, ne_eqb, lt-ltb, le-ltb, le-leb, lt-leb}
 use borrow.Author.Rules.{rules}
-use Rattle.placing.specs.method.Check.{cellFits}
+use Rattle.placing.specs.method.Check.{cell_fits}
 use Rattle.placing.proofs.check.table.cell_fits.Statement.{statement}
 use Rattle.placing.proofs.check.table.cell_fits.Tie as tie
 
 returns : tie.Need-returns
-unfolding cellFits
+unfolding cell_fits
 returns c = simp c.if1.true
 
 returns-2 : tie.Need-returns-2
-unfolding cellFits
+unfolding cell_fits
 returns-2 c = simp (c.before.if1.false, lt-ltb _ _ c.if2.true)
 
 number-in-requires : tie.Need-number-in-requires
 number-in-requires c κs = search rules
 
 returns-3 : tie.Need-returns-3
-unfolding cellFits
+unfolding cell_fits
 returns-3 c =
     simp (
       c.before.before.before.before.if1.false,
@@ -28,7 +28,7 @@ returns-3 c =
     )
 
 returns-4 : tie.Need-returns-4
-unfolding cellFits
+unfolding cell_fits
 returns-4 c =
     simp (
       c.before.before.before.before.before.if1.false,
@@ -42,7 +42,7 @@ element-copy-out-result : tie.Need-element-copy-out-result
 element-copy-out-result c = search rules
 
 returns-5 : tie.Need-returns-5
-unfolding cellFits
+unfolding cell_fits
 returns-5 c =
     simp (
       c.before.before.before.before.before.before.if1.false,
@@ -57,7 +57,7 @@ element-copy-out-if6 : tie.Need-element-copy-out-if6
 element-copy-out-if6 c = search rules
 
 returns-6 : tie.Need-returns-6
-unfolding cellFits
+unfolding cell_fits
 returns-6 c =
     simp (
       c.before.before.before.before.before.if1.false,
@@ -68,7 +68,7 @@ returns-6 c =
     )
 
 returns-7 : tie.Need-returns-7
-unfolding cellFits
+unfolding cell_fits
 returns-7 c =
     simp (
       c.before.before.before.before.before.before.if1.false,
@@ -92,7 +92,7 @@ element-copy-out-result-2 : tie.Need-element-copy-out-result-2
 element-copy-out-result-2 c = search rules
 
 returns-8 : tie.Need-returns-8
-unfolding cellFits
+unfolding cell_fits
 returns-8 c =
     simp (
       c.before.before.before.before.before.before.before.if1.false,
@@ -103,8 +103,8 @@ returns-8 c =
       sym c.before.before.before.before.before.number_in.ensures.0,
     )
 
-pub cell-fits-spec : {M : Type 1} → statement M
-cell-fits-spec =
+pub cell_fits_spec : {M : Type 1} → statement M
+cell_fits_spec =
     tie.close
     (tie.spec
     returns

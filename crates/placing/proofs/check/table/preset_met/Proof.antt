@@ -1,8 +1,8 @@
 -- `check::table::preset_met` meets its contract. Assumes nothing.
 use mathlib.Core.Path.{sym}
 use borrow.Author.Rules.{rules}
-use Rattle.station.specs.Types.{presetIn}
-use Rattle.placing.proofs.check.table.Counted.{met-exact, met-not}
+use Rattle.station.specs.Types.{preset_in}
+use Rattle.placing.proofs.check.table.Counted.{met_exact, met_not}
 use Rattle.placing.proofs.check.table.preset_met.Statement.{statement}
 use Rattle.placing.proofs.check.table.preset_met.Tie as tie
 
@@ -21,7 +21,7 @@ cast-if1 c = search rules
 returns : tie.Need-returns
 returns c =
     let a = c.before.before.before.before.args in
-    sym (met-not a.counts.now (presetIn a.preset) c.if1.true)
+    sym (met_not a.counts.now (preset_in a.preset) c.if1.true)
 
 cast-optional : tie.Need-overflow-cast-optional
 cast-optional c = search rules
@@ -41,10 +41,10 @@ cast-result c = search rules
 returns-2 : tie.Need-returns-2
 returns-2 c =
     let a = c.before.before.before.before.before.before.before.args in
-    sym (met-exact a.counts.now (presetIn a.preset) c.before.before.before.if1.false)
+    sym (met_exact a.counts.now (preset_in a.preset) c.before.before.before.if1.false)
 
-pub preset-met-spec : {M : Type 1} → statement M
-preset-met-spec =
+pub preset_met_spec : {M : Type 1} → statement M
+preset_met_spec =
     tie.close
     (tie.spec
     cast-mandatory

@@ -7,25 +7,25 @@ use mathlib.Core.Path.{◌≡◌, sym, ◌∙◌, ap, subst}
 use lib.ListN.{take}
 use borrow.Author.Tests.{not-true, not-false}
 use borrow.Author.Rules.{rules}
-use Rattle.laws.proofs.Every.{every-not}
-use Rattle.laws.proofs.Loops.{every-none, every_more}
+use Rattle.laws.proofs.Every.{every_not}
+use Rattle.laws.proofs.Loops.{every_none, every_more}
 use Rattle.laws.specs.Sums.{every, count}
-use Rattle.station.specs.Types.{presetIn}
-use Rattle.placing.specs.method.Check.{presetMet, isMet}
-use Rattle.placing.proofs.HeadRecord.{preset-at}
+use Rattle.station.specs.Types.{preset_in}
+use Rattle.placing.specs.method.Check.{preset_met, is_met}
+use Rattle.placing.proofs.HeadRecord.{preset_at_lem}
 use Rattle.placing.proofs.check.table.presets_met.Statement.{statement}
 use Rattle.placing.proofs.check.table.presets_met.Tie as tie
 
 -- `check::table::presets_met` meets its contract. The loop's invariant: the presets before `i` have their cells. Assumes nothing.
 
 abbrev invariant-loop : tie.invariant-loop
-invariant-loop counts presets count i₀ i = (i ≤ count) × (count ≤ 32) × (every i (presetMet (map presetIn (take count presets)) counts) ≡ true)
+invariant-loop counts presets count i₀ i = (i ≤ count) × (count ≤ 32) × (every i (preset_met (map preset_in (take count presets)) counts) ≡ true)
 
 abbrev decreases-loop : tie.decreases-loop
 decreases-loop counts presets count i₀ i = count - i
 
 loop-holds : tie.Need-loop-init invariant-loop decreases-loop
-loop-holds c = (omega arith, omega arith, every-none _)
+loop-holds c = (omega arith, omega arith, every_none _)
 
 mul-preset-met : tie.Need-overflow-mul-preset-met invariant-loop decreases-loop
 mul-preset-met c = omega arith
@@ -40,8 +40,8 @@ returns : tie.Need-returns invariant-loop decreases-loop
 returns c =
     let a = c.before.before.before.before.before.args in
     let i = c.before.before.before.before.loop.i in
-    sym (every-not a.head.count _ i (omega arith)
-    (ap (isMet a.counts.now) (preset-at a.head.count a.t2 i (omega arith)) ∙ sym c.before.preset-met.ensures ∙ not-true _ c.if1.true))
+    sym (every_not a.head.count _ i (omega arith)
+    (ap (is_met a.counts.now) (preset_at_lem a.head.count a.t2 i (omega arith)) ∙ sym c.before.preset-met.ensures ∙ not-true _ c.if1.true))
 
 add-i : tie.Need-overflow-add-i invariant-loop decreases-loop
 add-i c = omega arith
@@ -56,17 +56,17 @@ loop-again c =
       omega arith,
       omega arith,
       every_more i _ c.before.before.before.before.loop.invariant.2
-          (ap (isMet a.counts.now) (preset-at a.head.count a.t2 i (omega arith)) ∙ sym c.before.preset-met.ensures ∙ not-false _ c.if1.false),
+          (ap (is_met a.counts.now) (preset_at_lem a.head.count a.t2 i (omega arith)) ∙ sym c.before.preset-met.ensures ∙ not-false _ c.if1.false),
     )
 
 returns-2 : tie.Need-returns-2 invariant-loop decreases-loop
 returns-2 c =
     let a = c.before.before.args in
     let e : c.before.loop.i ≡ a.head.count = omega arith in
-    sym (subst (λ (n : ℕ). every n (presetMet (map presetIn (take a.head.count a.t2)) a.counts.now) ≡ true) e c.before.loop.invariant.2)
+    sym (subst (λ (n : ℕ). every n (preset_met (map preset_in (take a.head.count a.t2)) a.counts.now) ≡ true) e c.before.loop.invariant.2)
 
-pub presets-met-spec : {M : Type 1} → statement M
-presets-met-spec =
+pub presets_met_spec : {M : Type 1} → statement M
+presets_met_spec =
     tie.close
     (tie.spec
     invariant-loop

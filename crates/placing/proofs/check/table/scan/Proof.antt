@@ -7,10 +7,10 @@ use mathlib.Core.Path.{◌≡◌, sym, ◌∙◌}
 use lib.ListN.{length, get_or}
 use borrow.Author.Tests.{not-true, not-false}
 use borrow.Author.Rules.{rules}
-use Rattle.placing.specs.method.Limits.{motorsIn}
-use Rattle.placing.proofs.HeadRecord.{place-lt}
-use Rattle.placing.proofs.check.table.Counted.{tally-le}
-use Rattle.placing.proofs.check.table.FrameWalk.{fits_below, Passed, Walked, passed_none, slot-begun, walked_skip, walked_more, slot-done, cell-unfit, number-twice, no-motor-left, no-fault}
+use Rattle.placing.specs.method.Limits.{motors_in}
+use Rattle.placing.proofs.HeadRecord.{place_lt}
+use Rattle.placing.proofs.check.table.Counted.{tally_le}
+use Rattle.placing.proofs.check.table.FrameWalk.{fits_below, Passed, Walked, passed_none, slot_begun, walked_skip, walked_more, slot_done, cell_unfit, number_twice, no_motor_left, no_fault}
 use Rattle.placing.proofs.check.table.scan.Statement.{statement}
 use Rattle.placing.proofs.check.table.scan.Tie as tie
 
@@ -37,7 +37,7 @@ module _ (f : tie.At-frame invariant-loop decreases-loop invariant-frame decreas
   abbrev fed : ℕ
   fed = f.before.before.motors.result
 
-  fed-is : fed ≡ motorsIn begun.args.head
+  fed-is : fed ≡ motors_in begun.args.head
   fed-is = f.before.before.motors.ensures
 
 module _ (k : tie.At-loop invariant-loop decreases-loop invariant-frame decreases-frame) where
@@ -57,7 +57,7 @@ at-loop c = c.before.before.before.before
 below_end : (c : tie.In-loop invariant-loop decreases-loop invariant-frame decreases-frame) → c.before.loop.at < 512
 below_end c =
     let k = c.before in
-    omega (arith, k.loop.invariant.5.place, place-lt (slot k) k.loop.b (begun (at-frame k)).args.head.bridges 512 (omega arith) (omega arith) (omega arith) (omega arith))
+    omega (arith, k.loop.invariant.5.place, place_lt (slot k) k.loop.b (begun (at-frame k)).args.head.bridges 512 (omega arith) (omega arith) (omega arith) (omega arith))
 
 -- what it holds, where it fits
 below : (c : tie.Else1 invariant-loop decreases-loop invariant-frame decreases-frame) → value (at-loop c.before) < 1280
@@ -89,7 +89,7 @@ loop-holds c =
       f.invariant.2,
       omega arith,
       omega arith,
-      slot-begun a.head.bridges (fed c.before) a.head.busy a.numbers.now a.table.now f.s f.at f.counts f.new f.invariant.4,
+      slot_begun a.head.bridges (fed c.before) a.head.busy a.numbers.now a.table.now f.s f.at f.counts f.new f.invariant.4,
     )
 
 mul-v : tie.Need-overflow-mul-v invariant-loop decreases-loop invariant-frame decreases-frame
@@ -136,7 +136,7 @@ add-counts c =
     let k = at-loop c.before.before.before.before.before.before in
     rw k.loop.inv.5.counted (omega (
       arith,
-      tally-le (begun (at-frame k)).args.table.now (value k - 512) k.loop.at,
+      tally_le (begun (at-frame k)).args.table.now (value k - 512) k.loop.at,
       below_end c.before.before.before.before.before.before.before.before.before,
     ))
 
@@ -180,8 +180,8 @@ add-s c = omega arith
 frame-less : tie.Need-frame-smaller invariant-loop decreases-loop invariant-frame decreases-frame
 frame-less c = omega arith
 
-frame-again : tie.Need-frame-preserved invariant-loop decreases-loop invariant-frame decreases-frame
-frame-again c =
+frame_again : tie.Need-frame-preserved invariant-loop decreases-loop invariant-frame decreases-frame
+frame_again c =
     let k = c.before in
     let a = (begun (at-frame k)).args in
     let l = k.loop in (
@@ -189,7 +189,7 @@ frame-again c =
       l.invariant.1,
       l.invariant.2,
       omega arith,
-      slot-done a.head.bridges (fed (at-frame k)) a.head.busy a.numbers.now a.table.now (slot k) l.b l.at l.counts l.last l.held l.invariant.5 (omega arith),
+      slot_done a.head.bridges (fed (at-frame k)) a.head.busy a.numbers.now a.table.now (slot k) l.b l.at l.counts l.last l.held l.invariant.5 (omega arith),
     )
 
 returns : tie.Need-returns invariant-loop decreases-loop invariant-frame decreases-frame
@@ -197,7 +197,7 @@ returns c =
     let a = (begun c.before).args in
     let f = c.before.frame in (
       rw (sym (fed-is c.before))
-          (no-fault a.head.bridges (fed c.before) a.head.busy a.numbers.now a.table.now
+          (no_fault a.head.bridges (fed c.before) a.head.busy a.numbers.now a.table.now
           a.head.slots f.s f.at f.counts f.new f.invariant.4 (omega arith)),
       f.invariant.4.counted,
     )
@@ -208,7 +208,7 @@ returns-2 c =
     let a = (begun (at-frame k)).args in
     let l = k.loop in (
       rw (sym (fed-is (at-frame k)))
-          (cell-unfit a.head.bridges (fed (at-frame k)) a.head.busy a.numbers.now a.table.now
+          (cell_unfit a.head.bridges (fed (at-frame k)) a.head.busy a.numbers.now a.table.now
           (slot k) l.b l.at l.counts l.last l.held l.inv.5 a.head.slots l.inv.3 (omega arith)
           (sym c.before.cell-fits.ensures ∙ not-true _ c.if1.true)),
       l.inv.5.counted,
@@ -220,7 +220,7 @@ returns-3 c =
     let a = (begun (at-frame k)).args in
     let l = k.loop in (
       rw (sym (fed-is (at-frame k)))
-          (no-motor-left a.head.bridges (fed (at-frame k)) a.head.busy a.numbers.now a.table.now
+          (no_motor_left a.head.bridges (fed (at-frame k)) a.head.busy a.numbers.now a.table.now
           (slot k) l.b l.at l.counts l.last l.held l.inv.5 a.head.slots l.inv.3 (omega arith)
           c.before.if2.true c.if3.true),
       l.inv.5.counted,
@@ -233,14 +233,14 @@ returns-4 c =
     let a = (begun (at-frame k)).args in
     let l = k.loop in (
       rw (sym (fed-is (at-frame k)))
-          (number-twice a.head.bridges (fed (at-frame k)) a.head.busy a.numbers.now a.table.now
+          (number_twice a.head.bridges (fed (at-frame k)) a.head.busy a.numbers.now a.table.now
           (slot k) l.b l.at l.counts l.last l.held l.inv.5 a.head.slots l.inv.3 (omega arith)
           n.before.before.if2.true (rw n.number_in.ensures.0 at c.if4.true)),
       l.inv.5.counted,
     )
 
-pub scan-spec : {M : Type 1} → statement M
-scan-spec =
+pub scan_spec : {M : Type 1} → statement M
+scan_spec =
     tie.close
     (tie.spec
     invariant-loop
@@ -273,7 +273,7 @@ scan-spec =
     loop-again
     add-s
     frame-less
-    frame-again
+    frame_again
     returns
     returns-2
     returns-3

@@ -9,12 +9,12 @@ use borrow.Author.Tests.{not-true, not-false}
 use borrow.Author.Rules.{rules}
 use Rattle.laws.specs.Sums.{every, count}
 use Rattle.station.specs.Head.{Head, Valid}
-use Rattle.station.specs.Types.{headIn}
-use Rattle.placing.specs.Table.{presetCount, motors}
-use Rattle.placing.specs.method.Check.{tally, numbered, presetMet, hasCall, FirstFault}
-use Rattle.placing.proofs.check.table.Counted.{tally-none}
-use Rattle.placing.proofs.check.table.SameTest.{cell-fails, cells_fit, preset-fails, all-but-jobs}
-use Rattle.placing.proofs.HeadRecord.{frame-le, count-high, record-valid, presets-count}
+use Rattle.station.specs.Types.{head_in}
+use Rattle.placing.specs.Table.{preset_count, motors}
+use Rattle.placing.specs.method.Check.{tally, numbered, preset_met, has_call, FirstFault}
+use Rattle.placing.proofs.check.table.Counted.{tally_none}
+use Rattle.placing.proofs.check.table.SameTest.{cell_fails, cells_fit, preset_fails, all_but_jobs}
+use Rattle.placing.proofs.HeadRecord.{frame_le, count_high, record_valid, presets_count}
 use Rattle.placing.proofs.check.table.well_formed.Statement.{statement}
 use Rattle.placing.proofs.check.table.well_formed.Tie as tie
 
@@ -22,23 +22,23 @@ use Rattle.placing.proofs.check.table.well_formed.Tie as tie
 
 module _ (c : tie.Start) where
   abbrev head_of : Head
-  head_of = headIn c.args.head c.args.presets
+  head_of = head_in c.args.head c.args.presets
 
-  valid-head : Valid head_of
-  valid-head = record-valid c.args.head c.args.presets c.requires.0
+  valid_head : Valid head_of
+  valid_head = record_valid c.args.head c.args.presets c.requires.0
 
   few : c.args.head.count ≤ 32
-  few = count-high c.args.head c.args.presets c.requires.0
+  few = count_high c.args.head c.args.presets c.requires.0
 
   -- the presets are as many as the head says
-  lines : presetCount head_of ≡ c.args.head.count
-  lines = presets-count c.args.head c.args.presets (omega (arith, c.well-formed.1.0.1.0.1, few))
+  lines : preset_count head_of ≡ c.args.head.count
+  lines = presets_count c.args.head c.args.presets (omega (arith, c.well-formed.1.0.1.0.1, few))
 
 mul-cells : tie.Need-overflow-mul-cells
 mul-cells c =
     let s = c.before.before in
-    let v = valid-head s in
-    omega (arith, frame-le s.args.head.slots s.args.head.bridges v.slots-high v.bridges-high)
+    let v = valid_head s in
+    omega (arith, frame_le s.args.head.slots s.args.head.bridges v.slots-high v.bridges-high)
 
 preset-numbers-requires : tie.Need-preset-numbers-requires
 preset-numbers-requires c κs = few c.before.before
@@ -46,8 +46,8 @@ preset-numbers-requires c κs = few c.before.before
 scan-requires : tie.Need-scan-requires
 scan-requires c κs =
     let s = c.before.before.before.before.before in
-    let v = valid-head s in
-    (v.slots-high, v.bridges-high, s.requires.1, sym (tally-none s.args.table.now))
+    let v = valid_head s in
+    (v.slots-high, v.bridges-high, s.requires.1, sym (tally_none s.args.table.now))
 
 -- ---- after the scan
 
@@ -63,7 +63,7 @@ module _ (c : tie.After-scan) where
 
   -- the first cell at fault, by the counts of the head's presets
   first : FirstFault begun.args.head.slots begun.args.head.bridges (motors (head_of begun)) begun.args.head.busy
-      (numbered (head_of begun).presets (presetCount (head_of begun))) held c.scan.result
+      (numbered (head_of begun).presets (preset_count (head_of begun))) held c.scan.result
   first =
       subst (λ (ns : List ℕ). FirstFault begun.args.head.slots begun.args.head.bridges (motors (head_of begun)) begun.args.head.busy ns held c.scan.result)
       (c.before.before.before.preset-numbers.ensures ∙ ap (numbered (head_of begun).presets) (sym (lines begun))) c.scan.ensures.0
@@ -71,7 +71,7 @@ module _ (c : tie.After-scan) where
 returns : tie.Need-returns
 returns c =
     let s = begun c.before in
-    sym (cell-fails (head_of s) (valid-head s) (held c.before) c.before.scan.result (first c.before) c.if1.true)
+    sym (cell_fails (head_of s) (valid_head s) (held c.before) c.before.scan.result (first c.before) c.if1.true)
 
 module _ (c : tie.Else1) where
   abbrev scanned : tie.After-scan
@@ -84,10 +84,10 @@ module _ (c : tie.Else1) where
       ap (tally (held scanned)) (sym whole) ∙ sym scanned.scan.ensures.1
 
   -- the test by presets, by the counts at hand
-  presets-by : every (presetCount (head_of (begun scanned)))
-      (presetMet (head_of (begun scanned)).presets (tally (held scanned) ((begun scanned).args.head.slots * (begun scanned).args.head.bridges)))
-      ≡ every (begun scanned).args.head.count (presetMet (head_of (begun scanned)).presets (counts scanned))
-  presets-by = ap₂ (λ (k : ℕ) (l : List ℕ). every k (presetMet (head_of (begun scanned)).presets l)) (lines (begun scanned)) full
+  presets-by : every (preset_count (head_of (begun scanned)))
+      (preset_met (head_of (begun scanned)).presets (tally (held scanned) ((begun scanned).args.head.slots * (begun scanned).args.head.bridges)))
+      ≡ every (begun scanned).args.head.count (preset_met (head_of (begun scanned)).presets (counts scanned))
+  presets-by = ap₂ (λ (k : ℕ) (l : List ℕ). every k (preset_met (head_of (begun scanned)).presets l)) (lines (begun scanned)) full
 
 presets-met-requires : tie.Need-presets-met-requires
 presets-met-requires c κs = few (begun (scanned c.before))
@@ -96,7 +96,7 @@ returns-2 : tie.Need-returns-2
 returns-2 c =
     let l = c.before.before.before in
     let s = begun (scanned l) in
-    sym (preset-fails (head_of s) (valid-head s) (held (scanned l)) (presets-by l ∙ sym c.before.presets-met.ensures ∙ not-true _ c.if2.true))
+    sym (preset_fails (head_of s) (valid_head s) (held (scanned l)) (presets-by l ∙ sym c.before.presets-met.ensures ∙ not-true _ c.if2.true))
 
 job-count-requires : tie.Need-job-count-requires
 job-count-requires c κs = search rules
@@ -106,14 +106,14 @@ returns-3 c =
     let met = c.before.before in
     let l = met.before.before.before in
     let s = begun (scanned l) in
-    sym (all-but-jobs (head_of s) (valid-head s) (held (scanned l))
-    (cells_fit (head_of s) (valid-head s) (held (scanned l)) (scanned l).scan.result (first (scanned l)) l.if1.false)
+    sym (all_but_jobs (head_of s) (valid_head s) (held (scanned l))
+    (cells_fit (head_of s) (valid_head s) (held (scanned l)) (scanned l).scan.result (first (scanned l)) l.if1.false)
     (presets-by l ∙ sym met.before.presets-met.ensures ∙ not-false _ met.if2.false)
-    ∙ ap (λ (x : List ℕ). leb (count 256 (hasCall x)) 64) (full l)
+    ∙ ap (λ (x : List ℕ). leb (count 256 (has_call x)) 64) (full l)
     ∙ ap (λ (n : ℕ). leb n 64) (sym c.job-count.ensures))
 
-pub well-formed-spec : {M : Type 1} → statement M
-well-formed-spec =
+pub well_formed_spec : {M : Type 1} → statement M
+well_formed_spec =
     tie.close
     (tie.spec
     mul-cells

@@ -4,15 +4,15 @@ use Prim.Native.Nat.{ℕ, ◌+◌, ◌≤◌}
 use mathlib.Core.Path.{◌≡◌, sym, ◌∙◌, ap}
 use mathlib.Core.Bool.{false}
 use mathlib.Core.Option.{none}
-use Rattle.laws.proofs.Tests.{none-some, false_of_not, true_of_not}
+use Rattle.laws.proofs.Tests.{none_some, false_of_not, true_of_not}
 use Rattle.station.specs.Head.{Head}
 use Rattle.station.specs.Refusal.{first_of}
 use Rattle.placing.specs.Table.{Cells}
-use Rattle.placing.specs.Types.{jobsIn}
-use Rattle.placing.specs.Outcomes.{jobsOutside, jobCauses}
-use Rattle.placing.specs.Causes.{causeIn, callJobs}
+use Rattle.placing.specs.Types.{jobs_in}
+use Rattle.placing.specs.Outcomes.{jobs_outside, job_causes}
+use Rattle.placing.specs.Causes.{cause_in, call_jobs}
 use Rattle.placing.specs.method.Counts.{CountsOf}
-use Rattle.placing.proofs.counts.causes.CallCauses.{cause-own, cause-seven, cause-passed}
+use Rattle.placing.proofs.counts.causes.CallCauses.{cause_own, cause_seven, cause_passed}
 use borrow.Author.Rules.{rules}
 use Rattle.placing.proofs.counts.causes.cause_by_counts.Statement.{statement}
 use Rattle.placing.proofs.counts.causes.cause_by_counts.Tie as tie
@@ -27,22 +27,22 @@ returns : tie.Need-returns
 returns c =
     let k = c.before.before.before in
     let a = k.before.args in (
-      λ h clock t valid formed right. cause-own h clock (callJobs a.n a.jobs) t _
-          (sym (ap causeIn c.before.r.given.1) ∙ k.own-cause.ensures.0 h t right.used right.jobs),
-      λ q. absurd (none-some (sym q)),
+      λ h clock t valid formed right. cause_own h clock (call_jobs a.n a.jobs) t _
+          (sym (ap cause_in c.before.r.given.1) ∙ k.own-cause.ensures.0 h t right.used right.jobs),
+      λ q. absurd (none_some (sym q)),
     )
 
 enum_told : tie.Need-enum-told
 enum_told c = search rules
 
 -- the jobs are few enough, and within their limits
-known : (e : tie.After-enum-told) → let a = e.before.before.before.args in (a.admitted + a.n ≤ 64) × (a.n ≤ 8) × (jobsOutside (jobsIn a.n a.jobs) ≡ false)
-known e = e.before.before.own-cause.ensures.1 (ap causeIn e.enum_told.given.1)
+known : (e : tie.After-enum-told) → let a = e.before.before.before.args in (a.admitted + a.n ≤ 64) × (a.n ≤ 8) × (jobs_outside (jobs_in a.n a.jobs) ≡ false)
+known e = e.before.before.own-cause.ensures.1 (ap cause_in e.enum_told.given.1)
 
 -- none of the causes of the jobs is met
 own-none : (e : tie.After-enum-told) → let a = e.before.before.before.args in
-    (h : Head) (clock : ℕ) (t : Cells) → CountsOf h clock t a.used.now a.admitted a.entries.now → none ≡ first_of (jobCauses h (callJobs a.n a.jobs) t)
-own-none e h clock t right = sym (ap causeIn e.enum_told.given.1) ∙ e.before.before.own-cause.ensures.0 h t right.used right.jobs
+    (h : Head) (clock : ℕ) (t : Cells) → CountsOf h clock t a.used.now a.admitted a.entries.now → none ≡ first_of (job_causes h (call_jobs a.n a.jobs) t)
+own-none e h clock t right = sym (ap cause_in e.enum_told.given.1) ∙ e.before.before.own-cause.ensures.0 h t right.used right.jobs
 
 jobs-fit-requires : tie.Need-jobs-fit-requires
 jobs-fit-requires c κs = let k = known c in (k.1, k.2)
@@ -52,9 +52,9 @@ returns-2 c =
     let e = c.before.before in
     let s = e.before.before.before in
     let a = s.args in (
-      λ h clock t valid formed right. cause-seven a.jobs (omega (arith, s)) a.n h clock t (own-none e h clock t right) (known e).1
+      λ h clock t valid formed right. cause_seven a.jobs (omega (arith, s)) a.n h clock t (own-none e h clock t right) (known e).1
           (sym (c.before.jobs-fit.ensures h clock t valid formed right.entries) ∙ false_of_not _ c.if1.true),
-      λ q. absurd (none-some (sym q)),
+      λ q. absurd (none_some (sym q)),
     )
 
 returns-3 : tie.Need-returns-3
@@ -62,13 +62,13 @@ returns-3 c =
     let e = c.before.before in
     let s = e.before.before.before in
     let a = s.args in (
-      λ h clock t valid formed right. cause-passed a.jobs (omega (arith, s)) a.n h clock t (own-none e h clock t right) (known e).1
+      λ h clock t valid formed right. cause_passed a.jobs (omega (arith, s)) a.n h clock t (own-none e h clock t right) (known e).1
           (sym (c.before.jobs-fit.ensures h clock t valid formed right.entries) ∙ true_of_not _ c.if1.false),
       λ q. (known e).0,
     )
 
-pub cause-by-counts-spec : {M : Type 1} → statement M
-cause-by-counts-spec =
+pub cause_by_counts_spec : {M : Type 1} → statement M
+cause_by_counts_spec =
     tie.close
     (tie.spec
     own-cause-requires

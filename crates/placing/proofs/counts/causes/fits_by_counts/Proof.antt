@@ -7,17 +7,17 @@ use lib.ListN.{length}
 use borrow.Author.Rules.{rules}
 use Rattle.laws.specs.Lists.{at}
 use Rattle.station.specs.Head.{Job}
-use Rattle.placing.specs.Types.{jobsIn}
-use Rattle.placing.specs.method.Jobs.{jobRecord}
-use Rattle.placing.proofs.grants.Arrays.{raised-low}
-use Rattle.placing.proofs.counts.causes.CallCauses.{jobs-length, job-at, inside-slots, Beside, beside_none, beside-more, beside-fits}
+use Rattle.placing.specs.Types.{jobs_in}
+use Rattle.placing.specs.method.Jobs.{job_record}
+use Rattle.placing.proofs.grants.Arrays.{raised_low}
+use Rattle.placing.proofs.counts.causes.CallCauses.{jobs_length, job_at_lem, inside_slots, Beside, beside_none, beside_more, beside_fits}
 use Rattle.placing.proofs.counts.causes.fits_by_counts.Statement.{statement}
 use Rattle.placing.proofs.counts.causes.fits_by_counts.Tie as tie
 
 abbrev invariant-loop : tie.invariant-loop
 invariant-loop total entries n jobs all₀ together₀ i₀ all together i =
     (i ≤ n) × (n ≤ 8) × (length all ≡ 9) × ((r : ℕ) → r < 9 → at all r ≤ 4096 + 255 * i) × (together ≤ 4096 + 255 * i)
-    × Beside (jobsIn n jobs) all₀ together₀ i all together
+    × Beside (jobs_in n jobs) all₀ together₀ i all together
 
 abbrev decreases-loop : tie.decreases-loop
 decreases-loop total entries n jobs all₀ together₀ i₀ all together i = n - i
@@ -36,8 +36,8 @@ cast-need : tie.Need-overflow-cast-need invariant-loop decreases-loop
 cast-need c = omega arith
 
 -- a job of the call is no longer than a byte
-short : (d : tie.At-loop invariant-loop decreases-loop) → d.loop.i < d.before.args.n → (jobRecord d.before.args.t4 d.loop.i).slots < 256
-short d l = let s = d.before in inside-slots s.args.t4 (omega (arith, s)) s.args.n s.requires.0 s.requires.1 d.loop.i l
+short : (d : tie.At-loop invariant-loop decreases-loop) → d.loop.i < d.before.args.n → (job_record d.before.args.t4 d.loop.i).slots < 256
+short d l = let s = d.before in inside_slots s.args.t4 (omega (arith, s)) s.args.n s.requires.0 s.requires.1 d.loop.i l
 
 raise-sums-requires : tie.Need-raise-sums-requires invariant-loop decreases-loop
 raise-sums-requires c κs =
@@ -62,15 +62,15 @@ loop-again c =
     let a = s.args in
     let l = d.loop in
     let small = short d (omega arith) in
-    let jobs : List Job = jobsIn a.n a.t4 in
-    let here : l.i < length jobs = omega (arith, jobs-length a.t4 (omega (arith, s)) a.n s.requires.0) in
-    let own = sym (ap (λ (j : Job). j.slots) (job-at a.t4 (omega (arith, s)) a.n s.requires.0 l.i (omega arith))) in (
+    let jobs : List Job = jobs_in a.n a.t4 in
+    let here : l.i < length jobs = omega (arith, jobs_length a.t4 (omega (arith, s)) a.n s.requires.0) in
+    let own = sym (ap (λ (j : Job). j.slots) (job_at_lem a.t4 (omega (arith, s)) a.n s.requires.0 l.i (omega arith))) in (
       omega arith,
       l.invariant.1,
       c.raise-sums.ensures.long,
-      (λ r low. omega (arith, small, raised-low l.all _ 0 _ (4096 + 255 * l.i) c.raise-sums.ensures l.invariant.3 r low)),
+      (λ r low. omega (arith, small, raised_low l.all _ 0 _ (4096 + 255 * l.i) c.raise-sums.ensures l.invariant.3 r low)),
       omega (arith, small),
-      beside-more jobs a.sums a.total l.i _ l.all _ here own l.invariant.5 c.raise-sums.ensures refl,
+      beside_more jobs a.sums a.total l.i _ l.all _ here own l.invariant.5 c.raise-sums.ensures refl,
     )
 
 lacks-requires : tie.Need-lacks-requires invariant-loop decreases-loop
@@ -82,11 +82,11 @@ returns c =
     let s = d.before in
     let a = s.args in
     let l = d.loop in
-    beside-fits (jobsIn a.n a.t4) a.sums a.total l.i l.all a.entries.now
-    (omega (arith, jobs-length a.t4 (omega (arith, s)) a.n s.requires.0)) l.invariant.5 c.lacks.ensures
+    beside_fits (jobs_in a.n a.t4) a.sums a.total l.i l.all a.entries.now
+    (omega (arith, jobs_length a.t4 (omega (arith, s)) a.n s.requires.0)) l.invariant.5 c.lacks.ensures
 
-pub fits-by-counts-spec : {M : Type 1} → statement M
-fits-by-counts-spec =
+pub fits_by_counts_spec : {M : Type 1} → statement M
+fits_by_counts_spec =
     tie.close
     (tie.spec
     invariant-loop

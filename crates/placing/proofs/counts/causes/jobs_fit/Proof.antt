@@ -1,8 +1,8 @@
 -- `counts::causes::jobs_fit` meets its contract: one job is held against the first entry; several fit beside nothing unfinished exactly if they fit. Assumes nothing.
 use native.Mathlib.Omega.{arith}
 use Rattle.laws.proofs.Stores.{zeros}
-use Rattle.placing.specs.Types.{jobsIn}
-use Rattle.placing.proofs.counts.causes.CallCauses.{fit-counted, fit-one}
+use Rattle.placing.specs.Types.{jobs_in}
+use Rattle.placing.proofs.counts.causes.CallCauses.{fit_counted, fit_one}
 use borrow.Author.Rules.{rules}
 use Rattle.placing.proofs.counts.causes.jobs_fit.Statement.{statement}
 use Rattle.placing.proofs.counts.causes.jobs_fit.Tie as tie
@@ -23,7 +23,7 @@ returns : tie.Need-returns
 returns c =
     let o = c.before.before.before.before in
     let s = o.before in
-    fit-one s.args.t2 (omega (arith, s)) s.args.n s.args.entries.now o.if1.true c.wide.ensures.0
+    fit_one s.args.t2 (omega (arith, s)) s.args.n s.args.entries.now o.if1.true c.wide.ensures.0
 
 fits-by-counts-requires : tie.Need-fits-by-counts-requires
 fits-by-counts-requires c κs = (c.before.requires.0, c.before.requires.1, (λ r low. omega (arith, zeros 9 r)), omega arith)
@@ -31,10 +31,10 @@ fits-by-counts-requires c κs = (c.before.requires.0, c.before.requires.1, (λ r
 returns-2 : tie.Need-returns-2
 returns-2 c =
     let a = c.before.before.args in
-    fit-counted (jobsIn a.n a.t2) a.entries.now c.fits-by-counts.ensures
+    fit_counted (jobs_in a.n a.t2) a.entries.now c.fits-by-counts.ensures
 
-pub jobs-fit-spec : {M : Type 1} → statement M
-jobs-fit-spec =
+pub jobs_fit_spec : {M : Type 1} → statement M
+jobs_fit_spec =
     tie.close
     (tie.spec
     array-copy-out-job

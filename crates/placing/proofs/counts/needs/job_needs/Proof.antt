@@ -3,21 +3,21 @@ use native.Mathlib.Omega.{arith}
 use Prim.Native.Nat.{◌-◌, ◌%◌, ◌≤◌}
 use mathlib.Core.Path.{◌≡◌}
 use lib.ListN.{length, length-set, replicate}
-use Rattle.laws.proofs.Stores.{Stored, stored-none, stored_more}
-use Rattle.placing.specs.method.Jobs.{jobRecord}
-use Rattle.placing.proofs.counts.causes.CallCauses.{lengths-are}
+use Rattle.laws.proofs.Stores.{Stored, stored_none, stored_more}
+use Rattle.placing.specs.method.Jobs.{job_record}
+use Rattle.placing.proofs.counts.causes.CallCauses.{lengths_are}
 use borrow.Author.Rules.{rules}
 use Rattle.placing.proofs.counts.needs.job_needs.Statement.{statement}
 use Rattle.placing.proofs.counts.needs.job_needs.Tie as tie
 
 abbrev invariant-loop : tie.invariant-loop
-invariant-loop jobs all₀ i₀ all i = (i ≤ 8) × (length all ≡ 64) × Stored (replicate 64 0) (λ j. (jobRecord jobs j).slots % 256) 0 i all
+invariant-loop jobs all₀ i₀ all i = (i ≤ 8) × (length all ≡ 64) × Stored (replicate 64 0) (λ j. (job_record jobs j).slots % 256) 0 i all
 
 abbrev decreases-loop : tie.decreases-loop
 decreases-loop jobs all₀ i₀ all i = 8 - i
 
 loop-holds : tie.Need-loop-init invariant-loop decreases-loop
-loop-holds c = (omega arith, omega arith, stored-none (replicate 64 0) _ 0)
+loop-holds c = (omega arith, omega arith, stored_none (replicate 64 0) _ 0)
 
 mul-job : tie.Need-overflow-mul-job invariant-loop decreases-loop
 mul-job c = omega arith
@@ -49,11 +49,11 @@ returns c =
     let s = c.before.before in
     let l = c.before.loop in
     let e : l.i ≡ 8 = omega arith in
-    lengths-are s.args.t1 (omega (arith, s)) n few inside l.all l.invariant.1
+    lengths_are s.args.t1 (omega (arith, s)) n few inside l.all l.invariant.1
     (λ i m. l.invariant.2.done i (omega arith) (omega arith))
 
-pub job-needs-spec : {M : Type 1} → statement M
-job-needs-spec =
+pub job_needs_spec : {M : Type 1} → statement M
+job_needs_spec =
     tie.close
     (tie.spec
     invariant-loop

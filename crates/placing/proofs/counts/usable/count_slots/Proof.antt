@@ -5,18 +5,18 @@ use mathlib.Core.Path.{◌≡◌, sym, ◌∙◌}
 use lib.ListN.{length}
 use Rattle.laws.specs.method.Capacities.{AtLeast}
 use Rattle.laws.proofs.Tests.{clash, false_of_not, true_of_not}
-use Rattle.laws.proofs.Capacities.{at-least-le, at-least-on}
-use Rattle.placing.specs.method.Search.{firstSlot}
-use Rattle.placing.specs.method.Counts.{slotFree}
+use Rattle.laws.proofs.Capacities.{at_least_le, at_least_on}
+use Rattle.placing.specs.method.Search.{first_slot}
+use Rattle.placing.specs.method.Counts.{slot_free}
 use Rattle.placing.proofs.limits.Within.{limits_of}
-use Rattle.placing.proofs.counts.usable.UsableCells.{eight-le, slot-from, entries-before}
+use Rattle.placing.proofs.counts.usable.UsableCells.{eight_le, slot_from, entries_before}
 use borrow.Author.Rules.{rules}
 use Rattle.placing.proofs.counts.usable.count_slots.Statement.{statement}
 use Rattle.placing.proofs.counts.usable.count_slots.Tie as tie
 
 abbrev invariant-loop : tie.invariant-loop
 invariant-loop table clock slots bridges fed entries₀ s₀ entries s =
-    (slots ≤ 64) × (min (firstSlot clock) slots ≤ s) × (s ≤ slots) × AtLeast entries s (slotFree table bridges fed clock)
+    (slots ≤ 64) × (min (first_slot clock) slots ≤ s) × (s ≤ slots) × AtLeast entries s (slot_free table bridges fed clock)
 
 abbrev decreases-loop : tie.decreases-loop
 decreases-loop table clock slots bridges fed entries₀ s₀ entries s = slots - s
@@ -46,14 +46,14 @@ loop-holds c =
     let m = c.before.before.before in
     let a = m.before.before.args in
     let e = c.first_slot.ensures in
-    ((within c.before).0, omega (arith, e), omega (arith, e), entries-before a.table.now a.head.bridges m.motors.result a.clock c.first_slot.result (omega (arith, e)))
+    ((within c.before).0, omega (arith, e), omega (arith, e), entries_before a.table.now a.head.bridges m.motors.result a.clock c.first_slot.result (omega (arith, e)))
 
 -- the eight cells from the slot's first on are in the table
 inside : (c : tie.In-loop invariant-loop decreases-loop) → let a = c.before.before.before.before.before.before.before.args in c.before.loop.s * a.head.bridges + 8 ≤ 512
 inside c =
     let l = within c.before.before.before in
     let a = c.before.before.before.before.before.before.before.args in
-    eight-le c.before.loop.s a.head.bridges (omega (arith, c.loop-test.true, l.0)) l.1
+    eight_le c.before.loop.s a.head.bridges (omega (arith, c.loop-test.true, l.0)) l.1
 
 mul-usable-in : tie.Need-overflow-mul-usable-in invariant-loop decreases-loop
 mul-usable-in c = omega (arith, inside c)
@@ -62,7 +62,7 @@ usable-in-requires : tie.Need-usable-in-requires invariant-loop decreases-loop
 usable-in-requires c κs = let l = within c.before.before.before in (l.1, omega (arith, inside c, l.3))
 
 enter-slot-requires : tie.Need-enter-slot-requires invariant-loop decreases-loop
-enter-slot-requires c κs = let l = c.before.before.before.loop in (l.invariant.3.long, λ r low. omega (arith, at-least-le l.invariant.3 r low, l.invariant.0, l.invariant.2))
+enter-slot-requires c κs = let l = c.before.before.before.loop in (l.invariant.3.long, λ r low. omega (arith, at_least_le l.invariant.3 r low, l.invariant.0, l.invariant.2))
 
 add-s : tie.Need-overflow-add-s invariant-loop decreases-loop
 add-s c = omega (arith, c.before.before.before.before.loop.invariant.0)
@@ -77,8 +77,8 @@ loop-again c =
     let l = d.loop in
     let m = d.before.before.before.before in
     let a = m.before.before.args in
-    let own = u.usable-in.ensures.0 ∙ sym (slot-from a.table.now a.head.bridges m.motors.result a.clock l.s (omega (arith, l.invariant.1, u.before.loop-test.true))) in
-    (l.invariant.0, omega (arith, l.invariant.1), omega arith, at-least-on l.invariant.3 own c.enter-slot.ensures.0 c.enter-slot.ensures.1)
+    let own = u.usable-in.ensures.0 ∙ sym (slot_from a.table.now a.head.bridges m.motors.result a.clock l.s (omega (arith, l.invariant.1, u.before.loop-test.true))) in
+    (l.invariant.0, omega (arith, l.invariant.1), omega arith, at_least_on l.invariant.3 own c.enter-slot.ensures.0 c.enter-slot.ensures.1)
 
 returns-2 : tie.Need-returns-2 invariant-loop decreases-loop
 returns-2 c =
@@ -89,8 +89,8 @@ returns-2 c =
     let end : l.s ≡ a.head.slots = omega (arith, l.invariant.2, c.loop-test.false) in
     rw m.motors.ensures at (rw end at l.invariant.3)
 
-pub count-slots-spec : {M : Type 1} → statement M
-count-slots-spec =
+pub count_slots_spec : {M : Type 1} → statement M
+count_slots_spec =
     tie.close
     (tie.spec
     invariant-loop

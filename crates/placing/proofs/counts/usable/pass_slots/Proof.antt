@@ -6,8 +6,8 @@ use lib.ListN.{length}
 use Rattle.laws.proofs.Tests.{clash, false_of_not, true_of_not}
 use Rattle.placing.proofs.limits.Within.{limits_of}
 use Rattle.laws.specs.method.Capacities.{AtLeast}
-use Rattle.placing.specs.method.Counts.{slotFree}
-use Rattle.placing.proofs.counts.usable.UsableCells.{eight-le, pass-slot, entries-past}
+use Rattle.placing.specs.method.Counts.{slot_free}
+use Rattle.placing.proofs.counts.usable.UsableCells.{eight_le, pass_slot, entries_past}
 use borrow.Author.Rules.{rules}
 use Rattle.placing.proofs.counts.usable.pass_slots.Statement.{statement}
 use Rattle.placing.proofs.counts.usable.pass_slots.Tie as tie
@@ -15,7 +15,7 @@ use Rattle.placing.proofs.counts.usable.pass_slots.Tie as tie
 abbrev invariant-loop : tie.invariant-loop
 invariant-loop table from to entries₀ slots bridges fed end s₀ entries s =
     (from ≤ to → s ≤ end)
-    × (from ≤ to → AtLeast entries₀ slots (slotFree table bridges fed from) → AtLeast entries slots (slotFree table bridges fed s))
+    × (from ≤ to → AtLeast entries₀ slots (slot_free table bridges fed from) → AtLeast entries slots (slot_free table bridges fed s))
 
 abbrev decreases-loop : tie.decreases-loop
 decreases-loop table from to entries₀ slots bridges fed end s₀ entries s = end - s
@@ -40,7 +40,7 @@ loop-holds c =
     let a = c.before.before.before.before.before.before.args in
     let b = c.first-slot2.ensures in (
       λ h. omega (arith, h, b, c.before.first_slot.ensures),
-      λ up right. rw b ((entries-past a.table.now a.head.slots a.head.bridges c.before.before.before.before.motors.result a.from).0 right),
+      λ up right. rw b ((entries_past a.table.now a.head.slots a.head.bridges c.before.before.before.before.motors.result a.from).0 right),
     )
 
 -- the frame is within the limits, and the slot within the frame
@@ -58,12 +58,12 @@ below c = omega (arith, c.loop-test.true, c.before.before.before.first_slot.ensu
 mul-usable-in : tie.Need-overflow-mul-usable-in invariant-loop decreases-loop
 mul-usable-in c =
     let a = c.before.before.before.before.before.before.before.before.args in
-    omega (arith, eight-le c.before.loop.s a.head.bridges (below c) (within c).1)
+    omega (arith, eight_le c.before.loop.s a.head.bridges (below c) (within c).1)
 
 usable-in-requires : tie.Need-usable-in-requires invariant-loop decreases-loop
 usable-in-requires c κs =
     let a = c.before.before.before.before.before.before.before.before.args in
-    ((within c).1, omega (arith, eight-le c.before.loop.s a.head.bridges (below c) (within c).1, (within c).3))
+    ((within c).1, omega (arith, eight_le c.before.loop.s a.head.bridges (below c) (within c).1, (within c).3))
 
 leave-slot-requires : tie.Need-leave-slot-requires invariant-loop decreases-loop
 leave-slot-requires c κs = search rules
@@ -82,7 +82,7 @@ loop-again c =
       λ h. omega (arith, f.before.loop-test.true),
       λ up right.
           let r = l.invariant.1 up right in
-          pass-slot a.table.now a.head.slots a.head.bridges f.before.before.before.before.before.before.before.motors.result l.s (omega (arith, f.before.loop-test.true, f.before.before.before.before.first_slot.ensures)) r
+          pass_slot a.table.now a.head.slots a.head.bridges f.before.before.before.before.before.before.before.motors.result l.s (omega (arith, f.before.loop-test.true, f.before.before.before.before.first_slot.ensures)) r
           f.usable-in.ensures.0 c.leave-slot.ensures.0 (c.leave-slot.ensures.1 r.long),
     )
 
@@ -94,11 +94,11 @@ returns-2 c =
     let a = n.before.before.before.before.before.args in
     let same : l.s ≡ min a.to a.head.slots = omega (arith, l.invariant.0 up, c.loop-test.false, n.first_slot.ensures) in
     let fed = n.before.before.before.motors.ensures in
-    rw fed at ((entries-past a.table.now a.head.slots a.head.bridges n.before.before.before.motors.result a.to).1
-    (subst (λ (k : ℕ). AtLeast l.entries a.head.slots (slotFree a.table.now a.head.bridges n.before.before.before.motors.result k)) same (l.invariant.1 up (rw fed right))))
+    rw fed at ((entries_past a.table.now a.head.slots a.head.bridges n.before.before.before.motors.result a.to).1
+    (subst (λ (k : ℕ). AtLeast l.entries a.head.slots (slot_free a.table.now a.head.bridges n.before.before.before.motors.result k)) same (l.invariant.1 up (rw fed right))))
 
-pub pass-slots-spec : {M : Type 1} → statement M
-pass-slots-spec =
+pub pass_slots_spec : {M : Type 1} → statement M
+pass_slots_spec =
     tie.close
     (tie.spec
     invariant-loop

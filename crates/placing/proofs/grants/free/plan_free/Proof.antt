@@ -2,14 +2,14 @@
 use Prim.Native.Nat.{◌≤◌, ◌-◌}
 use native.Mathlib.Omega.{arith}
 use mathlib.Core.Path.{◌≡◌, refl}
-use Rattle.placing.specs.method.Grants.{freeMask}
+use Rattle.placing.specs.method.Grants.{free_mask}
 use Rattle.placing.proofs.grants.Arrays.{filled_more}
 use Rattle.placing.proofs.grants.free.plan_free.Statement.{statement}
 use Rattle.placing.proofs.grants.free.plan_free.Tie as tie
 use Rattle.placing.specs.Types.{filled}
 
 abbrev invariant-loop : tie.invariant-loop
-invariant-loop slots bridges busy masks₀ s₀ masks s = (s ≤ slots) × (slots ≤ 64) × (bridges ≤ 8) × (masks ≡ filled 64 s (freeMask busy bridges))
+invariant-loop slots bridges busy masks₀ s₀ masks s = (s ≤ slots) × (slots ≤ 64) × (bridges ≤ 8) × (masks ≡ filled 64 s (free_mask busy bridges))
 
 abbrev decreases-loop : tie.decreases-loop
 decreases-loop slots bridges busy masks₀ s₀ masks s = slots - s
@@ -40,8 +40,8 @@ returns c =
     let e : c.before.loop.s ≡ c.before.before.before.args.head.slots = omega arith in
     rw e at c.before.loop.invariant.3
 
-pub plan-free-spec : {M : Type 1} → statement M
-plan-free-spec =
+pub plan_free_spec : {M : Type 1} → statement M
+plan_free_spec =
     tie.close
     (tie.spec
     invariant-loop

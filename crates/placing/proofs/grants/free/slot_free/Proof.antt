@@ -2,18 +2,18 @@
 use Prim.Native.Nat.{◌≤◌, ◌-◌, ◌<◌}
 use native.Mathlib.Omega.{arith}
 use mathlib.Core.Path.{◌≡◌, sym, ◌∙◌}
-use Rattle.placing.proofs.grants.Arrays.{freeNumberFrom, free-none, free_more, free_all, free-fits}
+use Rattle.placing.proofs.grants.Arrays.{free_number_from, free_none, free_more, free_all, free_fits}
 use Rattle.placing.proofs.grants.free.slot_free.Statement.{statement}
 use Rattle.placing.proofs.grants.free.slot_free.Tie as tie
 
 abbrev invariant-loop : tie.invariant-loop
-invariant-loop busy bridges s mask₀ b₀ mask b = (b ≤ bridges) × (bridges ≤ 8) × (s < 64) × (mask ≡ freeNumberFrom busy s b (bridges - b))
+invariant-loop busy bridges s mask₀ b₀ mask b = (b ≤ bridges) × (bridges ≤ 8) × (s < 64) × (mask ≡ free_number_from busy s b (bridges - b))
 
 abbrev decreases-loop : tie.decreases-loop
 decreases-loop busy bridges s mask₀ b₀ mask b = b
 
 loop-holds : tie.Need-loop-init invariant-loop decreases-loop
-loop-holds c = let a = c.args in (omega arith, omega arith, omega arith, sym (free-none a.busy.now a.s a.bridges (a.bridges - a.bridges) (omega arith)))
+loop-holds c = let a = c.args in (omega arith, omega arith, omega arith, sym (free_none a.busy.now a.s a.bridges (a.bridges - a.bridges) (omega arith)))
 
 sub-b : tie.Need-overflow-sub-b invariant-loop decreases-loop
 sub-b c = omega arith
@@ -22,7 +22,7 @@ mul-mask : tie.Need-overflow-mul-mask invariant-loop decreases-loop
 mul-mask c =
     let l = c.before.loop in
     let a = c.before.before.args in
-    omega (arith, free-fits a.busy.now a.s l.b (a.bridges - l.b) (omega arith))
+    omega (arith, free_fits a.busy.now a.s l.b (a.bridges - l.b) (omega arith))
 
 mul-free-bit : tie.Need-overflow-mul-free-bit invariant-loop decreases-loop
 mul-free-bit c = omega arith
@@ -37,7 +37,7 @@ add-mask : tie.Need-overflow-add-mask invariant-loop decreases-loop
 add-mask c =
     let l = c.before.before.before.loop in
     let a = c.before.before.before.before.args in
-    omega (arith, free-fits a.busy.now a.s l.b (a.bridges - l.b) (omega arith))
+    omega (arith, free_fits a.busy.now a.s l.b (a.bridges - l.b) (omega arith))
 
 loop-less : tie.Need-loop-smaller invariant-loop decreases-loop
 loop-less c = omega arith
@@ -63,8 +63,8 @@ returns c =
     let a = c.before.before.args in
     l.invariant.3 ∙ free_all a.busy.now a.s l.b (a.bridges - l.b) a.bridges (omega arith) (omega arith)
 
-pub slot-free-spec : {M : Type 1} → statement M
-slot-free-spec =
+pub slot_free_spec : {M : Type 1} → statement M
+slot_free_spec =
     tie.close
     (tie.spec
     invariant-loop

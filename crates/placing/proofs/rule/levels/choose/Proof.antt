@@ -8,22 +8,22 @@ use lib.ListN.{length, set, length-set}
 use lib.Bits.{bit_or, bit_xor}
 use borrow.Author.Rules.{rules}
 use Rattle.laws.specs.Lists.{at}
-use Rattle.laws.specs.Placement.{tieHold}
-use Rattle.station.specs.Head.{hasBit}
+use Rattle.laws.specs.Placement.{tie_hold}
+use Rattle.station.specs.Head.{has_bit}
 use Rattle.placing.specs.method.Rule.{Levelled}
-use Rattle.placing.proofs.rule.levels.LevelsDone.{Gone, gone-none, gone-empty, gone-more, gone-all}
+use Rattle.placing.proofs.rule.levels.LevelsDone.{Gone, gone_none, gone_empty, gone_more, gone_all}
 use Rattle.placing.proofs.rule.levels.choose.Statement.{statement}
 use Rattle.placing.proofs.rule.levels.choose.Tie as tie
 
 abbrev invariant-loop : tie.invariant-loop
 invariant-loop levels₀ top d held served₀ rest₀ l₀ levels served rest l =
-    (l ≤ top) × (length levels ≡ 65) × ((c : ℕ → ℕ) → Levelled levels₀ c → ((i : ℕ) → i < 64 → c i ≤ top) → Gone (tieHold 0 (hasBit held)) c d levels l rest served)
+    (l ≤ top) × (length levels ≡ 65) × ((c : ℕ → ℕ) → Levelled levels₀ c → ((i : ℕ) → i < 64 → c i ≤ top) → Gone (tie_hold 0 (has_bit held)) c d levels l rest served)
 
 abbrev decreases-loop : tie.decreases-loop
 decreases-loop levels₀ top d held served₀ rest₀ l₀ levels served rest l = l
 
 loop-holds : tie.Need-loop-init invariant-loop decreases-loop
-loop-holds c = let a = c.args in (omega arith, c.requires.1, λ n h most. gone-none (tieHold 0 (hasBit a.held)) n a.d a.levels.now a.top h most)
+loop-holds c = let a = c.args in (omega arith, c.requires.1, λ n h most. gone_none (tie_hold 0 (has_bit a.held)) n a.d a.levels.now a.top h most)
 
 -- after the jobs of a level
 gone : (f : tie.After-first-held invariant-loop decreases-loop)
@@ -32,12 +32,12 @@ gone : (f : tie.After-first-held invariant-loop decreases-loop)
     let next = f.first-held.result.jobs in
     let off = set l.levels l.l (bit_xor (at l.levels l.l) next) in
     (n : ℕ → ℕ) → Levelled a.levels.now n → ((i : ℕ) → i < 64 → n i ≤ a.top)
-    → Gone (tieHold 0 (hasBit a.held)) n a.d (set off (l.l - 1) (bit_or (at off (l.l - 1)) next)) (l.l - 1) f.first-held.result.more (bit_or l.served next)
+    → Gone (tie_hold 0 (has_bit a.held)) n a.d (set off (l.l - 1) (bit_or (at off (l.l - 1)) next)) (l.l - 1) f.first-held.result.more (bit_or l.served next)
 gone f n h most =
     let l = f.before.before.before.loop in
     let a = f.before.before.before.before.args in
     let gave = f.first-held in
-    rw (sym gave.ensures.1) at (gone-more (tieHold 0 (hasBit a.held)) n a.d l.levels l.l l.rest l.served (omega arith) (l.invariant.2 n h most) (omega arith) gave.result.jobs
+    rw (sym gave.ensures.1) at (gone_more (tie_hold 0 (has_bit a.held)) n a.d l.levels l.l l.rest l.served (omega arith) (l.invariant.2 n h most) (omega arith) gave.result.jobs
     gave.ensures.0 l.invariant.1)
 
 mul-level : tie.Need-overflow-mul-level invariant-loop decreases-loop
@@ -82,7 +82,7 @@ returns c =
       λ n h most.
           let so_far = gone f n h most in
           record {
-            picks = gone-all (tieHold 0 (hasBit a.held)) n a.d moved (l.l - 1) f.first-held.result.more (bit_or l.served next) (omega arith) so_far (inr c.if1.true);
+            picks = gone_all (tie_hold 0 (has_bit a.held)) n a.d moved (l.l - 1) f.first-held.result.more (bit_or l.served next) (omega arith) so_far (inr c.if1.true);
             levels = so_far.levels;
           },
     )
@@ -104,7 +104,7 @@ loop-again c =
       omega (arith, c.highest.ensures.0),
       simp length-set l.invariant.1,
       λ n h most.
-          gone-empty (tieHold 0 (hasBit a.held)) n a.d moved (l.l - 1) f.first-held.result.more (bit_or l.served next) (omega arith) (gone f n h most) c.highest.result
+          gone_empty (tie_hold 0 (has_bit a.held)) n a.d moved (l.l - 1) f.first-held.result.more (bit_or l.served next) (omega arith) (gone f n h most) c.highest.result
           c.highest.ensures.0 c.highest.ensures.1,
     )
 
@@ -115,7 +115,7 @@ returns-2 c =
       l.invariant.1,
       λ n h most.
           let so_far = l.invariant.2 n h most in
-          record { picks = gone-all (tieHold 0 (hasBit a.held)) n a.d l.levels l.l l.rest l.served (omega arith) so_far (inl (omega arith)); levels = so_far.levels },
+          record { picks = gone_all (tie_hold 0 (has_bit a.held)) n a.d l.levels l.l l.rest l.served (omega arith) so_far (inl (omega arith)); levels = so_far.levels },
     )
 
 pub choose_spec : {M : Type 1} → statement M

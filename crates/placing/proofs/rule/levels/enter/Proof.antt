@@ -10,8 +10,8 @@ use lib.Dec.{ltb, eqb}
 use lib.Pow.{pow_mono}
 use borrow.Author.Rules.{rules}
 use Rattle.laws.specs.Lists.{at}
-use Rattle.station.specs.Head.{hasBit}
-use Rattle.placing.proofs.rule.levels.ByLevel.{standing-none, standing-more, most-more}
+use Rattle.station.specs.Head.{has_bit}
+use Rattle.placing.proofs.rule.levels.ByLevel.{standing_none, standing_more, most_more}
 use Rattle.placing.proofs.rule.levels.enter.Statement.{statement}
 use Rattle.placing.proofs.rule.levels.enter.Tie as tie
 
@@ -19,7 +19,7 @@ abbrev invariant-loop : tie.invariant-loop
 invariant-loop levels₀ rules k top₀ i₀ levels top i =
     (i ≤ k)
     × (length levels ≡ 65)
-    × ((l j : ℕ) → hasBit (at levels l) j ≡ (ltb j i && eqb (at rules j) l))
+    × ((l j : ℕ) → has_bit (at levels l) j ≡ (ltb j i && eqb (at rules j) l))
     × (top < 65)
     × ((j : ℕ) → j < i → at rules j ≤ top)
 
@@ -31,7 +31,7 @@ loop-holds c =
     let a = c.args in (
       omega arith,
       ap length c.requires.2,
-      λ l j. ap (λ (t : List ℕ). hasBit (at t l) j) c.requires.2 ∙ standing-none a.needs.now l j,
+      λ l j. ap (λ (t : List ℕ). has_bit (at t l) j) c.requires.2 ∙ standing_none a.needs.now l j,
       omega arith,
       λ j h. absurd (omega arith),
     )
@@ -69,10 +69,10 @@ loop-again c =
     let low : 2 ^ l.i ≤ 2 ^ 63 = pow_mono few in
     let power : 1 * 2 ^ l.i % 18446744073709551616 ≡ 2 ^ l.i = omega arith in
     let most : (top' : ℕ) → l.top ≤ top' → at n l.i ≤ top' → (j : ℕ) → j < l.i + 1 → at n j ≤ top' =
-    λ top'. most-more (at n) l.i l.top top' l.invariant.4 in (
+    λ top'. most_more (at n) l.i l.top top' l.invariant.4 in (
       omega arith,
       simp length-set l.invariant.1,
-      rw (power, level.ensures.0) (standing-more n l.levels l.i (omega (arith, level.ensures, l.invariant.1)) l.invariant.2),
+      rw (power, level.ensures.0) (standing_more n l.levels l.i (omega (arith, level.ensures, l.invariant.1)) l.invariant.2),
       ⊎_elim (λ w. omega (arith, w.1, level.ensures)) (λ w. omega (arith, w.1, l.invariant.3)) c.if1.branch,
       ⊎_elim
           (λ w. most c.if1.top (omega (arith, w.1, w.0.taken)) (omega (arith, w.1, level.ensures)))

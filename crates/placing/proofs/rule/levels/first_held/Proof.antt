@@ -4,10 +4,10 @@ use mathlib.Core.Path.{◌∙◌, ap, ap₂}
 use mathlib.Core.Bool.{Bool, ◌||◌}
 use borrow.Author.Rules.{rules}
 use Rattle.laws.specs.Sums.{count}
-use Rattle.station.specs.Head.{hasBit}
-use Rattle.placing.specs.method.Rule.{without, firstFew}
-use Rattle.placing.proofs.rule.masks.Sets.{hasBit-or}
-use Rattle.placing.proofs.rule.levels.FirstHeld.{held_first, held-count}
+use Rattle.station.specs.Head.{has_bit}
+use Rattle.placing.specs.method.Rule.{without, first_few}
+use Rattle.placing.proofs.rule.masks.Sets.{has_bit_or}
+use Rattle.placing.proofs.rule.levels.FirstHeld.{held_first, held_count}
 use Rattle.placing.proofs.rule.levels.first_held.Statement.{statement}
 use Rattle.placing.proofs.rule.levels.first_held.Tie as tie
 
@@ -23,12 +23,12 @@ returns c =
     let stay = c.before.before.before.first_of in
     let come = c.before.before.first-of2 in (
       λ i l.
-          hasBit-or stay.result.jobs come.result.jobs i
+          has_bit_or stay.result.jobs come.result.jobs i
           ∙ ap₂ (λ (x y : Bool). x || y) (stay.ensures.0 i l)
-          (come.ensures.0 i l ∙ ap (λ (n : ℕ). firstFew (hasBit (without a.mask a.held)) n i) stay.ensures.1)
+          (come.ensures.0 i l ∙ ap (λ (n : ℕ). first_few (has_bit (without a.mask a.held)) n i) stay.ensures.1)
           ∙ held_first a.mask a.held a.d i l,
-      come.ensures.1 ∙ ap (λ (n : ℕ). n - count 64 (hasBit (without a.mask a.held))) stay.ensures.1 ∙ held-count a.mask a.held a.d,
+      come.ensures.1 ∙ ap (λ (n : ℕ). n - count 64 (has_bit (without a.mask a.held))) stay.ensures.1 ∙ held_count a.mask a.held a.d,
     )
 
-pub first-held-spec : {M : Type 1} → statement M
-first-held-spec = tie.close (tie.spec first-of-requires first-of-requires-2 returns)
+pub first_held_spec : {M : Type 1} → statement M
+first_held_spec = tie.close (tie.spec first-of-requires first-of-requires-2 returns)

@@ -4,7 +4,7 @@ use native.Mathlib.Omega.{arith}
 use mathlib.Core.Path.{◌≡◌}
 use Rattle.laws.specs.Lists.{at}
 use Rattle.placing.specs.method.Rule.{without}
-use Rattle.placing.proofs.rule.levels.ByLevel.{empty-more}
+use Rattle.placing.proofs.rule.levels.ByLevel.{empty_more}
 use Rattle.placing.proofs.rule.levels.highest.Statement.{statement}
 use Rattle.placing.proofs.rule.levels.highest.Tie as tie
 
@@ -36,15 +36,15 @@ loop-again : tie.Need-loop-preserved invariant-loop decreases-loop
 loop-again c =
     let l = c.before.before.before.loop in
     let a = c.before.before.before.before.args in
-    (omega arith, empty-more a.levels.now a.served a.from l.l c.if1.false l.invariant.1)
+    (omega arith, empty_more a.levels.now a.served a.from l.l c.if1.false l.invariant.1)
 
 returns-2 : tie.Need-returns-2 invariant-loop decreases-loop
 returns-2 c =
     let l = c.before.loop in
     (omega arith, λ q h k. l.invariant.1 q (omega (arith, h)) k)
 
-pub highest-spec : {M : Type 1} → statement M
-highest-spec =
+pub highest_spec : {M : Type 1} → statement M
+highest_spec =
     tie.close
     (tie.spec
     invariant-loop

@@ -9,5 +9,5 @@ index-requires c κs = search rules
 returns : tie.Need-returns
 returns c = c.index.ensures
 
-pub next-free-spec : {M : Type 1} → statement M
-next-free-spec = tie.close (tie.spec index-requires returns)
+pub next_free_spec : {M : Type 1} → statement M
+next_free_spec = tie.close (tie.spec index-requires returns)

@@ -8,20 +8,20 @@ use lib.Bits.{bit_and, and_le_l, and_le_r}
 use lib.Count.{count_trailing_zeros}
 use lib.Dec.{eqb}
 use borrow.Author.Rules as author
-use Rattle.station.specs.Head.{hasBit}
-use Rattle.placing.proofs.MaskBits.{hasBit-zero, lowest, cleared}
-use Rattle.placing.proofs.rule.row.EmptiedRow.{Emptying, emptying-none, emptying-next, emptying-past, emptying-all}
+use Rattle.station.specs.Head.{has_bit}
+use Rattle.placing.proofs.MaskBits.{has_bit_zero, lowest, cleared}
+use Rattle.placing.proofs.rule.row.EmptiedRow.{Emptying, emptying_none, emptying_next, emptying_past, emptying_all}
 use Rattle.placing.proofs.rule.row.empty_row.Statement.{statement}
 use Rattle.placing.proofs.rule.row.empty_row.Tie as tie
 
 abbrev invariant-loop : tie.invariant-loop
-invariant-loop table₀ start bridges mask rest₀ table rest = (rest < 256) × Emptying table₀ start bridges (hasBit mask) table (hasBit rest)
+invariant-loop table₀ start bridges mask rest₀ table rest = (rest < 256) × Emptying table₀ start bridges (has_bit mask) table (has_bit rest)
 
 abbrev decreases-loop : tie.decreases-loop
 decreases-loop table₀ start bridges mask rest₀ table rest = rest
 
 loop-holds : tie.Need-loop-init invariant-loop decreases-loop
-loop-holds c = let a = c.before.args in (omega arith, emptying-none a.table.now a.start a.bridges (hasBit a.mask))
+loop-holds c = let a = c.before.args in (omega arith, emptying_none a.table.now a.start a.bridges (has_bit a.mask))
 
 next-free-requires : tie.Need-next-free-requires invariant-loop decreases-loop
 next-free-requires c κs = search author.needs
@@ -53,14 +53,14 @@ loop-again c =
     let some = next.before.loop-test.true in
     let z = next.next-free.result in
     let at-z : z ≡ count_trailing_zeros 8 l.rest = next.next-free.ensures in
-    let here : hasBit l.rest z ≡ true = rw at-z (lowest 8 l.rest some l.invariant.0).set in
-    let fewer : (b : ℕ) → hasBit (bit_and l.rest (l.rest - 1)) b ≡ (hasBit l.rest b && not (eqb b z)) = rw at-z (cleared 8 l.rest some l.invariant.0) in (
+    let here : has_bit l.rest z ≡ true = rw at-z (lowest 8 l.rest some l.invariant.0).set in
+    let fewer : (b : ℕ) → has_bit (bit_and l.rest (l.rest - 1)) b ≡ (has_bit l.rest b && not (eqb b z)) = rw at-z (cleared 8 l.rest some l.invariant.0) in (
       omega (arith, l.invariant.0, c.without-next.ensures, and_le_l l.rest (l.rest - 1)),
       rw c.without-next.ensures
           (⊎_elim
-          (λ w. rw w.1 (emptying-next t a.start a.bridges (hasBit a.mask) l.table (hasBit l.rest) (hasBit (bit_and l.rest (l.rest - 1))) z l.invariant.1 here fewer
+          (λ w. rw w.1 (emptying_next t a.start a.bridges (has_bit a.mask) l.table (has_bit l.rest) (has_bit (bit_and l.rest (l.rest - 1))) z l.invariant.1 here fewer
           w.0.taken (omega arith)))
-          (λ w. rw w.1 (emptying-past t a.start a.bridges (hasBit a.mask) l.table (hasBit l.rest) (hasBit (bit_and l.rest (l.rest - 1))) z l.invariant.1 here fewer
+          (λ w. rw w.1 (emptying_past t a.start a.bridges (has_bit a.mask) l.table (has_bit l.rest) (has_bit (bit_and l.rest (l.rest - 1))) z l.invariant.1 here fewer
           w.0.left))
           c.before.if1.branch),
     )
@@ -73,10 +73,10 @@ returns c =
     let l = c.before.loop in
     let a = c.before.before.before.args in
     let end : l.rest ≡ 0 = omega arith in
-    emptying-all a.table.now a.start a.bridges (hasBit a.mask) l.table (hasBit l.rest) l.invariant.1 (λ b h. ap (λ (m : ℕ). hasBit m b) end ∙ hasBit-zero b)
+    emptying_all a.table.now a.start a.bridges (has_bit a.mask) l.table (has_bit l.rest) l.invariant.1 (λ b h. ap (λ (m : ℕ). has_bit m b) end ∙ has_bit_zero b)
 
-pub empty-row-spec : {M : Type 1} → statement M
-empty-row-spec =
+pub empty_row_spec : {M : Type 1} → statement M
+empty_row_spec =
     tie.close
     (tie.spec
     invariant-loop

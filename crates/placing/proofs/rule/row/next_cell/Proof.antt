@@ -4,7 +4,7 @@ use mathlib.Core.Path.{refl, sym, ◌∙◌, ap}
 use lib.ListN.{set}
 use lib.Seq.{set-get_or}
 use borrow.Author.Rules.{rules}
-use Rattle.placing.proofs.rule.row.RowWritten.{writes-late, writes-early}
+use Rattle.placing.proofs.rule.row.RowWritten.{writes_late, writes_early}
 use Rattle.placing.proofs.rule.row.next_cell.Statement.{statement}
 use Rattle.placing.proofs.rule.row.next_cell.Tie as tie
 
@@ -20,7 +20,7 @@ element-copy-out-result c = search rules
 returns : tie.Need-returns
 returns c =
     let a = c.before.before.before.args in (
-      writes-late a.due.now a.early.now a.late.now a.i c.before.if1.true,
+      writes_late a.due.now a.early.now a.late.now a.i c.before.if1.true,
       sym (ap (set a.due.now a.i) (omega (arith, c.before.if1.true)) ∙ set-get_or a.due.now a.i 0),
     )
 
@@ -39,10 +39,10 @@ element-copy-out-result-2 c = search rules
 returns-2 : tie.Need-returns-2
 returns-2 c =
     let a = c.before.before.before.args in
-    (writes-early a.due.now a.early.now a.late.now a.i (omega (arith, c.before.if1.false)), refl)
+    (writes_early a.due.now a.early.now a.late.now a.i (omega (arith, c.before.if1.false)), refl)
 
-pub next-cell-spec : {M : Type 1} → statement M
-next-cell-spec =
+pub next_cell_spec : {M : Type 1} → statement M
+next_cell_spec =
     tie.close
     (tie.spec
     element-copy-out-rest

@@ -10,17 +10,17 @@ use borrow.Author.Rules as author
 use Rattle.laws.specs.Sums.{bit}
 use Rattle.laws.specs.Lists.{at}
 use Rattle.laws.proofs.Tests.{false_of_not}
-use Rattle.station.specs.Head.{hasBit}
-use Rattle.placing.specs.method.Rule.{dueCells}
-use Rattle.placing.proofs.MaskBits.{none-below-lowest}
-use Rattle.placing.proofs.rule.row.RowWritten.{RowFilled, filled_none, filled-all, filled-clean}
-use Rattle.placing.proofs.rule.row.ServedJobs.{Serving, earliest, value_of, serving-none, serving-next, serving-full, serving-all}
+use Rattle.station.specs.Head.{has_bit}
+use Rattle.placing.specs.method.Rule.{due_cells}
+use Rattle.placing.proofs.MaskBits.{none_below_lowest}
+use Rattle.placing.proofs.rule.row.RowWritten.{RowFilled, filled_none, filled_all, filled_clean}
+use Rattle.placing.proofs.rule.row.ServedJobs.{Serving, earliest, value_of, serving_none, serving_next, serving_full, serving_all}
 use Rattle.placing.proofs.rule.row.write_row.Statement.{statement}
 use Rattle.placing.proofs.rule.row.write_row.Tie as tie
 
 abbrev invariant-loop : tie.invariant-loop
 invariant-loop table₀ start bridges mask chosen due₀ early late empties free₀ jobs₀ table due free jobs =
-    (free < 256) × Serving table₀ start bridges chosen (hasBit mask) (dueCells due₀ early late) due₀ table free jobs due
+    (free < 256) × Serving table₀ start bridges chosen (has_bit mask) (due_cells due₀ early late) due₀ table free jobs due
 
 abbrev decreases-loop : tie.decreases-loop
 decreases-loop table₀ start bridges mask chosen due₀ early late empties free₀ jobs₀ table due free jobs = jobs
@@ -35,10 +35,10 @@ loop-holds : tie.Need-loop-init invariant-loop decreases-loop
 loop-holds c =
     let a = c.before.args in
     let t = a.table.now in
-    let v = dueCells a.due.now a.early.now a.late.now in (
+    let v = due_cells a.due.now a.early.now a.late.now in (
       omega arith,
-      serving-none t a.start a.bridges a.chosen (hasBit a.mask) v a.due.now (search author.needs) c.before.requires.2 t a.mask
-          (filled_none t a.start a.bridges (hasBit a.chosen) (hasBit a.mask) v),
+      serving_none t a.start a.bridges a.chosen (has_bit a.mask) v a.due.now (search author.needs) c.before.requires.2 t a.mask
+          (filled_none t a.start a.bridges (has_bit a.chosen) (has_bit a.mask) v),
     )
 
 next-job-requires : tie.Need-next-job-requires invariant-loop decreases-loop
@@ -79,24 +79,24 @@ loop-again c =
     let l = next.before.before.loop in
     let a = next.before.before.before.before.args in
     let t = a.table.now in
-    let v : ℕ → ℕ = dueCells a.due.now a.early.now a.late.now in
+    let v : ℕ → ℕ = due_cells a.due.now a.early.now a.late.now in
     let some = next.before.loop-test.true in
     let here : next.next-job.result ≡ count_trailing_zeros 64 l.jobs = next.next-job.ensures in
     let value : cell.next-cell.result ≡ v (count_trailing_zeros 64 l.jobs) =
-    value_of t a.start a.bridges a.chosen (hasBit a.mask) v a.due.now l.table l.free l.jobs l.due l.invariant.1 some
+    value_of t a.start a.bridges a.chosen (has_bit a.mask) v a.due.now l.table l.free l.jobs l.due l.invariant.1 some
     a.early.now a.late.now next.next-job.result here cell.next-cell.result cell.next-cell.ensures.0 in
     ⊎_elim
     (λ w. (
       omega (arith, w.3, w.1.ensures, and_le_l l.free (l.free - 1)),
       rw (w.2, w.3, w.1.ensures, c.without-lowest.ensures, cell.next-cell.ensures.1, here)
-          (serving-next t a.start a.bridges a.chosen (hasBit a.mask) v a.due.now l.table l.free l.jobs l.due l.invariant.1 some
+          (serving_next t a.start a.bridges a.chosen (has_bit a.mask) v a.due.now l.table l.free l.jobs l.due l.invariant.1 some
           l.invariant.0 free.next-free.result free.next-free.ensures w.0.taken (omega arith) (omega arith) cell.next-cell.result value),
     ))
     (λ w. (
       omega (arith, w.2),
       rw (w.1, w.2, c.without-lowest.ensures, cell.next-cell.ensures.1, here)
-          (serving-full t a.start a.bridges a.chosen (hasBit a.mask) v a.due.now l.table l.free l.jobs l.due l.invariant.1 some
-          (λ b h. none-below-lowest 8 l.free l.invariant.0 b (let over = w.0.left in omega (arith, h, over, free.next-free.ensures)))),
+          (serving_full t a.start a.bridges a.chosen (has_bit a.mask) v a.due.now l.table l.free l.jobs l.due l.invariant.1 some
+          (λ b h. none_below_lowest 8 l.free l.invariant.0 b (let over = w.0.left in omega (arith, h, over, free.next-free.ensures)))),
     ))
     joined.if1.branch
 
@@ -104,13 +104,13 @@ loop-again c =
 served : (c : tie.After-loop invariant-loop decreases-loop)
     → let l = c.before.loop in
     let a = c.before.before.before.args in
-    RowFilled a.table.now a.start a.bridges (hasBit a.chosen) (hasBit a.mask) (dueCells a.due.now a.early.now a.late.now) l.table (hasBit l.free) 64
-    × ((i : ℕ) → at l.due i ≡ at a.due.now i - bit (hasBit a.chosen i))
+    RowFilled a.table.now a.start a.bridges (has_bit a.chosen) (has_bit a.mask) (due_cells a.due.now a.early.now a.late.now) l.table (has_bit l.free) 64
+    × ((i : ℕ) → at l.due i ≡ at a.due.now i - bit (has_bit a.chosen i))
 served c =
     let l = c.before.loop in
     let a = c.before.before.before.args in
     let end : l.jobs ≡ 0 = omega arith in
-    serving-all a.table.now a.start a.bridges a.chosen (hasBit a.mask) (dueCells a.due.now a.early.now a.late.now) a.due.now l.table l.free
+    serving_all a.table.now a.start a.bridges a.chosen (has_bit a.mask) (due_cells a.due.now a.early.now a.late.now) a.due.now l.table l.free
     l.due (rw end at l.invariant.1)
 
 same_length : tie.Need-same-length invariant-loop decreases-loop
@@ -125,8 +125,8 @@ returns c =
       l.invariant.1.long,
       all.1,
       λ clean.
-          filled-clean a.table.now a.start a.bridges (hasBit a.chosen) (hasBit a.mask) (dueCells a.due.now a.early.now a.late.now) 64
-          l.table (hasBit l.free) all.0 (clean (false_of_not _ c.if2.true)),
+          filled_clean a.table.now a.start a.bridges (has_bit a.chosen) (has_bit a.mask) (due_cells a.due.now a.early.now a.late.now) 64
+          l.table (has_bit l.free) all.0 (clean (false_of_not _ c.if2.true)),
     )
 
 empty-row-requires : tie.Need-empty-row-requires invariant-loop decreases-loop
@@ -146,12 +146,12 @@ returns-2 c =
       l.invariant.1.long,
       all.1,
       λ clean.
-          filled-all a.table.now a.start a.bridges (hasBit a.chosen) (hasBit a.mask) (dueCells a.due.now a.early.now a.late.now) 64
-          l.table (hasBit l.free) all.0 emptied.empty-row.new.0 emptied.empty-row.ensures,
+          filled_all a.table.now a.start a.bridges (has_bit a.chosen) (has_bit a.mask) (due_cells a.due.now a.early.now a.late.now) 64
+          l.table (has_bit l.free) all.0 emptied.empty-row.new.0 emptied.empty-row.ensures,
     )
 
-pub write-row-spec : {M : Type 1} → statement M
-write-row-spec =
+pub write_row_spec : {M : Type 1} → statement M
+write_row_spec =
     tie.close
     (tie.spec
     invariant-loop

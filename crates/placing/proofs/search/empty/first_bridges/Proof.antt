@@ -21,5 +21,5 @@ rem-result c = omega (arith, c.bridge-bit.ensures, pow_pos c.before.before.args.
 returns-2 : tie.Need-returns-2
 returns-2 c = ap (λ (d : ℕ). c.before.before.args.mask % d) c.bridge-bit.ensures
 
-pub first-bridges-spec : {M : Type 1} → statement M
-first-bridges-spec = tie.close (tie.spec returns bridge-bit-requires rem-result returns-2)
+pub first_bridges_spec : {M : Type 1} → statement M
+first_bridges_spec = tie.close (tie.spec returns bridge-bit-requires rem-result returns-2)

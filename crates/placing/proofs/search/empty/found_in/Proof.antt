@@ -7,13 +7,13 @@ use lib.ListN.{get_or}
 use borrow.Author.Rules.{rules}
 use borrow.Author.Tests.{eq-eqb, ne_eqb}
 use Rattle.laws.specs.Sums.{only}
-use Rattle.placing.specs.method.Search.{emptyMask, heldFrom}
-use Rattle.placing.proofs.search.Parts.{mask-none, mask-more, mask_fits, mask_low, held_none, held-here, held-past}
+use Rattle.placing.specs.method.Search.{empty_mask, held_from}
+use Rattle.placing.proofs.search.Parts.{mask_none, mask_more, mask_fits, mask_low, held_none, held_here, held_past}
 use Rattle.placing.proofs.search.empty.found_in.Statement.{statement}
 use Rattle.placing.proofs.search.empty.found_in.Tie as tie
 
 abbrev invariant-loop : tie.invariant-loop
-invariant-loop table from bridges mask₀ held₀ b₀ mask held b = (b ≤ 8) × (mask ≡ emptyMask table from b) × (held ≤ b) × (held ≡ heldFrom table from (min b bridges))
+invariant-loop table from bridges mask₀ held₀ b₀ mask held b = (b ≤ 8) × (mask ≡ empty_mask table from b) × (held ≤ b) × (held ≡ held_from table from (min b bridges))
 
 abbrev decreases-loop : tie.decreases-loop
 decreases-loop table from bridges mask₀ held₀ b₀ mask held b = 8 - b
@@ -21,7 +21,7 @@ decreases-loop table from bridges mask₀ held₀ b₀ mask held b = 8 - b
 loop-holds : tie.Need-loop-init invariant-loop decreases-loop
 loop-holds c =
     let a = c.before.args in
-    (omega arith, sym (mask-none a.table.now a.from), omega arith, sym (held_none a.table.now a.from a.bridges))
+    (omega arith, sym (mask_none a.table.now a.from), omega arith, sym (held_none a.table.now a.from a.bridges))
 
 add-v : tie.Need-overflow-add-v invariant-loop decreases-loop
 add-v c = omega arith
@@ -55,14 +55,14 @@ loop-again c =
     let d = c.before.before.before.before in
     let a = d.before.before.args in
     let v = get_or a.table.now (a.from + d.loop.b) 0 in
-    let next = mask-more a.table.now a.from d.loop.b in (
+    let next = mask_more a.table.now a.from d.loop.b in (
       omega arith,
       ⊎_elim
           (λ w. omega (arith, next, ap (λ t. only t (2 ^ d.loop.b)) (eq-eqb v 0 w.0.taken), w.1.ensures, w.2))
           (λ w. omega (arith, w, next, ap (λ t. only t (2 ^ d.loop.b)) (ne_eqb v 0 w.0.left))) c.before.if1.branch,
       ⊎_elim (λ w. omega (arith, w, w.1.ensures.1)) (λ w. omega (arith, w)) c.if2.branch,
-      ⊎_elim (λ w. omega (arith, w, w.1.ensures.0, held-here a.table.now a.from a.bridges d.loop.b w.0.taken))
-          (λ w. omega (arith, w, held-past a.table.now a.from a.bridges d.loop.b w.0.left)) c.if2.branch,
+      ⊎_elim (λ w. omega (arith, w, w.1.ensures.0, held_here a.table.now a.from a.bridges d.loop.b w.0.taken))
+          (λ w. omega (arith, w, held_past a.table.now a.from a.bridges d.loop.b w.0.left)) c.if2.branch,
     )
 
 first-bridges-requires : tie.Need-first-bridges-requires invariant-loop decreases-loop
@@ -75,13 +75,13 @@ returns c =
     let eight : l.b ≡ 8 = omega arith in
     let all : min l.b a.bridges ≡ a.bridges = omega arith in (
       c.first-bridges.ensures
-          ∙ ap (λ (m : ℕ). m % 2 ^ a.bridges) (l.invariant.1 ∙ ap (emptyMask a.table.now a.from) eight)
+          ∙ ap (λ (m : ℕ). m % 2 ^ a.bridges) (l.invariant.1 ∙ ap (empty_mask a.table.now a.from) eight)
           ∙ mask_low a.table.now a.from a.bridges (omega arith),
-      l.invariant.3 ∙ ap (heldFrom a.table.now a.from) all,
+      l.invariant.3 ∙ ap (held_from a.table.now a.from) all,
     )
 
-pub found-in-spec : {M : Type 1} → statement M
-found-in-spec =
+pub found_in_spec : {M : Type 1} → statement M
+found_in_spec =
     tie.close
     (tie.spec
     invariant-loop

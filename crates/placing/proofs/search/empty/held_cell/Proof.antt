@@ -15,5 +15,5 @@ returns c = (ap bit (sym c.if1.true ∙ c.before.is_held_lem.ensures), omega ari
 returns-2 : tie.Need-returns-2
 returns-2 c = (ap bit (sym c.if1.false ∙ c.before.is_held_lem.ensures), omega arith)
 
-pub held-cell-spec : {M : Type 1} → statement M
-held-cell-spec = tie.close (tie.spec is-held-requires returns returns-2)
+pub held_cell_spec : {M : Type 1} → statement M
+held_cell_spec = tie.close (tie.spec is-held-requires returns returns-2)

@@ -6,17 +6,17 @@ use lib.ListN.{get_or, set}
 use lib.Bits.{bit_or}
 use lib.Seq.{get_or-set_same}
 use borrow.Author.Rules.{rules}
-use Rattle.laws.proofs.Comparisons.{le_of, gt-of}
-use Rattle.laws.proofs.Capacities.{at-least-le}
+use Rattle.laws.proofs.Comparisons.{le_of, gt_of}
+use Rattle.laws.proofs.Capacities.{at_least_le}
 use Rattle.placing.specs.declared.search.Search.{Search}
-use Rattle.placing.specs.method.Search.{searchOf}
-use Rattle.placing.proofs.search.taking.CellByCell.{step-full, tried-back, step_back, tried-short, step-taken}
+use Rattle.placing.specs.method.Search.{search_of}
+use Rattle.placing.proofs.search.taking.CellByCell.{step_full, tried_back, step_back, tried_short, step_taken}
 use Rattle.placing.proofs.search.taking.try_cell.Statement.{statement}
 use Rattle.placing.proofs.search.taking.try_cell.Tie as tie
 
 -- the search before the cell
 abbrev searchAt : tie.Start → Search
-searchAt s = searchOf s.args.free.now s.args.counts.now s.args.entries.now s.args.kept
+searchAt s = search_of s.args.free.now s.args.counts.now s.args.entries.now s.args.kept
 
 mul-x : tie.Need-overflow-mul-x
 mul-x c = search rules
@@ -28,7 +28,7 @@ returns : tie.Need-returns
 returns c =
     let s = c.before.before.before in
     let a = s.args in
-    step-full a.demand (searchAt s) a.slot a.bridge s.requires.3 s.requires.0 (omega (arith, c.if1.true))
+    step_full a.demand (searchAt s) a.slot a.bridge s.requires.3 s.requires.0 (omega (arith, c.if1.true))
 
 element-copy-out-entries : tie.Need-element-copy-out-entries
 element-copy-out-entries c = search rules
@@ -38,7 +38,7 @@ add-entries c =
     let e = c.before in
     let s = e.before.before.before in
     let S = s.requires.3 in
-    omega (arith, at-least-le S.table (get_or s.args.counts.now s.args.slot 0) (omega (arith, e.if1.false)), S.few-slots)
+    omega (arith, at_least_le S.table (get_or s.args.counts.now s.args.slot 0) (omega (arith, e.if1.false)), S.few-slots)
 
 element-write-entries : tie.Need-element-write-entries
 element-write-entries c = search rules
@@ -71,8 +71,8 @@ returns-2 c =
     let s = e.before.before.before in
     let a = s.args in
     let S = s.requires.3 in
-    step_back a.demand (searchAt s) a.slot a.bridge S s.requires.0 (few e) (tried-back a.demand (searchAt s) a.slot a.bridge S s.requires.0 (few e) (omega arith))
-    (omega (arith, le_of a.kept.short _ (sym v.lacks.ensures ∙ w.if2.true), tried-short a.demand (searchAt s) a.slot a.bridge S s.requires.0 (few e)))
+    step_back a.demand (searchAt s) a.slot a.bridge S s.requires.0 (few e) (tried_back a.demand (searchAt s) a.slot a.bridge S s.requires.0 (few e) (omega arith))
+    (omega (arith, le_of a.kept.short _ (sym v.lacks.ensures ∙ w.if2.true), tried_short a.demand (searchAt s) a.slot a.bridge S s.requires.0 (few e)))
 
 element-copy-out-free : tie.Need-element-copy-out-free
 element-copy-out-free c = search rules
@@ -106,13 +106,13 @@ returns-3 c =
     let e = v.before.before.before.before in
     let s = e.before.before.before in
     let a = s.args in
-    step-taken a.demand (searchAt s) a.slot a.bridge s.requires.3 s.requires.0 (few e) _
+    step_taken a.demand (searchAt s) a.slot a.bridge s.requires.3 s.requires.0 (few e) _
     (ap (λ (m : ℕ). record { free = set a.free.now a.slot (bit_or (get_or a.free.now a.slot 0) m); counts = set a.counts.now a.slot (get_or a.counts.now a.slot 0 + 1); evicted = a.kept.evicted + 1 }) b.bridge-bit.ensures)
     refl refl
-    (omega (arith, gt-of a.kept.short _ (sym v.lacks.ensures ∙ w.if2.false), tried-short a.demand (searchAt s) a.slot a.bridge s.requires.3 s.requires.0 (few e)))
+    (omega (arith, gt_of a.kept.short _ (sym v.lacks.ensures ∙ w.if2.false), tried_short a.demand (searchAt s) a.slot a.bridge s.requires.3 s.requires.0 (few e)))
 
-pub try-cell-spec : {M : Type 1} → statement M
-try-cell-spec =
+pub try_cell_spec : {M : Type 1} → statement M
+try_cell_spec =
     tie.close
     (tie.spec
     mul-x

@@ -2,12 +2,12 @@
 -- Assumes nothing.
 use native.Mathlib.Omega.{arith}
 use borrow.Author.Rules.{rules}
-use Rattle.station.proofs.entries.ListOfRecords.{write-few, write-enough}
+use Rattle.station.proofs.entries.ListOfRecords.{write_few, write_enough}
 use Rattle.station.proofs.entries.counted.write_counted.Statement.{statement}
 use Rattle.station.proofs.entries.counted.write_counted.Tie as tie
 
 returns : tie.Need-returns
-returns c = let a = c.before.before.args in write-few a.records a.head a.copied a.out.now c.if1.true
+returns c = let a = c.before.before.args in write_few a.records a.head a.copied a.out.now c.if1.true
 
 write-head-by-value-requires : tie.Need-write-head-by-value-requires
 write-head-by-value-requires c κs = search rules
@@ -18,7 +18,7 @@ same_length c = search rules
 returns-2 : tie.Need-returns-2
 returns-2 c =
     let a = c.before.before.before.before.before.before.args in
-    write-enough a.records a.head a.copied a.out.now (omega arith) c.before.before.write-head-by-value.ensures
+    write_enough a.records a.head a.copied a.out.now (omega arith) c.before.before.write-head-by-value.ensures
 
-pub write-counted-spec : {M : Type 1} → statement M
-write-counted-spec = tie.close (tie.spec returns write-head-by-value-requires same_length returns-2)
+pub write_counted_spec : {M : Type 1} → statement M
+write_counted_spec = tie.close (tie.spec returns write-head-by-value-requires same_length returns-2)

@@ -3,8 +3,8 @@
 use mathlib.Core.Path.{sym, ap}
 use borrow.Author.Rules.{rules}
 use Rattle.station.specs.declared.heads.steps.Stage.{Stage}
-use Rattle.station.specs.Reading.{busyMisplaced}
-use Rattle.station.specs.method.HeadStep.{stageIn}
+use Rattle.station.specs.Reading.{busy_misplaced}
+use Rattle.station.specs.method.HeadStep.{stage_in}
 use Rattle.station.proofs.heads.steps.busy_misplaced.Statement.{statement}
 use Rattle.station.proofs.heads.steps.busy_misplaced.Tie as tie
 
@@ -33,10 +33,10 @@ returns-3 : tie.Need-returns-3
 returns-3 c = search rules
 
 returns-4 : tie.Need-returns-4
-returns-4 c = ap (λ (g : Stage). busyMisplaced (stageIn g) c.before.before.before.args.bridge) (sym c.before.stage.given.1)
+returns-4 c = ap (λ (g : Stage). busy_misplaced (stage_in g) c.before.before.before.args.bridge) (sym c.before.stage.given.1)
 
 returns-5 : tie.Need-returns-5
 returns-5 c = search rules
 
-pub busy-misplaced-spec : {M : Type 1} → statement M
-busy-misplaced-spec = tie.close (tie.spec enum_told enum-told-2 enum-told-3 enum-known-stage enum-told-4 returns returns-2 returns-3 returns-4 returns-5)
+pub busy_misplaced_spec : {M : Type 1} → statement M
+busy_misplaced_spec = tie.close (tie.spec enum_told enum-told-2 enum-told-3 enum-known-stage enum-told-4 returns returns-2 returns-3 returns-4 returns-5)

@@ -19,5 +19,5 @@ returns-3 c =
     let a = c.before.before.args in
     rw (leb_yes 1 a.bridge (omega arith), leb_yes a.bridge a.bridges (omega arith)) refl
 
-pub busy-outside-spec : {M : Type 1} → statement M
-busy-outside-spec = tie.close (tie.spec returns returns-2 returns-3)
+pub busy_outside_spec : {M : Type 1} → statement M
+busy_outside_spec = tie.close (tie.spec returns returns-2 returns-3)

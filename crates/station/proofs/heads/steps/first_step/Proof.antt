@@ -2,7 +2,7 @@
 -- Assumes nothing.
 use mathlib.Core.Path.{sym, ◌∙◌, ap}
 use borrow.Author.Rules.{rules}
-use Rattle.station.specs.method.HeadStep.{firstStep}
+use Rattle.station.specs.method.HeadStep.{first_step}
 use Rattle.station.proofs.heads.steps.first_step.Statement.{statement}
 use Rattle.station.proofs.heads.steps.first_step.Tie as tie
 
@@ -55,31 +55,31 @@ stop-requires-7 : tie.Need-stop-requires-7
 stop-requires-7 c κs = search rules
 
 returns : tie.Need-returns
-returns c = c.stop.ensures ∙ ap (firstStep c.before.before.before.args.state) (sym c.before.enum_told.given.1)
+returns c = c.stop.ensures ∙ ap (first_step c.before.before.before.args.state) (sym c.before.enum_told.given.1)
 
 returns-2 : tie.Need-returns-2
-returns-2 c = c.frame_step.ensures ∙ ap (firstStep c.before.before.before.before.args.state) (sym c.before.before.line.given.1)
+returns-2 c = c.frame_step.ensures ∙ ap (first_step c.before.before.before.before.args.state) (sym c.before.before.line.given.1)
 
 returns-3 : tie.Need-returns-3
-returns-3 c = c.stop2.ensures ∙ ap (firstStep c.before.before.before.args.state) (sym c.before.enum-told2.given.1)
+returns-3 c = c.stop2.ensures ∙ ap (first_step c.before.before.before.args.state) (sym c.before.enum-told2.given.1)
 
 returns-4 : tie.Need-returns-4
-returns-4 c = c.stop3.ensures ∙ ap (firstStep c.before.before.before.args.state) (sym c.before.enum-told3.given.1)
+returns-4 c = c.stop3.ensures ∙ ap (first_step c.before.before.before.args.state) (sym c.before.enum-told3.given.1)
 
 returns-5 : tie.Need-returns-5
-returns-5 c = c.stop4.ensures ∙ ap (firstStep c.before.before.before.args.state) (sym c.before.enum-told4.given.1)
+returns-5 c = c.stop4.ensures ∙ ap (first_step c.before.before.before.args.state) (sym c.before.enum-told4.given.1)
 
 returns-6 : tie.Need-returns-6
-returns-6 c = c.stop5.ensures ∙ ap (firstStep c.before.before.before.args.state) (sym c.before.enum-told5.given.1)
+returns-6 c = c.stop5.ensures ∙ ap (first_step c.before.before.before.args.state) (sym c.before.enum-told5.given.1)
 
 returns-7 : tie.Need-returns-7
-returns-7 c = c.stop6.ensures ∙ ap (firstStep c.before.before.before.args.state) (sym c.before.enum-told6.given.1)
+returns-7 c = c.stop6.ensures ∙ ap (first_step c.before.before.before.args.state) (sym c.before.enum-told6.given.1)
 
 returns-8 : tie.Need-returns-8
-returns-8 c = c.stop7.ensures ∙ ap (firstStep c.before.before.before.args.state) (sym c.before.enum-told7.given.1)
+returns-8 c = c.stop7.ensures ∙ ap (first_step c.before.before.before.args.state) (sym c.before.enum-told7.given.1)
 
-pub first-step-spec : {M : Type 1} → statement M
-first-step-spec =
+pub first_step_spec : {M : Type 1} → statement M
+first_step_spec =
     tie.close
     (tie.spec
     enum_told

@@ -3,7 +3,7 @@
 use mathlib.Core.Path.{sym, ◌∙◌, ap}
 use mathlib.Core.Bool.{not}
 use borrow.Author.Rules.{rules}
-use Rattle.station.proofs.heads.OneLine.{frame_refused, frame-goes}
+use Rattle.station.proofs.heads.OneLine.{frame_refused, frame_goes}
 use Rattle.station.proofs.heads.steps.frame_step.Statement.{statement}
 use Rattle.station.proofs.heads.steps.frame_step.Tie as tie
 
@@ -21,7 +21,7 @@ returns c =
 returns-2 : tie.Need-returns-2
 returns-2 c =
     let a = c.before.before.before.args in
-    frame-goes a.state a.slots a.bridges (sym (ap not c.before.before.frame-in-limits.ensures) ∙ c.before.if1.false)
+    frame_goes a.state a.slots a.bridges (sym (ap not c.before.before.frame-in-limits.ensures) ∙ c.before.if1.false)
 
-pub frame-step-spec : {M : Type 1} → statement M
-frame-step-spec = tie.close (tie.spec frame-in-limits-requires stop-requires returns returns-2)
+pub frame_step_spec : {M : Type 1} → statement M
+frame_step_spec = tie.close (tie.spec frame-in-limits-requires stop-requires returns returns-2)

@@ -2,7 +2,7 @@
 -- Assumes nothing.
 use mathlib.Core.Path.{sym, ◌∙◌, ap}
 use borrow.Author.Rules.{rules}
-use Rattle.station.specs.method.HeadStep.{nextStep}
+use Rattle.station.specs.method.HeadStep.{next_step}
 use Rattle.station.proofs.heads.steps.next_step.Statement.{statement}
 use Rattle.station.proofs.heads.steps.next_step.Tie as tie
 
@@ -49,31 +49,31 @@ supply-step-requires : tie.Need-supply-step-requires
 supply-step-requires c κs = search rules
 
 returns : tie.Need-returns
-returns c = c.stop.ensures ∙ ap (nextStep c.before.before.before.args.state) (sym c.before.enum_told.given.1)
+returns c = c.stop.ensures ∙ ap (next_step c.before.before.before.args.state) (sym c.before.enum_told.given.1)
 
 returns-2 : tie.Need-returns-2
-returns-2 c = c.stop2.ensures ∙ ap (nextStep c.before.before.before.args.state) (sym c.before.enum-told2.given.1)
+returns-2 c = c.stop2.ensures ∙ ap (next_step c.before.before.before.args.state) (sym c.before.enum-told2.given.1)
 
 returns-3 : tie.Need-returns-3
-returns-3 c = c.busy-step.ensures ∙ ap (nextStep c.before.before.before.before.args.state) (sym c.before.before.line.given.1)
+returns-3 c = c.busy-step.ensures ∙ ap (next_step c.before.before.before.before.args.state) (sym c.before.before.line.given.1)
 
 returns-4 : tie.Need-returns-4
-returns-4 c = c.preset-step.ensures ∙ ap (nextStep c.before.before.before.before.args.state) (sym c.before.before.line2.given.1)
+returns-4 c = c.preset-step.ensures ∙ ap (next_step c.before.before.before.before.args.state) (sym c.before.before.line2.given.1)
 
 returns-5 : tie.Need-returns-5
-returns-5 c = ap (nextStep c.before.before.args.state) (sym c.enum-told3.given.1)
+returns-5 c = ap (next_step c.before.before.args.state) (sym c.enum-told3.given.1)
 
 returns-6 : tie.Need-returns-6
-returns-6 c = ap (nextStep c.before.before.args.state) (sym c.enum-told4.given.1)
+returns-6 c = ap (next_step c.before.before.args.state) (sym c.enum-told4.given.1)
 
 returns-7 : tie.Need-returns-7
-returns-7 c = c.tie-step.ensures ∙ ap (nextStep c.before.before.before.before.args.state) (sym c.before.before.line3.given.1)
+returns-7 c = c.tie-step.ensures ∙ ap (next_step c.before.before.before.before.args.state) (sym c.before.before.line3.given.1)
 
 returns-8 : tie.Need-returns-8
-returns-8 c = c.supply-step.ensures ∙ ap (nextStep c.before.before.before.before.args.state) (sym c.before.before.line4.given.1)
+returns-8 c = c.supply-step.ensures ∙ ap (next_step c.before.before.before.before.args.state) (sym c.before.before.line4.given.1)
 
-pub next-step-spec : {M : Type 1} → statement M
-next-step-spec =
+pub next_step_spec : {M : Type 1} → statement M
+next_step_spec =
     tie.close
     (tie.spec
     enum_told

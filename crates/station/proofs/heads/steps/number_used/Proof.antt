@@ -8,15 +8,15 @@ use mathlib.Core.Path.{◌≡◌, refl, sym, ◌∙◌}
 use mathlib.Core.List.{map}
 use lib.ListN.{take, drop}
 use borrow.Author.Rules.{rules}
-use Rattle.station.specs.Head.{hasNumber}
-use Rattle.station.specs.Types.{presetIn}
-use Rattle.station.proofs.heads.OneLine.{used-here, used-further, used-past}
+use Rattle.station.specs.Head.{has_number}
+use Rattle.station.specs.Types.{preset_in}
+use Rattle.station.proofs.heads.OneLine.{used_here, used_further, used_past}
 use Rattle.station.proofs.heads.steps.number_used.Statement.{statement}
 use Rattle.station.proofs.heads.steps.number_used.Tie as tie
 
 abbrev invariant-loop : tie.invariant-loop
 invariant-loop count number presets i₀ i =
-    hasNumber number (map presetIn (drop i (take count presets))) ≡ hasNumber number (map presetIn (take count presets))
+    has_number number (map preset_in (drop i (take count presets))) ≡ has_number number (map preset_in (take count presets))
 
 abbrev decreases-loop : tie.decreases-loop
 decreases-loop count number presets i₀ i = count - i
@@ -28,7 +28,7 @@ returns : tie.Need-returns invariant-loop decreases-loop
 returns c =
     let a = c.before.before.before.args in
     let i = c.before.before.loop.i in
-    sym (used-past a.number a.count a.t1 i (omega (arith, c.before.before.before.well-formed.0))) ∙ c.before.before.loop.invariant
+    sym (used_past a.number a.count a.t1 i (omega (arith, c.before.before.before.well-formed.0))) ∙ c.before.before.loop.invariant
 
 mul-p : tie.Need-overflow-mul-p invariant-loop decreases-loop
 mul-p c = omega arith
@@ -43,7 +43,7 @@ returns-2 : tie.Need-returns-2 invariant-loop decreases-loop
 returns-2 c =
     let a = c.before.before.before.before.before.before.args in
     let l = c.before.before.before.before.before.loop in
-    sym (used-here a.number a.count a.t1 l.i _ (omega arith) (omega (arith, c.before.before.before.before.before.before.well-formed.0)) c.if2.true)
+    sym (used_here a.number a.count a.t1 l.i _ (omega arith) (omega (arith, c.before.before.before.before.before.before.well-formed.0)) c.if2.true)
     ∙ l.invariant
 
 add-i : tie.Need-overflow-add-i invariant-loop decreases-loop
@@ -57,16 +57,16 @@ loop-again c =
     let a = c.before.before.before.before.before.before.args in
     let l = c.before.before.before.before.before.loop in
     rw (add-one l.i)
-    (sym (used-further a.number a.count a.t1 l.i _ (omega arith) (omega (arith, c.before.before.before.before.before.before.well-formed.0)) c.if2.false)
+    (sym (used_further a.number a.count a.t1 l.i _ (omega arith) (omega (arith, c.before.before.before.before.before.before.well-formed.0)) c.if2.false)
     ∙ l.invariant)
 
 returns-3 : tie.Need-returns-3 invariant-loop decreases-loop
 returns-3 c =
     let a = c.before.before.args in
-    sym (used-past a.number a.count a.t1 c.before.loop.i (omega arith)) ∙ c.before.loop.invariant
+    sym (used_past a.number a.count a.t1 c.before.loop.i (omega arith)) ∙ c.before.loop.invariant
 
-pub number-used-spec : {M : Type 1} → statement M
-number-used-spec =
+pub number_used_spec : {M : Type 1} → statement M
+number_used_spec =
     tie.close
     (tie.spec
     invariant-loop

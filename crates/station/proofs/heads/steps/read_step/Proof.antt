@@ -6,8 +6,8 @@ use mathlib.Core.Bool.{Bool}
 use borrow.Author.Rules.{rules}
 use Rattle.station.specs.Form.{form}
 use Rattle.station.specs.declared.forms.Read.{Read}
-use Rattle.station.specs.method.ReadLine.{lineIn}
-use Rattle.station.specs.method.HeadStep.{firstStep, nextStep, stepWhere}
+use Rattle.station.specs.method.ReadLine.{line_in}
+use Rattle.station.specs.method.HeadStep.{first_step, next_step, step_where}
 use Rattle.station.proofs.heads.steps.read_step.Statement.{statement}
 use Rattle.station.proofs.heads.steps.read_step.Tie as tie
 
@@ -23,10 +23,10 @@ next-step-requires c κs = search rules
 returns : tie.Need-returns
 returns c =
     let s = c.before.before.before.before.before.before.args.state in
-    let l = lineIn (min s.head.slots 64) (form c.before.before.before.before.before.before.args.line.now) in
+    let l = line_in (min s.head.slots 64) (form c.before.before.before.before.before.before.args.line.now) in
     c.next-step.ensures
-    ∙ ap (λ (r : Read). nextStep s r.line) c.before.before.before.read-line.ensures
-    ∙ ap (λ (b : Bool). stepWhere b s l) (sym (sym c.before.before.has-begun.ensures ∙ c.before.if1.true))
+    ∙ ap (λ (r : Read). next_step s r.line) c.before.before.before.read-line.ensures
+    ∙ ap (λ (b : Bool). step_where b s l) (sym (sym c.before.before.has-begun.ensures ∙ c.before.if1.true))
 
 first-step-requires : tie.Need-first-step-requires
 first-step-requires c κs = search rules
@@ -34,12 +34,12 @@ first-step-requires c κs = search rules
 returns-2 : tie.Need-returns-2
 returns-2 c =
     let s = c.before.before.before.before.before.before.args.state in
-    let l = lineIn (min s.head.slots 64) (form c.before.before.before.before.before.before.args.line.now) in
+    let l = line_in (min s.head.slots 64) (form c.before.before.before.before.before.before.args.line.now) in
     c.first_step.ensures
-    ∙ ap (λ (r : Read). firstStep s r.line) c.before.before.before.read-line.ensures
-    ∙ ap (λ (b : Bool). stepWhere b s l) (sym (sym c.before.before.has-begun.ensures ∙ c.before.if1.false))
+    ∙ ap (λ (r : Read). first_step s r.line) c.before.before.before.read-line.ensures
+    ∙ ap (λ (b : Bool). step_where b s l) (sym (sym c.before.before.has-begun.ensures ∙ c.before.if1.false))
 
-pub read-step-spec : {M : Type 1} → statement M
-read-step-spec =
+pub read_step_spec : {M : Type 1} → statement M
+read_step_spec =
     tie.close
     (tie.spec read-line-requires has-begun-requires next-step-requires returns first-step-requires returns-2)

@@ -2,13 +2,13 @@
 -- Assumes nothing.
 use native.Mathlib.Omega.{arith}
 use borrow.Author.Rules.{rules}
-use Rattle.station.specs.Head.{presetOf, InLimits}
+use Rattle.station.specs.Head.{preset_of, InLimits}
 use Rattle.station.proofs.ValidHead.{limits_of}
 use Rattle.station.proofs.heads.steps.record_of.Statement.{statement}
 use Rattle.station.proofs.heads.steps.record_of.Tie as tie
 
-limits : (c : tie.Start) → InLimits (presetOf c.args.number c.args.priority c.args.mandatory c.args.optional)
-limits c = limits_of (presetOf c.args.number c.args.priority c.args.mandatory c.args.optional) c.requires
+limits : (c : tie.Start) → InLimits (preset_of c.args.number c.args.priority c.args.mandatory c.args.optional)
+limits c = limits_of (preset_of c.args.number c.args.priority c.args.mandatory c.args.optional) c.requires
 
 cast-t5 : tie.Need-overflow-cast-t5
 cast-t5 c = let l = limits c in omega arith
@@ -25,5 +25,5 @@ cast-t8 c = let l = limits c in omega arith
 returns : tie.Need-returns
 returns c = search rules
 
-pub record-of-spec : {M : Type 1} → statement M
-record-of-spec = tie.close (tie.spec cast-t5 cast-t6 cast-t7 cast-t8 returns)
+pub record_of_spec : {M : Type 1} → statement M
+record_of_spec = tie.close (tie.spec cast-t5 cast-t6 cast-t7 cast-t8 returns)

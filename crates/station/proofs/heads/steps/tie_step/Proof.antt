@@ -3,7 +3,7 @@
 use mathlib.Core.Path.{sym, ◌∙◌, ap}
 use borrow.Author.Rules.{rules}
 use Rattle.station.specs.declared.heads.steps.Stage.{Stage}
-use Rattle.station.specs.method.HeadStep.{tieStepAt}
+use Rattle.station.specs.method.HeadStep.{tie_step_at}
 use Rattle.station.proofs.heads.steps.tie_step.Statement.{statement}
 use Rattle.station.proofs.heads.steps.tie_step.Tie as tie
 
@@ -34,30 +34,30 @@ enum-told-5 c = search rules
 returns : tie.Need-returns
 returns c =
     let a = c.before.before.before.args in
-    c.stop.ensures ∙ ap (λ (g : Stage). tieStepAt g a.state a.hold) (sym c.before.enum_told.given.1)
+    c.stop.ensures ∙ ap (λ (g : Stage). tie_step_at g a.state a.hold) (sym c.before.enum_told.given.1)
 
 returns-2 : tie.Need-returns-2
 returns-2 c =
     let a = c.before.before.before.args in
-    c.tie-in-head.ensures ∙ ap (λ (g : Stage). tieStepAt g a.state a.hold) (sym c.before.enum-told2.given.1)
+    c.tie-in-head.ensures ∙ ap (λ (g : Stage). tie_step_at g a.state a.hold) (sym c.before.enum-told2.given.1)
 
 returns-3 : tie.Need-returns-3
 returns-3 c =
     let a = c.before.before.before.args in
-    c.tie-in-head2.ensures ∙ ap (λ (g : Stage). tieStepAt g a.state a.hold) (sym c.before.enum-told3.given.1)
+    c.tie-in-head2.ensures ∙ ap (λ (g : Stage). tie_step_at g a.state a.hold) (sym c.before.enum-told3.given.1)
 
 returns-4 : tie.Need-returns-4
 returns-4 c =
     let a = c.before.before.args in
-    ap (λ (g : Stage). tieStepAt g a.state a.hold) (sym c.enum-told4.given.1)
+    ap (λ (g : Stage). tie_step_at g a.state a.hold) (sym c.enum-told4.given.1)
 
 returns-5 : tie.Need-returns-5
 returns-5 c =
     let a = c.before.before.args in
-    ap (λ (g : Stage). tieStepAt g a.state a.hold) (sym c.enum-told5.given.1)
+    ap (λ (g : Stage). tie_step_at g a.state a.hold) (sym c.enum-told5.given.1)
 
-pub tie-step-spec : {M : Type 1} → statement M
-tie-step-spec =
+pub tie_step_spec : {M : Type 1} → statement M
+tie_step_spec =
     tie.close
     (tie.spec
     enum_told

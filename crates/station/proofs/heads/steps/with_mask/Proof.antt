@@ -21,5 +21,5 @@ returns-2 c =
     let a = c.before.args in
     sym (set_out a.busy a.at a.mask (omega (arith, c.before.well-formed.0)))
 
-pub with-mask-spec : {M : Type 1} → statement M
-with-mask-spec = tie.close (tie.spec mul-after array-write-after returns returns-2)
+pub with_mask_spec : {M : Type 1} → statement M
+with_mask_spec = tie.close (tie.spec mul-after array-write-after returns returns-2)

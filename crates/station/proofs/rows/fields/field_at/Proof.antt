@@ -3,7 +3,7 @@
 use native.Mathlib.Omega.{arith}
 use mathlib.Core.Path.{refl, sym, ◌∙◌}
 use Rattle.station.specs.Row.{quote}
-use Rattle.station.proofs.rows.RowLine.{at-quoted, at_bare, word_fits}
+use Rattle.station.proofs.rows.RowLine.{at_quoted, at_bare, word_fits}
 use borrow.Author.Rules.{rules}
 use Rattle.station.proofs.rows.fields.field_at.Statement.{statement}
 use Rattle.station.proofs.rows.fields.field_at.Tie as tie
@@ -30,7 +30,7 @@ returns : tie.Need-returns
 returns c =
     let e = c.before.before in
     let s = e.before.before.before.before.args in
-    at-quoted s.text.now s.at c.number-then.result (sym e.before.starts-at.ensures ∙ e.if1.true) c.number-then.ensures
+    at_quoted s.text.now s.at c.number-then.result (sym e.before.starts-at.ensures ∙ e.if1.true) c.number-then.ensures
 
 number-at-requires : tie.Need-number-at-requires
 number-at-requires c κs = search rules
@@ -41,8 +41,8 @@ returns-2 c =
     let s = e.before.before.before.before.args in
     at_bare s.text.now s.at c.number_at.result (sym e.before.starts-at.ensures ∙ e.if1.false) c.number_at.ensures
 
-pub field-at-spec : {M : Type 1} → statement M
-field-at-spec =
+pub field_at_spec : {M : Type 1} → statement M
+field_at_spec =
     tie.close
     (tie.spec
     slice-aggregate-starts-at

@@ -4,7 +4,7 @@ use native.Mathlib.Omega.{arith}
 use mathlib.Core.Path.{refl, sym, ◌∙◌}
 use Rattle.laws.proofs.Tests.{false_of_not, true_of_not}
 use Rattle.station.specs.Text.{bytes}
-use Rattle.station.proofs.rows.RowLine.{word_fits, comma-missing, comma-other, comma-found}
+use Rattle.station.proofs.rows.RowLine.{word_fits, comma_missing, comma_other, comma_found}
 use borrow.Author.Rules.{rules}
 use Rattle.station.proofs.rows.fields.field_then.Statement.{statement}
 use Rattle.station.proofs.rows.fields.field_then.Tie as tie
@@ -16,7 +16,7 @@ returns : tie.Need-returns
 returns c =
     let f = c.before.before.field_at in
     let s = c.before.before.before.before.args in
-    comma-missing s.text.now s.at f.result f.ensures (false_of_not f.result.found c.if1.true)
+    comma_missing s.text.now s.at f.result f.ensures (false_of_not f.result.found c.if1.true)
 
 slice-aggregate-starts-at : tie.Need-slice-aggregate-starts-at
 slice-aggregate-starts-at c = search rules
@@ -31,7 +31,7 @@ returns-2 c =
     let e = c.before.before.before in
     let f = e.before.before.field_at in
     let s = e.before.before.before.before.args in
-    comma-other s.text.now s.at f.result f.ensures (true_of_not f.result.found e.if1.false)
+    comma_other s.text.now s.at f.result f.ensures (true_of_not f.result.found e.if1.false)
     (sym w.ensures ∙ false_of_not w.result c.if2.true)
 
 add-t10 : tie.Need-overflow-add-t10
@@ -50,11 +50,11 @@ returns-3 c =
     let e = c.before.before.before in
     let f = e.before.before.field_at in
     let s = e.before.before.before.before.args in
-    comma-found s.text.now s.at f.result f.ensures (true_of_not f.result.found e.if1.false)
+    comma_found s.text.now s.at f.result f.ensures (true_of_not f.result.found e.if1.false)
     (sym w.ensures ∙ true_of_not w.result c.if2.false)
 
-pub field-then-spec : {M : Type 1} → statement M
-field-then-spec =
+pub field_then_spec : {M : Type 1} → statement M
+field_then_spec =
     tie.close
     (tie.spec
     field-at-requires

@@ -9,9 +9,9 @@ use Rattle.laws.proofs.Tests.{false_of_not, true_of_not}
 use Rattle.station.specs.Text.{bytes}
 use Rattle.station.specs.Form.{starts}
 use Rattle.station.specs.Row.{row}
-use Rattle.station.proofs.numbers.Recognised.{word-yes, word-no}
-use Rattle.station.proofs.rows.RowText.{rowThen}
-use Rattle.station.proofs.rows.RowLine.{word_fits, comma-yes, comma-no, comma-value, fieldNumber, field-yes, field-no, field-value, row-found, row-missing}
+use Rattle.station.proofs.numbers.Recognised.{word_yes, word_no}
+use Rattle.station.proofs.rows.RowText.{row_then}
+use Rattle.station.proofs.rows.RowLine.{word_fits, comma_yes, comma_no, comma_value, field_number, field_yes, field_no, field_value, row_found, row_missing}
 use borrow.Author.Rules.{rules}
 use Rattle.station.proofs.rows.fields.row_at.Statement.{statement}
 use Rattle.station.proofs.rows.fields.row_at.Tie as tie
@@ -23,12 +23,12 @@ no-fields-requires : tie.Need-no-fields-requires
 no-fields-requires c κs = search rules
 
 returns : tie.Need-returns
-unfolding rowThen
+unfolding row_then
 returns c =
     let n0 = c.before.before.before.field-then in
     let s = c.before.before.before.before.before.args in
     let t = s.text.now in
-    c.no_fields.ensures ∙ row-missing t s.at (comma-no t s.at n0.result n0.ensures _ (false_of_not n0.result.found c.before.if1.true))
+    c.no_fields.ensures ∙ row_missing t s.at (comma_no t s.at n0.result n0.ensures _ (false_of_not n0.result.found c.before.if1.true))
 
 field-then-requires-2 : tie.Need-field-then-requires-2
 field-then-requires-2 c κs = search rules
@@ -37,7 +37,7 @@ no-fields-requires-2 : tie.Need-no-fields-requires-2
 no-fields-requires-2 c κs = search rules
 
 returns-2 : tie.Need-returns-2
-unfolding rowThen
+unfolding row_then
 returns-2 c =
     let n1 = c.before.before.before.field-then2 in
     let e0 = c.before.before.before.before in
@@ -45,8 +45,8 @@ returns-2 c =
     let s = e0.before.before.before.before.args in
     let t = s.text.now in
     c.no-fields2.ensures
-    ∙ row-missing t s.at (comma-yes t s.at n0.result n0.ensures _ (true_of_not n0.result.found e0.if1.false)
-    ∙ comma-no t n0.result.next n1.result n1.ensures _ (false_of_not n1.result.found c.before.if2.true))
+    ∙ row_missing t s.at (comma_yes t s.at n0.result n0.ensures _ (true_of_not n0.result.found e0.if1.false)
+    ∙ comma_no t n0.result.next n1.result n1.ensures _ (false_of_not n1.result.found c.before.if2.true))
 
 field-at-requires : tie.Need-field-at-requires
 field-at-requires c κs = search rules
@@ -55,7 +55,7 @@ no-fields-requires-3 : tie.Need-no-fields-requires-3
 no-fields-requires-3 c κs = search rules
 
 returns-3 : tie.Need-returns-3
-unfolding rowThen
+unfolding row_then
 returns-3 c =
     let n2 = c.before.before.before.field_at in
     let e1 = c.before.before.before.before in
@@ -65,9 +65,9 @@ returns-3 c =
     let s = e0.before.before.before.before.args in
     let t = s.text.now in
     c.no-fields3.ensures
-    ∙ row-missing t s.at (comma-yes t s.at n0.result n0.ensures _ (true_of_not n0.result.found e0.if1.false)
-    ∙ comma-yes t n0.result.next n1.result n1.ensures _ (true_of_not n1.result.found e1.if2.false)
-    ∙ field-no t n1.result.next n2.result n2.ensures _ (false_of_not n2.result.found c.before.if3.true))
+    ∙ row_missing t s.at (comma_yes t s.at n0.result n0.ensures _ (true_of_not n0.result.found e0.if1.false)
+    ∙ comma_yes t n0.result.next n1.result n1.ensures _ (true_of_not n1.result.found e1.if2.false)
+    ∙ field_no t n1.result.next n2.result n2.ensures _ (false_of_not n2.result.found c.before.if3.true))
 
 slice-aggregate-starts-at : tie.Need-slice-aggregate-starts-at
 slice-aggregate-starts-at c = search rules
@@ -79,7 +79,7 @@ no-fields-requires-4 : tie.Need-no-fields-requires-4
 no-fields-requires-4 c κs = search rules
 
 returns-4 : tie.Need-returns-4
-unfolding bytes rowThen
+unfolding bytes row_then
 returns-4 c =
     let w = c.before.before.starts-at in
     let e2 = c.before.before.before.before in
@@ -91,10 +91,10 @@ returns-4 c =
     let s = e0.before.before.before.before.args in
     let t = s.text.now in
     c.no-fields4.ensures
-    ∙ row-missing t s.at (comma-yes t s.at n0.result n0.ensures _ (true_of_not n0.result.found e0.if1.false)
-    ∙ comma-yes t n0.result.next n1.result n1.ensures _ (true_of_not n1.result.found e1.if2.false)
-    ∙ field-yes t n1.result.next n2.result n2.ensures _ (true_of_not n2.result.found e2.if3.false)
-    ∙ word-no t (bytes "\r\n") n2.result.next _ (sym w.ensures ∙ false_of_not w.result c.before.if4.true))
+    ∙ row_missing t s.at (comma_yes t s.at n0.result n0.ensures _ (true_of_not n0.result.found e0.if1.false)
+    ∙ comma_yes t n0.result.next n1.result n1.ensures _ (true_of_not n1.result.found e1.if2.false)
+    ∙ field_yes t n1.result.next n2.result n2.ensures _ (true_of_not n2.result.found e2.if3.false)
+    ∙ word_no t (bytes "\r\n") n2.result.next _ (sym w.ensures ∙ false_of_not w.result c.before.if4.true))
 
 add-t12 : tie.Need-overflow-add-t12
 unfolding bytes
@@ -107,7 +107,7 @@ add-t12 c =
     omega arith
 
 returns-5 : tie.Need-returns-5
-unfolding bytes rowThen
+unfolding bytes row_then
 returns-5 c =
     let w = c.before.starts-at in
     let e2 = c.before.before.before in
@@ -124,18 +124,18 @@ returns-5 c =
     let end = n2.result.next in
     let stands : starts (bytes "\r\n") (drop end t) ≡ true = sym w.ensures ∙ true_of_not w.result c.if4.false in
     rw (
-      comma-value t s.at n0.result n0.ensures f0,
-      comma-value t n0.result.next n1.result n1.ensures f1,
-      field-value t n1.result.next n2.result n2.ensures f2,
+      comma_value t s.at n0.result n0.ensures f0,
+      comma_value t n0.result.next n1.result n1.ensures f1,
+      field_value t n1.result.next n2.result n2.ensures f2,
     )
-    (row-found t s.at (row (fieldNumber t s.at) (fieldNumber t n0.result.next) (fieldNumber t n1.result.next)) (end + 2) (word_fits t end (bytes "\r\n") 1 refl stands)
-    (comma-yes t s.at n0.result n0.ensures _ f0
-    ∙ comma-yes t n0.result.next n1.result n1.ensures _ f1
-    ∙ field-yes t n1.result.next n2.result n2.ensures _ f2
-    ∙ word-yes t (bytes "\r\n") end (end + 2) _ stands refl))
+    (row_found t s.at (row (field_number t s.at) (field_number t n0.result.next) (field_number t n1.result.next)) (end + 2) (word_fits t end (bytes "\r\n") 1 refl stands)
+    (comma_yes t s.at n0.result n0.ensures _ f0
+    ∙ comma_yes t n0.result.next n1.result n1.ensures _ f1
+    ∙ field_yes t n1.result.next n2.result n2.ensures _ f2
+    ∙ word_yes t (bytes "\r\n") end (end + 2) _ stands refl))
 
-pub row-at-spec : {M : Type 1} → statement M
-row-at-spec =
+pub row_at_spec : {M : Type 1} → statement M
+row_at_spec =
     tie.close
     (tie.spec
     field-then-requires

@@ -1,6 +1,6 @@
 -- `rows::text::bare_row` meets its contract. Assumes nothing.
 use Rattle.station.specs.Text.{bytes}
-use Rattle.station.specs.Row.{printRow}
+use Rattle.station.specs.Row.{print_row}
 use Rattle.station.proofs.output.Runs.{wrote_then}
 use borrow.Author.Rules.{rules}
 use Rattle.station.proofs.rows.text.bare_row.Statement.{statement}
@@ -31,7 +31,7 @@ same_length : tie.Need-same-length
 same_length c = search rules
 
 returns : tie.Need-returns
-unfolding printRow bytes
+unfolding print_row bytes
 returns c =
     wrote_then c.before.before.before.before.before.before.before.before.before.before.before.before.before.before.before.before.before.before.before.before.before.before.before.number.ensures
     (wrote_then c.before.before.before.before.before.before.before.before.before.before.before.before.before.before.before.before.before.before.before.put.ensures
@@ -39,8 +39,8 @@ returns c =
     (wrote_then c.before.before.before.before.before.before.before.before.before.before.before.put2.ensures
     (wrote_then c.before.before.before.before.before.before.before.number3.ensures c.before.before.word.ensures))))
 
-pub bare-row-spec : {M : Type 1} → statement M
-bare-row-spec =
+pub bare_row_spec : {M : Type 1} → statement M
+bare_row_spec =
     tie.close
     (tie.spec
     number-requires
