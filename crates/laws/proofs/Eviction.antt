@@ -109,8 +109,29 @@ first_of_drops (true ∷ d) (false ∷ e) l h c = inr here
 first_of_drops (false ∷ d) (true ∷ e) l h c = absurd (omega (arith, h 1))
 first_of_drops (false ∷ d) (false ∷ e) l h c = first_later false (first_of_drops d e (omega arith) (λ m. h (suc m)) (omega arith))
 
+-- how two lists of tests compare at the first place where they differ: 2 where the left one is true there, 0 where the right one is, 1 where there is none
+leads_by : List Bool → List Bool → ℕ
+leads_by [] e = 1
+leads_by (b ∷ d) [] = 1
+leads_by (true ∷ d) (true ∷ e) = leads_by d e
+leads_by (true ∷ d) (false ∷ e) = 2
+leads_by (false ∷ d) (true ∷ e) = 0
+leads_by (false ∷ d) (false ∷ e) = leads_by d e
+
+first_leads : {d e : List Bool} → First d e → leads_by d e ≡ 2
+unfolding leads_by
+first_leads here = refl
+first_leads (later {b = true} f) = first_leads f
+first_leads (later {b = false} f) = first_leads f
+
+first_trails : {d e : List Bool} → First d e → leads_by e d ≡ 0
+unfolding leads_by
+first_trails here = refl
+first_trails (later {b = true} f) = first_trails f
+first_trails (later {b = false} f) = first_trails f
+
 pub first_asym : {d e : List Bool} → First d e → First e d → ⊥
-first_asym (later f) (later g) = first_asym f g
+first_asym f g = omega (arith, first_leads f, first_trails g)
 
 -- ---- the search, over any shortage
 
