@@ -16,7 +16,6 @@ import sys
 TOKEN = re.compile(r"(?<![\w'\-◌])([^\W\d][\w'₀-₉]*(?:-[\w'₀-₉]+)*)(?![\w◌])")
 DECLARED = re.compile(r"^\s*(?:(?:pub|abbrev|unfoldable|data|record|opaque)\s+)*([^\W\d][\w'₀-₉]*(?:-[\w'₀-₉]+)*)(?:\s+[\(\{\w].*?)?\s:(?:\s|$)")
 TICKED = re.compile(r"`([^`\n]+)`")
-GHOST_USE = re.compile(r"^ghost use .*?;", re.M | re.S)
 
 
 # Lemmas that Rattle's script had brought to snake case already.
@@ -180,12 +179,11 @@ def main():
         return "\n".join(out)
 
     def in_rt(text):
-        text = GHOST_USE.sub(lambda m: turned(m.group(0)), text)
         out = []
         for line in text.split("\n"):
             m = re.search(r"(^|\s)//", line)
             code, rest = (line[: m.start()], line[m.start():]) if m else (line, "")
-            out.append(turned(code, False) + ticked(rest))
+            out.append(turned(code, line.startswith("ghost use ")) + ticked(rest))
         return "\n".join(out)
 
     for p in antt + rt + sorted(glob.glob("crates/*/must-fail/*.edit")) + ["README.md", "CHANGELOG.md"] + sorted(glob.glob("docs/**/*.md", recursive=True)):

@@ -8,7 +8,7 @@ const END: u8 = 10;
 const SHOWN: usize = 80;
 
 // Where the last line of a text begins, and its number, counted from 1.
-#[derive(Drop)]
+#[derive(Clone, Copy)]
 pub struct LastLine {
     pub start: usize,
     pub line: usize,

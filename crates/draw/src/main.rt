@@ -1,6 +1,8 @@
 // The program `draw`: reads a station text from standard input and writes a picture of its frame, in SVG, to standard output: the frame before the last event and after it, one
 // below the other; of a text without events the plan alone; of a refused text its one refused line. Each frame is an `svg` element of its own, with all that it needs, so that
 // it is whole where it is cut out.
+#![tactic(auto)]
+
 mod lines; // lines.rt: the last line of a text, and the bytes of a line that are shown
 mod output; // output.rt: bytes and numbers to standard output
 mod layout; // layout.rt: how large a picture is, and where its parts are

@@ -15,7 +15,7 @@ use station::records::{load, record_count};
 use station::types::{Head, Preset, Refusal};
 
 // What the events leave beside the table and the output: their end, the clock and the order of ties.
-#[derive(Drop)]
+#[derive(Clone, Copy)]
 pub struct EventsAnswer {
     pub ended: Ended,
     pub clock: usize,

@@ -21,7 +21,7 @@ use station::records::{load, record_count, save};
 use station::types::{Head, Preset, Refusal};
 
 // What a text leaves beside the table, the output and the list of preset records: its end, the head, the clock and the order of ties.
-#[derive(Drop)]
+#[derive(Clone, Copy)]
 pub struct TextAnswer {
     pub ended: Ended,
     pub head: Head,
@@ -51,14 +51,14 @@ pub fn run_text(
 }
 
 // How a text ends: the number of bytes of its listing in the output, or the line and the cause of the one refusal.
-#[derive(Drop)]
+#[derive(Clone, Copy)]
 pub enum Ended {
     Ran(usize),
     Refused(usize, Refusal),
 }
 
 // What a text leaves beside the table and the output: its end, the head with its presets, the clock and the order of ties.
-#[derive(Drop)]
+#[derive(Clone, Copy)]
 pub struct TextRun {
     pub ended: Ended,
     pub head: Head,

@@ -3,7 +3,7 @@ use station::types::Refusal;
 
 // The answer to one event: the new clock, the new order of ties (whether it is hold), the number of optional cells that a call evicts, or the line and the cause of its
 // refusal: line 0, as an event by itself has none.
-#[derive(Drop)]
+#[derive(Clone, Copy)]
 pub enum Answer {
     Now(usize),
     Tie(bool),
@@ -12,7 +12,7 @@ pub enum Answer {
 }
 
 // What one event comes to beside the table: its answer, and the clock and the order of ties afterwards.
-#[derive(Drop)]
+#[derive(Clone, Copy)]
 pub struct Outcome {
     pub answer: Answer,
     pub clock: usize,

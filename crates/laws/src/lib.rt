@@ -1,1 +1,2 @@
 // Laws alone: no function runs here.
+#![tactic(auto)]

@@ -29,7 +29,7 @@ use station::records::{load, record_count};
 use station::types::{Head, Job, Preset, Refusal};
 
 // The answer: the number of optional cells that the call evicts, or the line and the cause of its refusal.
-#[derive(Drop)]
+#[derive(Clone, Copy)]
 pub enum CallAnswer {
     Taken(usize),
     Refused(usize, Refusal),

@@ -19,7 +19,7 @@ use station::types::{Head, Preset, Refusal};
 pub const FIRST_CLOCK: usize = 0;
 
 // What trying some causes gives: the first one that is met, or none.
-#[derive(Drop)]
+#[derive(Clone, Copy)]
 pub enum Cause {
     Met(Refusal),
     Passed,

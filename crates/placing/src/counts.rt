@@ -19,7 +19,7 @@ use station::types::{Head, Job, Preset};
 
 // What a call's own causes are decided by: 1 at each number that a preset or a call cell has, the number of job numbers in the table, and how many slots above the clock
 // have at least one, two, up to eight cells that a call may fill: the empty and the optional ones, but no more than the motors beside the cells that stay.
-#[derive(Drop)]
+#[derive(Clone, Copy)]
 pub struct Counts {
     pub used: [u8; 256],
     pub jobs: usize,

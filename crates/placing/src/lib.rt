@@ -1,5 +1,7 @@
 // Layer 2, placing: the plan of a fresh frame, and a call on a running one. What must be believed of it is specs/, what is proved proofs/Theorems.antt.
 // The entries:
+#![tactic(auto)]
+
 pub mod plan; // plan.rt: plan, over a borrowed list of preset records; and with them by value
 pub mod call; // call.rt: call, over a borrowed list of preset records; with them by value; and by counts that are kept
 // What the parts share:

@@ -24,14 +24,14 @@ use station::records::{load, record_count};
 use station::types::{Head, Preset, Refusal};
 
 // The answer: every mandatory slot is granted, or the line and the cause of the refusal.
-#[derive(Drop)]
+#[derive(Clone, Copy)]
 pub enum PlanAnswer {
     Granted,
     Refused(usize, Refusal),
 }
 
 // The answer, and each preset's grant in file order: 0 past the last preset, and all 0 where nothing is granted.
-#[derive(Drop)]
+#[derive(Clone, Copy)]
 pub struct Planned {
     pub answer: PlanAnswer,
     pub grants: [u8; MOST_PRESETS],

@@ -23,7 +23,7 @@ use station::limits::{MOST_BRIDGES, MOST_PRESETS, MOST_SLOTS};
 use station::types::{Head, Preset};
 
 // The answer: whether the call fits, how many cells are evicted, and for each slot the mask of the bridges that its jobs may use and how many of them they fill at the most.
-#[derive(Drop)]
+#[derive(Clone, Copy)]
 pub(crate) struct Evicted {
     pub fits: bool,
     pub count: usize,
@@ -32,7 +32,7 @@ pub(crate) struct Evicted {
 }
 
 // What the jobs demand: the sums of the r longest for r from 0 to 8, all together, and the number of slots in which they are to have it.
-#[derive(Drop)]
+#[derive(Clone, Copy)]
 pub(crate) struct Demand {
     pub slots: usize,
     pub sums: [usize; CAPACITY_COUNT],
@@ -41,7 +41,7 @@ pub(crate) struct Demand {
 
 // What the search keeps: for each slot the mask of the bridges that the jobs may use and its free number, how many slots have at least one, two, up to eight free bridges, the
 // shortage, and how many cells are evicted so far.
-#[derive(Drop)]
+#[derive(Clone, Copy)]
 pub(crate) struct Search {
     pub free: [u8; MOST_SLOTS],
     pub counts: [usize; MOST_SLOTS],

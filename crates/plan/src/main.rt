@@ -1,5 +1,7 @@
 // The program `plan`: reads a station file from standard input and writes its listing to standard
 // output. What the listing is, is decided in the library.
+#![tactic(auto)]
+
 ghost use Rattle.std.specs.Prelude.{◌≤◌, ◌≡◌, length, take};
 ghost use Rattle.frame.specs.Text.{whole_of};
 ghost use Rattle.frame.specs.Listing.{listing_of};

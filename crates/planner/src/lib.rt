@@ -1,5 +1,7 @@
 // The planner for firmware in C or Rust: a static library of six functions over numbers and slices alone (`rt staticlib planner`; its header is include/planner.h).
 // What each function promises is in specs/Exports.antt, the layout of what is lent in specs/Layout.antt.
+#![tactic(auto)]
+
 pub mod exports; // exports.rt: the exported functions
 // Parts, private to the library:
 mod sizes; // sizes.rt: how long what is lent has to be

@@ -1,6 +1,8 @@
 // The program `rows`: reads the text of a head from standard input and, after an empty line, rows;
 // writes the head's text with the rows in place of its busy lines to standard output. Without an
 // empty line it writes the head's rows. How texts are read and written is decided in the library.
+#![tactic(auto)]
+
 ghost use Rattle.std.specs.Prelude.{◌≤◌, ◌≡◌, true, length, take};
 ghost use Rattle.station.specs.Text.{lines};
 ghost use Rattle.station.specs.Writing.{text_of};

@@ -5,6 +5,8 @@
 // An answer is one number: the table after it, in field 6 the cause, 0 for none, and in field 7
 // what is reported: of a plan the grants, two bits for each line; of a call the number of evicted
 // cells. Call 0 asks for a plan.
+#![tactic(auto)]
+
 pub mod placements; // placements.rt: what fits, and the placing rule
 pub mod planning; // planning.rt: the plan of a head
 pub mod calling; // calling.rt: what a call evicts, and the table that it leaves

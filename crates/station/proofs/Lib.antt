@@ -1,6 +1,5 @@
--- The laws of layer 1. What the layers above cite: the theorems; steps of walks by hand over a borrowed slice of preset records; texts that compute.
+-- The laws of layer 1. What the layers above cite: the theorems; texts that compute.
 pub mod Theorems
-pub mod Walks
 pub mod Examples
 -- The meaning, in document 01's order: the causes; decimals, lines, forms; busy cells as masks; valid heads; reading, writing and both ways; how long a text is.
 mod Refusal
@@ -14,6 +13,5 @@ mod Reading
 mod Writing
 mod WrittenRead
 mod TextSize
--- The code's records; and steps of any walk by hand. The laws about one part of the code stand beside its proofs, in the folder of its name.
+-- The code's records. The laws about one part of the code stand beside its proofs, in the folder of its name.
 mod CodeRecords
-mod WalkSteps

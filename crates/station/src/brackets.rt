@@ -13,7 +13,7 @@ use crate::types::{Job, NO_JOB};
 
 // A bracket of two numbers: whether one was found, whether it ends the line, its numbers as they
 // are read, and the place of the next one.
-#[derive(Drop)]
+#[derive(Clone, Copy)]
 pub struct Bracket {
     pub found: bool,
     pub last: bool,
@@ -24,7 +24,7 @@ pub struct Bracket {
 
 // The stretches so far: the least slot in which the next may begin, their mask, and whether they
 // are in order.
-#[derive(Drop)]
+#[derive(Clone, Copy)]
 pub struct Stretches {
     pub from: u32,
     pub mask: u64,
@@ -32,7 +32,7 @@ pub struct Stretches {
 }
 
 // The stretches of a busy line, if it has its form.
-#[derive(Drop)]
+#[derive(Clone, Copy)]
 pub struct BusyMask {
     pub found: bool,
     pub mask: u64,
@@ -41,7 +41,7 @@ pub struct BusyMask {
 
 // The jobs of a call, if it has its form: how many, whether each is within its limits, and the
 // first eight.
-#[derive(Drop)]
+#[derive(Clone, Copy)]
 pub struct Jobs {
     pub found: bool,
     pub count: u32,

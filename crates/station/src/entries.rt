@@ -3,7 +3,7 @@
 mod counted; // counted.rt: what the entries do with the records by value, where the list has as many records as are counted
 
 ghost use Rattle.std.specs.Prelude.{◌≡◌, length};
-ghost use Rattle.station.specs.Entries.{WroteEntry, entry_read, left_by_lem};
+ghost use Rattle.station.specs.Entries.{WroteEntry, entry_read, left_by};
 ghost use Rattle.station.specs.RowEntries.{rows_reading, rows_read, WroteRows};
 
 use crate::entries::counted::{
@@ -17,7 +17,7 @@ use crate::types::{Head, Preset};
 use crate::write::Writing;
 
 // What reading a head answers, and the head; its preset records stand in the list.
-#[derive(Drop)]
+#[derive(Clone, Copy)]
 pub struct HeadAnswer {
     pub answer: ReadAnswer,
     pub head: Head,

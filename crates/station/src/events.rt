@@ -12,7 +12,7 @@ use crate::types::{Job, NO_JOB, Refusal};
 // What an event line asks: to set the clock, to place the first jobs of the array, so many of them,
 // or to change the order of ties; or the refusal that it meets by itself, whatever the table and
 // the clock are.
-#[derive(Drop)]
+#[derive(Clone, Copy)]
 pub enum Event {
     SetClock(u32),
     PlaceJobs(usize),
@@ -21,7 +21,7 @@ pub enum Event {
 }
 
 // An event, and its jobs, which are zeros past the last and where no jobs are to be placed.
-#[derive(Drop)]
+#[derive(Clone, Copy)]
 pub struct EventRead {
     pub event: Event,
     pub jobs: [Job; MOST_JOBS],

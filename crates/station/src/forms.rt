@@ -12,7 +12,7 @@ use crate::types::{Job, NO_JOB};
 
 // What a line says, its numbers as they are read. Of a busy line the mask of its stretches, 0 where
 // they are not in order, and whether they are. Of a call the number of its jobs.
-#[derive(Drop)]
+#[derive(Clone, Copy)]
 pub enum Line {
     NoForm,
     Frame(u32, u32),
@@ -25,7 +25,7 @@ pub enum Line {
 }
 
 // A line, and the first eight jobs where it is a call.
-#[derive(Drop)]
+#[derive(Clone, Copy)]
 pub struct Read {
     pub line: Line,
     pub jobs: [Job; MOST_JOBS],

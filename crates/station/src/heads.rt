@@ -4,7 +4,7 @@ mod steps; // steps.rt: one line more
 ghost use Rattle.std.specs.Prelude.{◌≡◌, ◌≤◌, length};
 ghost use Rattle.station.specs.Limits.{most_bytes};
 ghost use Rattle.station.specs.Reading.{head_of};
-ghost use Rattle.station.specs.ReadHead.{head_read_lem};
+ghost use Rattle.station.specs.ReadHead.{head_read};
 ghost use Rattle.station.specs.method.HeadStep.{no_state, accepted_read, refused_read};
 
 use crate::heads::steps::{Stage, State, Verdict, has_begun, read_step};
@@ -14,7 +14,7 @@ use crate::types::{Head, NO_HEAD, Preset, Refusal};
 
 // What reading a head answers: the number of its lines and of its bytes; or the line, counted from
 // 1, and what it is refused for. A text that is too long is refused at line 0.
-#[derive(Drop)]
+#[derive(Clone, Copy)]
 pub enum ReadAnswer {
     Accepted(usize, usize),
     Refused(usize, Refusal),
@@ -22,7 +22,7 @@ pub enum ReadAnswer {
 
 // The answer, and the head with its preset records. Where the text is refused both are those handed
 // in.
-#[derive(Drop)]
+#[derive(Clone, Copy)]
 pub struct HeadRead {
     pub answer: ReadAnswer,
     pub head: Head,

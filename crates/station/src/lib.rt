@@ -1,5 +1,7 @@
 // Layer 1, reading: station texts as heads and events, and a head's one text. What must be believed
 // of it is specs/, what is proved proofs/Theorems.antt. The entries:
+#![tactic(auto)]
+
 pub mod entries; // entries.rt: read_head, write_head, read_rows and write_rows, over a borrowed list of preset records
 pub mod lines; // lines.rt: line_at, the line of a text from a position on
 pub mod events; // events.rt: read_event, an event line as far as it alone decides

@@ -6,7 +6,7 @@ ghost use Rattle.station.specs.method.Numeral.{leads, closes, no_numeral, numera
 ghost use Rattle.station.specs.Jobs.{seen};
 
 // What reading a number found: its value, which stops at 65,535, and the place after it.
-#[derive(Drop)]
+#[derive(Clone, Copy)]
 pub struct Numeral {
     pub found: bool,
     pub value: u32,

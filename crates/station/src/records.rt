@@ -74,7 +74,7 @@ pub fn load(presets: &[Preset]) -> [Preset; MOST_PRESETS]
     let mut copied = no_records();
     let mut i = 0;
     while i < MOST_PRESETS {
-        copied = with_record(copied, i, record_at(presets, i));
+        copied[i] = record_at(presets, i);
         i += 1;
     }
     copied

@@ -20,7 +20,7 @@ use crate::types::{Head, Preset, Refusal};
 
 // What reading rows answers: how many rows there are; or the row, counted from 1, and what it is
 // refused for, at row 0 where no row was looked at.
-#[derive(Drop)]
+#[derive(Clone, Copy)]
 pub enum RowsAnswer {
     Accepted(usize),
     Refused(usize, Refusal),
@@ -28,7 +28,7 @@ pub enum RowsAnswer {
 
 // The answer, and the head with the busy times of the rows. Where a row is refused the head is the
 // one handed in.
-#[derive(Drop)]
+#[derive(Clone, Copy)]
 pub struct RowsRead {
     pub answer: RowsAnswer,
     pub head: Head,

@@ -2,7 +2,7 @@
 use crate::limits::{MOST_BRIDGES, MOST_PRESETS};
 
 // A preset line as a record.
-#[derive(Drop)]
+#[derive(Clone, Copy)]
 pub struct Preset {
     pub number: u8,
     pub priority: u8,
@@ -11,7 +11,7 @@ pub struct Preset {
 }
 
 // A job of a call, as read: a number above 65,535 is kept as 65,535.
-#[derive(Drop)]
+#[derive(Clone, Copy)]
 pub struct Job {
     pub number: u16,
     pub slots: u16,
@@ -37,7 +37,7 @@ pub const NO_PRESETS: [Preset; MOST_PRESETS] = [NO_RECORD; MOST_PRESETS];
 // them are in use. `supply` is the number of its supply line, 0 where it has none; `hold` is
 // whether `(tie hold)` stands directly after the frame line or its supply line. The busy cells are
 // one mask for each bridge, slot 1 being the lowest bit.
-#[derive(Drop)]
+#[derive(Clone, Copy)]
 pub struct Head {
     pub slots: usize,
     pub bridges: usize,
@@ -58,7 +58,7 @@ pub const NO_HEAD: Head = Head {
 };
 
 // The causes, in the order of their numbers, 1 to 12.
-#[derive(Drop)]
+#[derive(Clone, Copy)]
 pub enum Refusal {
     NoForm,
     OutOfLimits,

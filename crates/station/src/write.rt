@@ -19,7 +19,7 @@ use crate::types::{Head, Preset, Refusal};
 
 // How writing ends: the length of the text, or the line and the cause for which nothing was
 // written.
-#[derive(Drop)]
+#[derive(Clone, Copy)]
 pub enum Writing {
     Written(usize),
     Refused(usize, Refusal),

@@ -3,6 +3,8 @@
 // of crates/placing beside a second one, which is written from documents 01 and 02 and tries every placement of small frames, with supplies and without: each line that begins
 // `(differs` gives a case in which the two differ, or in which their answer is not the best one, and the counts stand at the end. What this program writes is compared with the
 // stored output.
+#![tactic(auto)]
+
 pub mod records; // records.rt: the records of heads and calls, and what the library answers
 pub mod cells; // cells.rt: the library's table
 mod texts; // texts.rt: texts and their listings

@@ -12,7 +12,7 @@ use station::lines::line_at;
 use station::types::{Head, Preset};
 
 // What the lines leave beside the table and the output: the clock, the order of ties, and the place after the last answer.
-#[derive(Drop)]
+#[derive(Clone, Copy)]
 pub(crate) struct Lines {
     pub clock: usize,
     pub hold: bool,

@@ -58,7 +58,7 @@ pub(crate) fn highest(levels: &[u64; LEVELS], from: usize, served: u64) -> usize
 }
 
 // The first jobs of a mask, and how many more were asked for.
-#[derive(Drop)]
+#[derive(Clone, Copy)]
 pub(crate) struct First {
     pub jobs: u64,
     pub more: usize,

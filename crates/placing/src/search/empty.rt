@@ -18,7 +18,7 @@ pub(crate) fn bridge_bit(b: usize) -> u8
 }
 
 // A slot's cells as a call finds them: the mask of the empty ones, and how many presets and calls hold.
-#[derive(Drop)]
+#[derive(Clone, Copy)]
 pub(crate) struct Found {
     pub empty: u8,
     pub held: usize,

@@ -17,7 +17,7 @@ use station::limits::{LEAST_CELLS, MOST_BRIDGES, MOST_PRESETS, MOST_SLOTS};
 use station::types::{Head, Preset};
 
 // The numbers of a search, beside its arrays, which the walk changes in place.
-#[derive(Drop)]
+#[derive(Clone, Copy)]
 pub(crate) struct Tally {
     pub short: usize,
     pub evicted: usize,

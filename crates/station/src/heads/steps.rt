@@ -18,7 +18,7 @@ use crate::types::{Head, NO_HEAD, Preset, Refusal};
 // How far a head was read: at the frame line; directly after it, where the head's supply line
 // stands, and its tie line where there is no supply line; right after the supply line, where its
 // tie line stands; at the busy lines, the next with this bridge at the least; at the presets.
-#[derive(Drop)]
+#[derive(Clone, Copy)]
 pub(crate) enum Stage {
     Frame,
     Supply,
@@ -28,7 +28,7 @@ pub(crate) enum Stage {
 }
 
 // What the lines read so far make: the stage, the head and its preset records.
-#[derive(Drop)]
+#[derive(Clone, Copy)]
 pub(crate) struct State {
     pub stage: Stage,
     pub head: Head,
@@ -37,7 +37,7 @@ pub(crate) struct State {
 
 // What a line means for the reading: it goes on, the head ended before the line, or the line is
 // refused.
-#[derive(Drop)]
+#[derive(Clone, Copy)]
 pub(crate) enum Verdict {
     Goes,
     Ends,
@@ -46,7 +46,7 @@ pub(crate) enum Verdict {
 
 // The verdict on a line, and the state after it. Where the reading does not go on, the state is
 // that before it.
-#[derive(Drop)]
+#[derive(Clone, Copy)]
 pub(crate) struct Step {
     pub verdict: Verdict,
     pub state: State,

@@ -6,7 +6,7 @@ ghost use Rattle.station.specs.method.RowFields.{field_at, field_then, fields_of
 use crate::numbers::{Numeral, number_at, number_then, starts_at};
 
 // The numbers of a row as they are read, and the place after it, if the line has a row's form.
-#[derive(Drop)]
+#[derive(Clone, Copy)]
 pub(crate) struct Fields {
     pub found: bool,
     pub bridge: u32,

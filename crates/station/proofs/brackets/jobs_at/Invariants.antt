@@ -1,0 +1,23 @@
+-- `jobs_at` meets its contract. The invariant: the jobs so far and those from `i` on make what the jobs from `at` on make.
+-- The measure is what is left of the text.
+-- Assumes nothing.
+use Prim.Native.Nat.{◌-◌, ◌≤◌}
+use native.Mathlib.Omega.{arith}
+use mathlib.Core.Path.{◌≡◌, refl, sym, ◌∙◌}
+use mathlib.Core.Logic.{⊎_elim}
+use borrow.Author.Rules.{rules}
+use lib.ListN.{length, drop, set, length-set}
+use lib.Seq.{set_out}
+use Rattle.laws.proofs.Tests.{false_of_not, true_of_not}
+use Rattle.station.specs.Limits.{most_jobs}
+use Rattle.station.specs.Form.{read_jobs}
+use Rattle.station.specs.method.Bracket.{jobs_read}
+use Rattle.station.proofs.brackets.OneBracket.{next_inside, first_small, second_small}
+use Rattle.station.proofs.brackets.JobList.{counted, counted_start, read_none, read_last, read_next}
+use Rattle.station.proofs.brackets.jobs_at.Given as goal
+
+abbrev pub invariant-loop-jobs : goal.invariant-loop-jobs
+invariant-loop-jobs l = (l.count ≤ l.i) × (length l.jobs ≡ most_jobs) × (counted l.count l.fit l.jobs (read_jobs (drop l.i l.text)) ≡ jobs_read (read_jobs (drop l.at l.text)))
+
+abbrev pub decreases-loop-jobs : goal.decreases-loop-jobs
+decreases-loop-jobs l = length l.text - l.i

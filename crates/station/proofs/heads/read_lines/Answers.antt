@@ -1,0 +1,48 @@
+-- `read_lines` meets its contract. The invariant is `AtLine`: the lines that are left, read from the state on, are the reading of the text. The
+-- measure is what is left of the text.
+-- Assumes nothing.
+use Prim.Native.Nat.{◌-◌}
+use native.Mathlib.Omega.{arith}
+use mathlib.Core.Path.{sym, ◌∙◌, subst}
+use lib.ListN.{length}
+use borrow.Author.Rules.{rules}
+use Rattle.station.specs.declared.heads.steps.State.{State}
+use Rattle.station.proofs.heads.LineLoop.{AtLine, at_start, LineRead, line_inside, line_bytes, at_next, out_ends, out_fails, out_whole, out_empty}
+use Rattle.station.proofs.heads.read_lines.Goals as goal
+
+pub loop-at-init : goal.loop-at-init
+loop-at-init c = subst (λ (x : State). AtLine c.args.text.now c.args.presets x 0 0) (sym c.no_state-state.ensures)
+    (at_start c.args.text.now c.args.presets c.requires (omega (arith, c.well_formed.1.1.0)))
+
+-- the line that was read, and its step
+line_read : (c : goal.After-read_step-step)
+    → LineRead c.args.text.now c.args.presets c.loop-at.state c.loop-at.at c.loop-at.n
+    c.line_at_lem.result.now c.Read-step.result
+line_read c = record { here = c.loop-at.invariant; within = c.loop-at-test.true; line = c.line_at_lem.ensures; step = c.Read-step.ensures }
+
+pub returns-in-Ends : goal.returns-in-Ends
+returns-in-Ends c = c.accept.ensures ∙ out_ends c.args.head (line_read c) c.in-Ends.is
+
+pub overflow_add-n : goal.overflow_add-n
+overflow_add-n c = let a = line_read c in omega (arith, a.here.few, a.within)
+
+pub returns-in-Fails : goal.returns-in-Fails
+returns-in-Fails c = c.refuse.ensures ∙ out_fails c.args.head (line_read c) c.in-Fails.is
+
+pub overflow_add-at : goal.overflow_add-at
+overflow_add-at c = omega (arith, line_inside (line_read c), c.well_formed.0)
+
+pub overflow_add-n-in-loop-at : goal.overflow_add-n-in-loop-at
+overflow_add-n-in-loop-at c = let a = line_read c in omega (arith, a.here.few, a.within)
+
+pub loop-at-smaller : goal.loop-at-smaller
+loop-at-smaller c = let a = line_read c in omega (arith, line_bytes a, a.within)
+
+pub loop-at-preserved : goal.loop-at-preserved
+loop-at-preserved c = at_next (line_read c) c.in-Goes.is
+
+pub returns-then-has_begun : goal.returns-then-has_begun
+returns-then-has_begun c = c.accept-then-has_begun.ensures ∙ out_whole c.args.head c.loop-at.invariant c.loop-at-test.false (sym c.has_begun.ensures ∙ c.if-has_begun.true)
+
+pub returns : goal.returns
+returns c = c.refuse-2.ensures ∙ out_empty c.args.head c.loop-at.invariant c.loop-at-test.false (sym c.has_begun.ensures ∙ c.if-has_begun.false)

@@ -1,0 +1,57 @@
+-- `preset_step` meets its contract: a law for each return.
+-- Assumes nothing.
+use Prim.Native.Nat.{◌+◌}
+use native.Mathlib.Omega.{arith}
+use mathlib.Core.Path.{◌≡◌, sym, ◌∙◌, ap}
+use mathlib.Core.Bool.{false, not}
+use mathlib.Core.List.{List, map}
+use lib.ListN.{set, take}
+use borrow.Author.Rules.{rules}
+use Rattle.laws.proofs.Tests.{true_of_not}
+use Rattle.station.specs.Head as meant
+use Rattle.station.specs.Head.{preset_of, preset_in_limits, has_number}
+use Rattle.station.specs.Types.{preset_in, with_count}
+use Rattle.station.specs.declared.types.Preset.{Preset}
+use Rattle.station.specs.declared.heads.steps.Stage.TheVariants.{Presets}
+use Rattle.station.specs.declared.heads.steps.Verdict.TheVariants.{Goes}
+use Rattle.station.proofs.heads.OneLine.{preset_refused, preset_used, preset_many, preset_goes}
+use Rattle.station.proofs.heads.steps.preset_step.Goals as goal
+
+-- the preset of the line
+abbrev line_of : goal.Start → meant.Preset
+line_of c = preset_of c.args.number c.args.priority c.args.mandatory c.args.optional
+
+pub returns-then-not-preset_in_limits : goal.returns-then-not-preset_in_limits
+returns-then-not-preset_in_limits c = c.stop.ensures ∙ preset_refused c.args.state (line_of c) (sym (ap not c.preset_in_limits.ensures) ∙ c.if-not-preset_in_limits.true)
+
+-- after the first test: the line is within its limits
+fits : (c : goal.Else-not-preset_in_limits) → not (preset_in_limits (line_of c)) ≡ false
+fits c = sym (ap not c.preset_in_limits.ensures) ∙ c.if-not-preset_in_limits.false
+
+pub returns-then-number_used : goal.returns-then-number_used
+returns-then-number_used c = c.stop-then-number_used.ensures ∙ preset_used c.args.state (line_of c) (fits c) (sym c.number_used.ensures ∙ c.if-number_used.true)
+
+-- after the second: its number is not used
+unused : (c : goal.Else-number_used) → has_number c.args.number (map preset_in (take c.args.state.head.count c.args.state.presets)) ≡ false
+unused c = sym c.number_used.ensures ∙ c.if-number_used.false
+
+pub returns-then-count-ge-MOST_PRESETS : goal.returns-then-count-ge-MOST_PRESETS
+returns-then-count-ge-MOST_PRESETS c = c.stop-then-count-ge-MOST_PRESETS.ensures ∙ preset_many c.args.state (line_of c) (fits c) (unused c) (omega arith)
+
+pub record_of-line-requires : goal.record_of-line-requires
+record_of-line-requires c = true_of_not (preset_in_limits (line_of c)) (fits c)
+
+pub returns : goal.returns
+returns c = let h = c.args.state.head in
+    ap
+    (λ (l : List Preset). record {
+      verdict = Goes;
+      state =
+          record {
+            stage = Presets;
+            head = with_count h (h.count + 1);
+            presets = l;
+          };
+    })
+    (c.with_record-records.ensures ∙ ap (set c.args.state.presets h.count) c.record_of-line.ensures)
+    ∙ preset_goes c.args.state (line_of c) (fits c) (unused c) (omega arith)

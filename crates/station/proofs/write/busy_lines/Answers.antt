@@ -1,0 +1,61 @@
+-- `write::busy_lines` meets its contract. The invariant: the lines of the bridges from b on are left. Assumes nothing.
+use Prim.Native.Nat.{suc, ◌-◌, ◌≤◌, ◌<◌}
+use native.Mathlib.Numerals.{add-one}
+use native.Mathlib.Omega.{arith}
+use mathlib.Core.Path.{◌≡◌}
+use mathlib.Core.List.{map}
+use lib.ListN.{length, drop, get_or}
+use lib.Seq.{drop-length}
+use Rattle.station.specs.Text.{join}
+use Rattle.station.specs.Form.{print}
+use Rattle.station.specs.Writing.{busy_lines, busy_line_of, stretches}
+use Rattle.station.specs.Wrote.{Left}
+use Rattle.station.proofs.output.Runs.{left_all, left_wrote, left_none}
+use Rattle.station.proofs.write.HeadLines.{busy_lines_step}
+use borrow.Author.Rules.{rules}
+use Rattle.station.proofs.write.busy_lines.Goals as goal
+
+pub loop-b-init : goal.loop-b-init
+loop-b-init c = let a = c.args in (omega arith, left_all a.out.now a.at (join (map print (busy_lines 1 a.busy))))
+
+pub overflow_add-b : goal.overflow_add-b
+overflow_add-b c = omega arith
+
+pub overflow_cast-b : goal.overflow_cast-b
+overflow_cast-b c = omega arith
+
+pub offset_bounds-busy-b : goal.offset_bounds-busy-b
+offset_bounds-busy-b c = omega arith
+
+pub bounds-busy-b : goal.bounds-busy-b
+bounds-busy-b c = omega arith
+
+pub overflow_add-b-in-loop-b : goal.overflow_add-b-in-loop-b
+overflow_add-b-in-loop-b c = omega arith
+
+pub loop-b-smaller : goal.loop-b-smaller
+loop-b-smaller c = omega arith
+
+pub loop-b-preserved : goal.loop-b-preserved
+unfolding busy_lines
+loop-b-preserved c = let loop = c.loop-b in
+    let b = loop.b in
+    let busy = c.args.busy in
+    let n : length busy ≡ 8 = omega arith in
+    let h : b < length busy = omega arith in (
+      omega arith,
+      rw add-one
+          (left_wrote (join (map print (busy_line_of (suc b) (stretches 64 1 (get_or busy b 0))))) (join (map print (busy_lines (suc (suc b)) (drop (suc b) busy))))
+          (rw (busy_lines_step b busy h) at loop.invariant.1) (rw add-one at c.busy_line-position.ensures)),
+    )
+
+pub shape_of-out : goal.shape_of-out
+shape_of-out c = c.loop-b.invariant.1.size
+
+pub returns : goal.returns
+unfolding busy_lines
+returns c = let loop = c.loop-b in
+    let busy = c.args.busy in
+    let n : length busy ≡ 8 = omega arith in
+    let e : loop.b ≡ length busy = omega arith in
+    left_none (rw (e, drop-length busy) at loop.invariant.1)

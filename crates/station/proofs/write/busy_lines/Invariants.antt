@@ -1,0 +1,22 @@
+-- `write::busy_lines` meets its contract. The invariant: the lines of the bridges from b on are left. Assumes nothing.
+use Prim.Native.Nat.{suc, ◌-◌, ◌≤◌, ◌<◌}
+use native.Mathlib.Numerals.{add-one}
+use native.Mathlib.Omega.{arith}
+use mathlib.Core.Path.{◌≡◌}
+use mathlib.Core.List.{map}
+use lib.ListN.{length, drop, get_or}
+use lib.Seq.{drop-length}
+use Rattle.station.specs.Text.{join}
+use Rattle.station.specs.Form.{print}
+use Rattle.station.specs.Writing.{busy_lines, busy_line_of, stretches}
+use Rattle.station.specs.Wrote.{Left}
+use Rattle.station.proofs.output.Runs.{left_all, left_wrote, left_none}
+use Rattle.station.proofs.write.HeadLines.{busy_lines_step}
+use borrow.Author.Rules.{rules}
+use Rattle.station.proofs.write.busy_lines.Given as goal
+
+abbrev pub invariant-loop-b : goal.invariant-loop-b
+invariant-loop-b l = (l.b ≤ 8) × Left l.initial.out l.at (join (map print (busy_lines 1 l.busy))) l.out l.position (join (map print (busy_lines (suc l.b) (drop l.b l.busy))))
+
+abbrev pub decreases-loop-b : goal.decreases-loop-b
+decreases-loop-b l = 8 - l.b

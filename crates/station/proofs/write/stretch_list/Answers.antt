@@ -1,0 +1,66 @@
+-- `write::stretch_list` meets its contract. The invariant: `from` is busy or past the end, and the brackets of the slots from there on are left. Assumes nothing.
+use Prim.Native.Nat.{suc, ◌-◌, ◌≤◌, ◌<◌}
+use native.Mathlib.Nat.{div-one}
+use native.Mathlib.Numerals.{add-one}
+use native.Mathlib.Omega.{arith}
+use mathlib.Core.Path.{◌≡◌, refl, sym, ap}
+use mathlib.Core.Bool.{true}
+use lib.Dec.{ltb}
+use Rattle.station.specs.Head.{has_bit}
+use Rattle.station.specs.Writing.{stretches}
+use Rattle.station.specs.method.Runs.{stretches_from, brackets_of, bracket_text}
+use Rattle.station.specs.Wrote.{Left}
+use Rattle.station.proofs.write.MaskRuns.{busy_found, busy_high, free_high, from_next_busy, NextRun, next_run, bracket_step}
+use Rattle.station.proofs.output.Runs.{left_all, left_wrote, left_none}
+use borrow.Author.Rules.{rules}
+use Rattle.station.proofs.write.stretch_list.Goals as goal
+
+pub loop-from-init : goal.loop-from-init
+loop-from-init c = let a = c.args in
+    let mask = a.mask in
+    let e = c.next_busy-from.ensures in
+    let all : stretches 64 1 mask ≡ stretches_from 64 mask 0 = ap (stretches 64 1) (sym (div-one mask)) in (
+      rw e (busy_high 64 mask 0),
+      (λ h. rw e (busy_found 64 mask 0 (rw e at h))),
+      rw (e, ← from_next_busy 64 mask 0 64 refl, ← all) (left_all a.out.now a.at (brackets_of (stretches 64 1 mask))),
+    )
+
+pub overflow_add-from : goal.overflow_add-from
+overflow_add-from c = omega arith
+
+pub overflow_cast-from : goal.overflow_cast-from
+overflow_cast-from c = omega arith
+
+pub overflow_cast-to : goal.overflow_cast-to
+overflow_cast-to c = omega (arith, c.next_free-to.ensures, free_high (64 - c.loop-from.from) c.args.mask c.loop-from.from)
+
+-- after a turn: where the next run begins
+ahead : (c : goal.After-slice_known-in-loop-from-1) → NextRun c.args.mask c.loop-from.from c.next_busy-next.result
+ahead c =
+    let h = c.loop-from-test.true in
+    next_run c.args.mask c.loop-from.from c.next_free-to.result c.next_busy-next.result h (c.loop-from.invariant.1 h)
+    c.next_free-to.ensures c.next_busy-next.ensures
+
+pub loop-from-smaller : goal.loop-from-smaller
+loop-from-smaller c = omega (arith, (ahead c).later)
+
+pub loop-from-preserved : goal.loop-from-preserved
+loop-from-preserved c = let loop = c.loop-from in
+    let mask = c.args.mask in
+    let to = c.next_free-to in
+    let next = c.next_busy-next in
+    let step = bracket_step mask loop.from to.result next.result c.loop-from-test.true (loop.invariant.1 c.loop-from-test.true) to.ensures next.ensures in (
+      (ahead c).high,
+      (ahead c).found,
+      left_wrote (bracket_text (suc loop.from) to.result (ltb next.result 64)) (brackets_of (stretches_from (64 - next.result) mask next.result))
+          (rw step at loop.invariant.2) (rw add-one at c.bracket-position.ensures),
+    )
+
+pub shape_of-out : goal.shape_of-out
+shape_of-out c = c.loop-from.invariant.2.size
+
+pub returns : goal.returns
+unfolding stretches
+returns c = let loop = c.loop-from in
+    let e : 64 - loop.from ≡ 0 = omega arith in
+    left_none (rw e at loop.invariant.2)

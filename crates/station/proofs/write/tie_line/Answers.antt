@@ -1,0 +1,14 @@
+-- `write::tie_line` meets its contract. Assumes nothing.
+use Rattle.station.specs.Form.{print}
+use Rattle.station.specs.Text.{bytes}
+use Rattle.station.proofs.output.Runs.{wrote_none}
+use borrow.Author.Rules.{rules}
+use Rattle.station.proofs.write.tie_line.Goals as goal
+
+pub returns-then-hold : goal.returns-then-hold
+unfolding print bytes
+returns-then-hold c = rw c.if-hold.true c.word.ensures
+
+pub returns : goal.returns
+returns c = let a = c.args in
+    rw c.if-hold.false (wrote_none a.out.now a.at)
