@@ -97,7 +97,7 @@ pub data Never (r : Refusal) : List (Option Refusal) → Type 0 where
   skip : (c : Refusal) (b : Bool) {cs : List (Option Refusal)} → (number_of c ≡ number_of r → ⊥) → Never r cs → Never r (try c b ∷ cs)
 
 -- r comes exactly if none of the causes before holds and its own does
-pub last_cause : {cs : List (Option Refusal)} (r : Refusal) (b : Bool) → Never r cs → first_of (cs ++ (try r b ∷ [])) ≡ some r
+pub last_cause : (r : Refusal) {cs : List (Option Refusal)} (b : Bool) → Never r cs → first_of (cs ++ (try r b ∷ [])) ≡ some r
     → (first_of cs ≡ none) × (b ≡ true)
 unfolding first_of
 last_cause r b end e = go (first_some r b [] e)
@@ -117,7 +117,7 @@ unfolding first_of
 cause_last cs r b e p = append_none cs (try r b ∷ []) e ∙ (rw p refl)
 
 -- what is never given is not the first of the causes
-pub never_first : {cs : List (Option Refusal)} {r : Refusal} → Never r cs → first_of cs ≡ some r → ⊥
+pub never_first : {r : Refusal} {cs : List (Option Refusal)} → Never r cs → first_of cs ≡ some r → ⊥
 unfolding first_of
 never_first {r = r} end e = none_some e
 never_first {r = r} (skip c b {cs = cs} ne n) e = go (λ q. never_first n q) (first_some c b cs e)

@@ -61,6 +61,13 @@ returns-then-not-starts_at-2 c = let w = c.starts_at in
     (sym c.closes_at.ensures ∙ c.if-closes_at.false)
     c.no_bracket-then-not-starts_at-2.result c.no_bracket-then-not-starts_at-2.ensures (sym u.ensures ∙ c.if-not-starts_at-2.true)
 
+pub overflow_add-result : goal.overflow_add-result
+unfolding bytes
+overflow_add-result c = let b = c.number_at-second in
+    let u = c.starts_at-2 in
+    let e = word_inside (bytes ") ") c.args.text.now b.result.next (sym u.ensures ∙ c.if-not-starts_at-2.false) (omega arith) in
+    omega (arith, c.well_formed)
+
 pub returns : goal.returns
 unfolding bytes
 returns c = let w = c.starts_at in

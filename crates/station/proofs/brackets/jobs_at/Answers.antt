@@ -4,7 +4,6 @@
 use Prim.Native.Nat.{◌-◌, ◌≤◌}
 use native.Mathlib.Omega.{arith}
 use mathlib.Core.Path.{◌≡◌, refl, sym, ◌∙◌}
-use mathlib.Core.Logic.{⊎_elim}
 use borrow.Author.Rules.{rules}
 use lib.ListN.{length, drop, set, length-set}
 use lib.Seq.{set_out}
@@ -14,6 +13,7 @@ use Rattle.station.specs.Form.{read_jobs}
 use Rattle.station.specs.method.Bracket.{jobs_read}
 use Rattle.station.proofs.brackets.OneBracket.{next_inside, first_small, second_small}
 use Rattle.station.proofs.brackets.JobList.{counted, counted_start, read_none, read_last, read_next}
+use Rattle.station.proofs.brackets.jobs_at.Goals.{then-count-lt-MOST_JOBS, else-count-lt-MOST_JOBS}
 use Rattle.station.proofs.brackets.jobs_at.Goals as goal
 
 pub loop-jobs-init : goal.loop-jobs-init
@@ -51,7 +51,10 @@ returns-then-b c = let b = c.bracket_at-b in
     let l = c.loop-jobs in
     let y = true_of_not b.result.found c.if-not-b.false in
     let kept : c.if-count-lt-MOST_JOBS.jobs ≡ set l.jobs l.count (record { number = b.result.first; slots = b.result.second }) =
-    ⊎_elim (λ w. w.1) (λ w. let left = w.0 in w.1 ∙ sym (set_out l.jobs l.count _ (omega arith))) c.if-count-lt-MOST_JOBS.branch in
+    elim c.if-count-lt-MOST_JOBS.branch [
+      then-count-lt-MOST_JOBS w ↦ w.jobs-is
+      | else-count-lt-MOST_JOBS w ↦ let left = w.if-count-lt-MOST_JOBS.false in w.jobs-is ∙ sym (set_out l.jobs l.count _ (omega arith))
+    ] in
     rw (c.seen_count.ensures, kept, c.job_in_limits-fit.ensures)
     (read_last l.count l.fit l.jobs b.ensures y c.if-b.true ∙ l.invariant.2)
 
@@ -65,7 +68,10 @@ loop-jobs-preserved c = let b = c.bracket_at-b in
     let l = c.loop-jobs in
     let y = true_of_not b.result.found c.if-not-b.false in
     let kept : c.if-count-lt-MOST_JOBS.jobs ≡ set l.jobs l.count (record { number = b.result.first; slots = b.result.second }) =
-    ⊎_elim (λ w. w.1) (λ w. let left = w.0 in w.1 ∙ sym (set_out l.jobs l.count _ (omega arith))) c.if-count-lt-MOST_JOBS.branch in
+    elim c.if-count-lt-MOST_JOBS.branch [
+      then-count-lt-MOST_JOBS w ↦ w.jobs-is
+      | else-count-lt-MOST_JOBS w ↦ let left = w.if-count-lt-MOST_JOBS.false in w.jobs-is ∙ sym (set_out l.jobs l.count _ (omega arith))
+    ] in
     let h = next_inside b.ensures y in
     rw (kept, c.job_in_limits-fit.ensures) (
       omega arith,

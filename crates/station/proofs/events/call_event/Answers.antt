@@ -13,8 +13,8 @@ returns-then-n-gt-MOST_JOBS c = rw (leb_no c.args.list.count most_jobs (omega ar
 
 pub returns-then-not-list : goal.returns-then-not-list
 returns-then-not-list c = let l = c.args.list in
-    rw (leb_yes l.count most_jobs (omega arith), c.if-not-list.true) c.refused-then-not-list.ensures
+    rw (leb_yes l.count most_jobs (omega arith), false_of_not l.fit c.if-not-list.true) c.refused-then-not-list.ensures
 
 pub returns : goal.returns
 returns c = let l = c.args.list in
-    rw (leb_yes l.count most_jobs (omega arith), c.if-not-list.false) refl
+    rw (leb_yes l.count most_jobs (omega arith), true_of_not l.fit c.if-not-list.false) refl

@@ -14,32 +14,47 @@ pub loop-at-init : goal.loop-at-init
 loop-at-init c = subst (λ (x : State). AtLine c.args.text.now c.args.presets x 0 0) (sym c.no_state-state.ensures)
     (at_start c.args.text.now c.args.presets c.requires (omega (arith, c.well_formed.1.1.0)))
 
--- the line that was read, and its step
-line_read : (c : goal.After-read_step-step)
-    → LineRead c.args.text.now c.args.presets c.loop-at.state c.loop-at.at c.loop-at.n
-    c.line_at_lem.result.now c.Read-step.result
-line_read c = record { here = c.loop-at.invariant; within = c.loop-at-test.true; line = c.line_at_lem.ensures; step = c.Read-step.ensures }
-
 pub returns-in-Ends : goal.returns-in-Ends
-returns-in-Ends c = c.accept.ensures ∙ out_ends c.args.head (line_read c) c.in-Ends.is
+returns-in-Ends c =
+    let a : LineRead c.args.text.now c.args.presets c.loop-at.state c.loop-at.at c.loop-at.n c.line_at-line.result.now c.read_step-step.result =
+    record { here = c.loop-at.invariant; within = c.loop-at-test.true; line = c.line_at-line.ensures; step = c.read_step-step.ensures } in
+    c.accept.ensures ∙ out_ends c.args.head a c.in-Ends.is
 
 pub overflow_add-n : goal.overflow_add-n
-overflow_add-n c = let a = line_read c in omega (arith, a.here.few, a.within)
+overflow_add-n c =
+    let a : LineRead c.args.text.now c.args.presets c.loop-at.state c.loop-at.at c.loop-at.n c.line_at-line.result.now c.read_step-step.result =
+    record { here = c.loop-at.invariant; within = c.loop-at-test.true; line = c.line_at-line.ensures; step = c.read_step-step.ensures } in
+    omega (arith, a.here.few, a.within)
 
 pub returns-in-Fails : goal.returns-in-Fails
-returns-in-Fails c = c.refuse.ensures ∙ out_fails c.args.head (line_read c) c.in-Fails.is
+returns-in-Fails c =
+    let a : LineRead c.args.text.now c.args.presets c.loop-at.state c.loop-at.at c.loop-at.n c.line_at-line.result.now c.read_step-step.result =
+    record { here = c.loop-at.invariant; within = c.loop-at-test.true; line = c.line_at-line.ensures; step = c.read_step-step.ensures } in
+    c.refuse.ensures ∙ out_fails c.args.head a c.in-Fails.is
 
 pub overflow_add-at : goal.overflow_add-at
-overflow_add-at c = omega (arith, line_inside (line_read c), c.well_formed.0)
+overflow_add-at c =
+    let a : LineRead c.args.text.now c.args.presets c.loop-at.state c.loop-at.at c.loop-at.n c.line_at-line.result.now c.read_step-step.result =
+    record { here = c.loop-at.invariant; within = c.loop-at-test.true; line = c.line_at-line.ensures; step = c.read_step-step.ensures } in
+    omega (arith, line_inside a, c.well_formed.0)
 
 pub overflow_add-n-in-loop-at : goal.overflow_add-n-in-loop-at
-overflow_add-n-in-loop-at c = let a = line_read c in omega (arith, a.here.few, a.within)
+overflow_add-n-in-loop-at c =
+    let a : LineRead c.args.text.now c.args.presets c.loop-at.state c.loop-at.at c.loop-at.n c.line_at-line.result.now c.read_step-step.result =
+    record { here = c.loop-at.invariant; within = c.loop-at-test.true; line = c.line_at-line.ensures; step = c.read_step-step.ensures } in
+    omega (arith, a.here.few, a.within)
 
 pub loop-at-smaller : goal.loop-at-smaller
-loop-at-smaller c = let a = line_read c in omega (arith, line_bytes a, a.within)
+loop-at-smaller c =
+    let a : LineRead c.args.text.now c.args.presets c.loop-at.state c.loop-at.at c.loop-at.n c.line_at-line.result.now c.read_step-step.result =
+    record { here = c.loop-at.invariant; within = c.loop-at-test.true; line = c.line_at-line.ensures; step = c.read_step-step.ensures } in
+    omega (arith, line_bytes a, a.within)
 
 pub loop-at-preserved : goal.loop-at-preserved
-loop-at-preserved c = at_next (line_read c) c.in-Goes.is
+loop-at-preserved c =
+    let a : LineRead c.args.text.now c.args.presets c.loop-at.state c.loop-at.at c.loop-at.n c.line_at-line.result.now c.read_step-step.result =
+    record { here = c.loop-at.invariant; within = c.loop-at-test.true; line = c.line_at-line.ensures; step = c.read_step-step.ensures } in
+    at_next a c.in-Goes.is
 
 pub returns-then-has_begun : goal.returns-then-has_begun
 returns-then-has_begun c = c.accept-then-has_begun.ensures ∙ out_whole c.args.head c.loop-at.invariant c.loop-at-test.false (sym c.has_begun.ensures ∙ c.if-has_begun.true)

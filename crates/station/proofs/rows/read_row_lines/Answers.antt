@@ -15,63 +15,93 @@ use Rattle.station.proofs.rows.read_row_lines.Goals as goal
 pub loop-at-init : goal.loop-at-init
 loop-at-init c = rows_start c.args.text.now c.args.head
 
--- what was read of a row
-row_read : (c : goal.After-row_at-fields)
-    → RowRead c.args.text.now c.args.head c.loop-at.busy c.loop-at.at c.loop-at.n
-    c.row_at-fields.result
-row_read c = record { here = c.loop-at.invariant; within = c.loop-at-test.true; fields = c.row_at-fields.ensures }
-
 pub overflow_add-n : goal.overflow_add-n
-overflow_add-n c = let a = row_read c in omega (arith, a.here.few, a.within)
+overflow_add-n c =
+    let a : RowRead c.args.text.now c.args.head c.loop-at.busy c.loop-at.at c.loop-at.n c.row_at-fields.result =
+    record { here = c.loop-at.invariant; within = c.loop-at-test.true; fields = c.row_at-fields.ensures } in
+    omega (arith, a.here.few, a.within)
 
 pub returns-then-not-fields : goal.returns-then-not-fields
-returns-then-not-fields c = λ ps.
-    c.refuse.ensures ∙ out_no_row (row_read c) (false_of_not c.row_at-fields.result.found c.if-not-fields.true) ps
+returns-then-not-fields c =
+    let a : RowRead c.args.text.now c.args.head c.loop-at.busy c.loop-at.at c.loop-at.n c.row_at-fields.result =
+    record { here = c.loop-at.invariant; within = c.loop-at-test.true; fields = c.row_at-fields.ensures } in
+    λ ps. c.refuse.ensures ∙ out_no_row a (false_of_not c.row_at-fields.result.found c.if-not-fields.true) ps
 
 pub overflow_add-n-then-not-row_in : goal.overflow_add-n-then-not-row_in
-overflow_add-n-then-not-row_in c = let a = row_read c in omega (arith, a.here.few, a.within)
+overflow_add-n-then-not-row_in c =
+    let a : RowRead c.args.text.now c.args.head c.loop-at.busy c.loop-at.at c.loop-at.n c.row_at-fields.result =
+    record { here = c.loop-at.invariant; within = c.loop-at-test.true; fields = c.row_at-fields.ensures } in
+    omega (arith, a.here.few, a.within)
 
 pub returns-then-not-row_in : goal.returns-then-not-row_in
-returns-then-not-row_in c = λ ps.
-    c.refuse-then-not-row_in.ensures
-    ∙ out_outside (row_read c) c.requires.1 c.requires.2 (true_of_not c.row_at-fields.result.found c.if-not-fields.false)
+returns-then-not-row_in c =
+    let a : RowRead c.args.text.now c.args.head c.loop-at.busy c.loop-at.at c.loop-at.n c.row_at-fields.result =
+    record { here = c.loop-at.invariant; within = c.loop-at-test.true; fields = c.row_at-fields.ensures } in
+    λ ps. c.refuse-then-not-row_in.ensures
+    ∙ out_outside a c.requires.1 c.requires.2 (true_of_not c.row_at-fields.result.found c.if-not-fields.false)
     (sym c.row_in.ensures ∙ c.if-not-row_in.true) ps
 
--- the row lies in the widest frame
-fits : (c : goal.Else-not-row_in) → RowIn 64 8 (row_is c.row_at-fields.result)
-fits c =
-    row_fits (row_read c) c.requires.1 c.requires.2 (true_of_not c.row_at-fields.result.found c.if-not-fields.false)
-    (sym c.row_in.ensures ∙ c.if-not-row_in.false)
-
 pub overflow_sub-bridge : goal.overflow_sub-bridge
-overflow_sub-bridge c = (fits c).bridge_low
+overflow_sub-bridge c =
+    let a : RowRead c.args.text.now c.args.head c.loop-at.busy c.loop-at.at c.loop-at.n c.row_at-fields.result =
+    record { here = c.loop-at.invariant; within = c.loop-at-test.true; fields = c.row_at-fields.ensures } in
+    let f = row_fits a c.requires.1 c.requires.2 (true_of_not c.row_at-fields.result.found c.if-not-fields.false) (sym c.row_in.ensures ∙ c.if-not-row_in.false) in
+    f.bridge_low
 
 pub offset_bounds-busy-bridge : goal.offset_bounds-busy-bridge
-offset_bounds-busy-bridge c = omega (arith, (fits c).bridge_low, (fits c).bridge_high)
+offset_bounds-busy-bridge c =
+    let a : RowRead c.args.text.now c.args.head c.loop-at.busy c.loop-at.at c.loop-at.n c.row_at-fields.result =
+    record { here = c.loop-at.invariant; within = c.loop-at-test.true; fields = c.row_at-fields.ensures } in
+    let f = row_fits a c.requires.1 c.requires.2 (true_of_not c.row_at-fields.result.found c.if-not-fields.false) (sym c.row_in.ensures ∙ c.if-not-row_in.false) in
+    omega (arith, f.bridge_low, f.bridge_high)
 
 pub bounds-busy-bridge : goal.bounds-busy-bridge
-bounds-busy-bridge c = omega (arith, (fits c).bridge_low, (fits c).bridge_high)
+bounds-busy-bridge c =
+    let a : RowRead c.args.text.now c.args.head c.loop-at.busy c.loop-at.at c.loop-at.n c.row_at-fields.result =
+    record { here = c.loop-at.invariant; within = c.loop-at-test.true; fields = c.row_at-fields.ensures } in
+    let f = row_fits a c.requires.1 c.requires.2 (true_of_not c.row_at-fields.result.found c.if-not-fields.false) (sym c.row_in.ensures ∙ c.if-not-row_in.false) in
+    omega (arith, f.bridge_low, f.bridge_high)
 
 pub stretch_mask-requires : goal.stretch_mask-requires
-stretch_mask-requires c = let f = fits c in (f.first_low, f.up, f.last_high)
+stretch_mask-requires c =
+    let a : RowRead c.args.text.now c.args.head c.loop-at.busy c.loop-at.at c.loop-at.n c.row_at-fields.result =
+    record { here = c.loop-at.invariant; within = c.loop-at-test.true; fields = c.row_at-fields.ensures } in
+    let f = row_fits a c.requires.1 c.requires.2 (true_of_not c.row_at-fields.result.found c.if-not-fields.false) (sym c.row_in.ensures ∙ c.if-not-row_in.false) in
+    (f.first_low, f.up, f.last_high)
 
 pub offset_bounds-busy-bridge-in-loop-at : goal.offset_bounds-busy-bridge-in-loop-at
-offset_bounds-busy-bridge-in-loop-at c = omega (arith, (fits c).bridge_low, (fits c).bridge_high)
+offset_bounds-busy-bridge-in-loop-at c =
+    let a : RowRead c.args.text.now c.args.head c.loop-at.busy c.loop-at.at c.loop-at.n c.row_at-fields.result =
+    record { here = c.loop-at.invariant; within = c.loop-at-test.true; fields = c.row_at-fields.ensures } in
+    let f = row_fits a c.requires.1 c.requires.2 (true_of_not c.row_at-fields.result.found c.if-not-fields.false) (sym c.row_in.ensures ∙ c.if-not-row_in.false) in
+    omega (arith, f.bridge_low, f.bridge_high)
 
 pub bounds-busy-bridge-in-loop-at : goal.bounds-busy-bridge-in-loop-at
-bounds-busy-bridge-in-loop-at c = omega (arith, (fits c).bridge_low, (fits c).bridge_high)
+bounds-busy-bridge-in-loop-at c =
+    let a : RowRead c.args.text.now c.args.head c.loop-at.busy c.loop-at.at c.loop-at.n c.row_at-fields.result =
+    record { here = c.loop-at.invariant; within = c.loop-at-test.true; fields = c.row_at-fields.ensures } in
+    let f = row_fits a c.requires.1 c.requires.2 (true_of_not c.row_at-fields.result.found c.if-not-fields.false) (sym c.row_in.ensures ∙ c.if-not-row_in.false) in
+    omega (arith, f.bridge_low, f.bridge_high)
 
 pub overflow_add-n-in-loop-at : goal.overflow_add-n-in-loop-at
-overflow_add-n-in-loop-at c = let a = row_read c in omega (arith, a.here.few, a.within)
+overflow_add-n-in-loop-at c =
+    let a : RowRead c.args.text.now c.args.head c.loop-at.busy c.loop-at.at c.loop-at.n c.row_at-fields.result =
+    record { here = c.loop-at.invariant; within = c.loop-at-test.true; fields = c.row_at-fields.ensures } in
+    omega (arith, a.here.few, a.within)
 
 pub loop-at-smaller : goal.loop-at-smaller
-loop-at-smaller c = let a = row_read c in
+loop-at-smaller c =
+    let a : RowRead c.args.text.now c.args.head c.loop-at.busy c.loop-at.at c.loop-at.n c.row_at-fields.result =
+    record { here = c.loop-at.invariant; within = c.loop-at-test.true; fields = c.row_at-fields.ensures } in
     omega (arith, row_further a (true_of_not c.row_at-fields.result.found c.if-not-fields.false), a.within)
 
 pub loop-at-preserved : goal.loop-at-preserved
 unfolding with_row
-loop-at-preserved c = rw c.stretch_mask.ensures
-    (rows_next (row_read c) c.requires.1 c.requires.2 (true_of_not c.row_at-fields.result.found c.if-not-fields.false)
+loop-at-preserved c =
+    let a : RowRead c.args.text.now c.args.head c.loop-at.busy c.loop-at.at c.loop-at.n c.row_at-fields.result =
+    record { here = c.loop-at.invariant; within = c.loop-at-test.true; fields = c.row_at-fields.ensures } in
+    rw c.stretch_mask.ensures
+    (rows_next a c.requires.1 c.requires.2 (true_of_not c.row_at-fields.result.found c.if-not-fields.false)
     (sym c.row_in.ensures ∙ c.if-not-row_in.false))
 
 pub returns : goal.returns

@@ -14,9 +14,9 @@ pub returns-then-not-supply_in_limits : goal.returns-then-not-supply_in_limits
 returns-then-not-supply_in_limits c = let a = c.args in
     c.stop-then-not-supply_in_limits.ensures
     ∙ supply_refused a.state a.motors (sym c.supply_misplaced.ensures ∙ c.if-supply_misplaced.false)
-    (sym (ap not c.supply_in_limits.ensures) ∙ c.if-not-supply_in_limits.true)
+    (sym (ap not c.supply_in_limits.ensures) ∙ ap not c.if-not-supply_in_limits.true)
 
 pub returns : goal.returns
 returns c = let a = c.args in
     supply_goes a.state a.motors (sym c.supply_misplaced.ensures ∙ c.if-supply_misplaced.false)
-    (sym (ap not c.supply_in_limits.ensures) ∙ c.if-not-supply_in_limits.false)
+    (sym (ap not c.supply_in_limits.ensures) ∙ ap not c.if-not-supply_in_limits.false)

@@ -2,14 +2,13 @@
 -- Assumes nothing.
 use mathlib.Core.Path.{sym, ◌∙◌, ap}
 use borrow.Author.Rules.{rules}
-use Rattle.laws.proofs.Tests.{false_of_not, true_of_not}
 use Rattle.station.specs.method.HeadStep.{head_tie_step}
 use Rattle.station.proofs.heads.steps.tie_in_head.Goals as goal
 
 pub returns-then-not-hold : goal.returns-then-not-hold
 returns-then-not-hold c = let a = c.args in
-    c.stop.ensures ∙ ap (head_tie_step a.state) (sym (false_of_not a.hold c.if-not-hold.true))
+    c.stop.ensures ∙ ap (head_tie_step a.state) (sym c.if-not-hold.true)
 
 pub returns : goal.returns
 returns c = let a = c.args in
-    ap (head_tie_step a.state) (sym (true_of_not a.hold c.if-not-hold.false))
+    ap (head_tie_step a.state) (sym c.if-not-hold.false)
