@@ -1,4 +1,4 @@
--- What the layers above cite of this one's laws: nothing else of proofs/ is theirs but Walks.antt, and Examples.antt for texts that compute.
+-- What the layers above cite of this one's laws: nothing else of proofs/ is theirs but Examples.antt, for texts that compute.
 -- Assumes nothing.
 
 -- the causes: their numbers, and the first that holds
