@@ -20,4 +20,4 @@ pub returns : goal.returns
 returns c = let a = c.args in
     rw (head_text (head_in a.head a.presets))
     (wrote_then c.frame_line-supply.ensures
-    (wrote_then c.supply_line-goal.ensures (wrote_then c.tie_line-first_busy.ensures (wrote_then c.busy_lines-first_preset.ensures c.preset_lines.ensures))))
+    (wrote_then c.supply_line-tie.ensures (wrote_then c.tie_line-first_busy.ensures (wrote_then c.busy_lines-first_preset.ensures c.preset_lines.ensures))))

@@ -20,5 +20,5 @@ pub returns : goal.returns
 returns c = let a = c.args in
     let v = c.valid_record in
     let t = c.head_text in
-    head_written a.head a.presets a.out.now t.result t.new.1.1.0 c.if-out-lt-LEAST_OUTPUT.false
+    head_written a.head a.presets a.out.now t.result t.new.out c.if-out-lt-LEAST_OUTPUT.false
     (sym v.ensures ∙ c.if-not-valid_record.false) t.ensures

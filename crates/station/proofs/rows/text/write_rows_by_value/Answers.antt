@@ -17,5 +17,5 @@ pub returns : goal.returns
 returns c = let a = c.args in
     let v = c.valid_record in
     let t = c.all_rows in
-    rows_written_lem a.head a.presets a.out.now t.result t.new.0 c.if-out-lt-LEAST_OUTPUT.false
+    rows_written_lem a.head a.presets a.out.now t.result t.new.out c.if-out-lt-LEAST_OUTPUT.false
     (sym v.ensures ∙ c.if-not-valid_record.false) t.ensures
