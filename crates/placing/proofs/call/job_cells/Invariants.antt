@@ -1,0 +1,15 @@
+-- `call::job_cells` meets its contract. The loop's invariant: the records before `i` have theirs. Assumes nothing.
+use Prim.Native.Nat.{◌+◌, ◌-◌, ◌%◌, ◌≤◌}
+use native.Mathlib.Omega.{arith}
+use mathlib.Core.Path.{◌≡◌, refl}
+use lib.ListN.{length, length-set, replicate}
+use Rattle.laws.proofs.Stores.{Stored, stored_none, stored_more}
+use Rattle.placing.specs.method.Jobs.{job_number}
+use Rattle.placing.proofs.call.CallAnswers.{cells_are}
+use Rattle.placing.proofs.call.job_cells.Given as goal
+
+abbrev pub invariant-loop-i : goal.invariant-loop-i
+invariant-loop-i l = (l.i ≤ 8) × (length l.all ≡ 64) × Stored (replicate 64 0) (λ j. 1024 + job_number l.jobs j % 256) 0 l.i l.all
+
+abbrev pub decreases-loop-i : goal.decreases-loop-i
+decreases-loop-i l = 8 - l.i

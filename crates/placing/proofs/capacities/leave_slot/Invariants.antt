@@ -1,0 +1,18 @@
+-- `capacities::leave_slot` meets its contract: one less in the entries passed up to the slot's free bridges. Assumes nothing.
+use Prim.Native.Nat.{◌-◌, ◌≤◌}
+use native.Mathlib.Omega.{arith}
+use mathlib.Core.Path.{◌≡◌, refl, ap}
+use mathlib.Core.Logic.{⊎_elim}
+use lib.ListN.{length, get_or, length-set}
+use lib.Dec.{ltb}
+use borrow.Author.Rules.{rules}
+use Rattle.laws.specs.Sums.{bit}
+use Rattle.laws.proofs.Comparisons.{ltb_yes, ltb_no}
+use Rattle.laws.proofs.Stores.{Stored, stored_none, stored_more, stored_kept}
+use Rattle.placing.proofs.capacities.leave_slot.Given as goal
+
+abbrev pub invariant-loop-r : goal.invariant-loop-r
+invariant-loop-r l = (l.r ≤ 8) × (length l.entries ≡ length l.initial.entries) × (length l.initial.entries ≡ 8 → Stored l.initial.entries (λ q. get_or l.initial.entries q 0 - bit (ltb q l.free)) 0 l.r l.entries)
+
+abbrev pub decreases-loop-r : goal.decreases-loop-r
+decreases-loop-r l = 8 - l.r

@@ -1,0 +1,21 @@
+-- `capacities::slot_counts` meets its contract: the slots passed are filled in and entered. Assumes nothing.
+use Prim.Native.Nat.{ℕ, ◌-◌, ◌≤◌, min}
+use native.Mathlib.Omega.{arith}
+use mathlib.Core.Path.{◌≡◌, sym, ◌∙◌, ap}
+use mathlib.Core.List.{List}
+use lib.ListN.{length, get_or, length-set, replicate}
+use lib.Count.{ones}
+use lib.Dec.{ltb}
+use borrow.Author.Rules.{rules}
+use Rattle.laws.specs.Sums.{only}
+use Rattle.laws.specs.Lists.{at}
+use Rattle.laws.specs.method.Capacities.{AtLeast}
+use Rattle.laws.proofs.Stores.{Stored, stored_none, stored_more, stored_zeros}
+use Rattle.laws.proofs.Capacities.{at_least_none, at_least_le, at_least_on, at_least_ext}
+use Rattle.placing.proofs.capacities.slot_counts.Given as goal
+
+abbrev pub invariant-loop-s : goal.invariant-loop-s
+invariant-loop-s l = (l.s ≤ l.slots) × (length l.out ≡ 64) × Stored (replicate 64 0) (number_at l.masks l.spare) 0 l.s l.out × AtLeast l.entries l.s (number_at l.masks l.spare)
+
+abbrev pub decreases-loop-s : goal.decreases-loop-s
+decreases-loop-s l = l.slots - l.s

@@ -1,0 +1,17 @@
+-- `counts::has_calls` meets its contract. The loop's invariant: the call cells before `b` are counted. Assumes nothing.
+use native.Mathlib.Omega.{arith}
+use Prim.Native.Nat.{ℕ, ◌+◌, ◌-◌, ◌≤◌}
+use mathlib.Core.Path.{◌≡◌, sym, ◌∙◌, ap}
+use lib.ListN.{get_or}
+use lib.Dec.{ltb}
+use Rattle.laws.specs.Sums.{bit, count}
+use Rattle.laws.proofs.Loops.{sum_none, sum_more}
+use Rattle.placing.specs.Table.{is_call}
+use borrow.Author.Rules.{rules}
+use Rattle.placing.proofs.counts.has_calls.Given as goal
+
+abbrev pub invariant-loop-b : goal.invariant-loop-b
+invariant-loop-b l = (l.b ≤ 8) × (l.calls ≤ l.b) × (l.calls ≡ count l.b (λ j. is_call (get_or l.table (l.from + j) 0)))
+
+abbrev pub decreases-loop-b : goal.decreases-loop-b
+decreases-loop-b l = 8 - l.b

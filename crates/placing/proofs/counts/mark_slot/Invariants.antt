@@ -1,0 +1,15 @@
+-- `counts::mark_slot` meets its contract. The loop's invariant: the cells before `b` are marked and counted. Assumes nothing.
+use native.Mathlib.Omega.{arith}
+use Prim.Native.Nat.{ℕ, ◌+◌, ◌-◌, ◌≤◌}
+use mathlib.Core.Path.{◌≡◌, refl, subst}
+use Rattle.laws.specs.Sums.{count}
+use Rattle.placing.specs.method.Jobs.{marked}
+use Rattle.placing.specs.method.Counts.{Marked}
+use Rattle.placing.proofs.counts.MarkedNumbers.{marked_more}
+use Rattle.placing.proofs.counts.mark_slot.Given as goal
+
+abbrev pub invariant-loop-b : goal.invariant-loop-b
+invariant-loop-b l = (l.b ≤ l.bridges) × Marked l.table (l.from + l.b) l.used × (count 256 (marked l.used) ≡ count 256 (marked l.initial.used) + l.jobs) × (l.jobs ≤ l.b)
+
+abbrev pub decreases-loop-b : goal.decreases-loop-b
+decreases-loop-b l = l.bridges - l.b

@@ -1,0 +1,18 @@
+-- `search::empty::found_in` meets its contract: the mask is that of the cells passed, and of the first bridges in the end; of these the held ones are counted. Assumes nothing.
+use Prim.Native.Nat.{ℕ, ◌+◌, ◌-◌, ◌%◌, ◌^◌, ◌≤◌, min}
+use native.Mathlib.Omega.{arith}
+use mathlib.Core.Path.{◌≡◌, sym, ◌∙◌, ap}
+use mathlib.Core.Logic.{⊎_elim}
+use lib.ListN.{get_or}
+use borrow.Author.Rules.{rules}
+use borrow.Author.Tests.{eq-eqb, ne_eqb}
+use Rattle.laws.specs.Sums.{only}
+use Rattle.placing.specs.method.Search.{empty_mask, held_from}
+use Rattle.placing.proofs.search.Parts.{mask_none, mask_more, mask_fits, mask_low, held_none, held_here, held_past}
+use Rattle.placing.proofs.search.empty.found_in.Given as goal
+
+abbrev pub invariant-loop-b : goal.invariant-loop-b
+invariant-loop-b l = (l.b ≤ 8) × (l.mask ≡ empty_mask l.table l.from l.b) × (l.held ≤ l.b) × (l.held ≡ held_from l.table l.from (min l.b l.bridges))
+
+abbrev pub decreases-loop-b : goal.decreases-loop-b
+decreases-loop-b l = 8 - l.b

@@ -1,0 +1,23 @@
+-- `search::empty::slot_masks` meets its contract: the slots passed are filled in, and those up to the clock have nothing. Assumes nothing.
+use Prim.Native.Nat.{ℕ, ◌*◌, ◌-◌, ◌≤◌, ◌<◌, min}
+use native.Mathlib.Omega.{arith}
+use mathlib.Core.Path.{◌≡◌, refl, sym, ◌∙◌, ap}
+use lib.ListN.{length, length-set, replicate}
+use lib.Dec.{ltb}
+use borrow.Author.Rules.{rules}
+use Rattle.laws.specs.Sums.{only}
+use Rattle.laws.proofs.Stores.{Stored, stored_none, stored_more, stored_zeros, zeros}
+use Rattle.placing.specs.method.Search.{first_slot, held_from, slot_mask}
+use Rattle.placing.proofs.search.Parts.{row_inside, slot_mask_before, slot_mask_from}
+use Rattle.placing.proofs.search.empty.slot_masks.Given as goal
+
+abbrev pub invariant-loop-s : goal.invariant-loop-s
+invariant-loop-s l = (l.s ≤ l.slots)
+    × (l.s < l.slots → first_slot l.clock ≤ l.s)
+    × (length l.out ≡ 64)
+    × Stored (replicate 64 0) (slot_mask l.table l.bridges l.clock) 0 l.s l.out
+    × (length l.spare ≡ 64)
+    × Stored l.initial.spare (λ q. l.motors - held_from l.table (q * l.bridges) l.bridges) (min (first_slot l.clock) l.slots) l.s l.spare
+
+abbrev pub decreases-loop-s : goal.decreases-loop-s
+decreases-loop-s l = l.slots - l.s
