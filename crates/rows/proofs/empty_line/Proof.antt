@@ -30,17 +30,17 @@ line-at-requires c κs = search rules
 add_at : tie.Need-overflow-add-at invariant-loop decreases-loop
 add_at c =
     let t = c.before.before.before in
-    omega (arith, line_inside t.before.loop.invariant t.loop-test.true c.line_at_lem.ensures)
+    omega (arith, line_inside t.before.loop.invariant t.loop-test.true c.line_at.ensures)
 
 loop-less : tie.Need-loop-smaller invariant-loop decreases-loop
 loop-less c =
     let t = c.before.before.before in
-    omega (arith, line_bytes t.before.loop.invariant t.loop-test.true c.line_at_lem.ensures, t.loop-test.true)
+    omega (arith, line_bytes t.before.loop.invariant t.loop-test.true c.line_at.ensures, t.loop-test.true)
 
 loop-again : tie.Need-loop-preserved invariant-loop decreases-loop
 loop-again c =
     let t = c.before.before.before in
-    at_next t.before.loop.invariant t.loop-test.true c.line_at_lem.ensures c.before.if1.false
+    at_next t.before.loop.invariant t.loop-test.true c.line_at.ensures c.before.if1.false
 
 returns-2 : tie.Need-returns-2 invariant-loop decreases-loop
 returns-2 c = let i = c.before.loop.invariant in (i.inside, out_end i c.loop-test.false)

@@ -49,20 +49,20 @@ add_at : tie.Need-overflow-add-at invariant-loop decreases-loop
 add_at c =
     let x = found c in
     let i = x.before.before.loop.inv in
-    omega (arith, line_inside i x.before.loop-test.taken x.line_at_lem.ensures, i.short)
+    omega (arith, line_inside i x.before.loop-test.taken x.line_at.ensures, i.short)
 
 loop-less : tie.Need-loop-smaller invariant-loop decreases-loop
 loop-less c =
     let x = found c in
     let i = x.before.before.loop.inv in
-    omega (arith, line_bytes i x.before.loop-test.taken x.line_at_lem.ensures, x.before.loop-test.taken)
+    omega (arith, line_bytes i x.before.loop-test.taken x.line_at.ensures, x.before.loop-test.taken)
 
 loop-again : tie.Need-loop-preserved invariant-loop decreases-loop
 loop-again c =
     let w = c.before.before in
     let e = w.before.before.before.before in
     let x = found c in
-    at_next x.before.before.loop.inv x.before.loop-test.taken x.line_at_lem.ensures e.event-by-counts.ensures w.answer-line.ensures
+    at_next x.before.before.loop.inv x.before.loop-test.taken x.line_at.ensures e.event-by-counts.ensures w.answer-line.ensures
 
 same_length : tie.Need-same-length invariant-loop decreases-loop
 same_length c = c.before.loop.invariant.size
