@@ -13,7 +13,7 @@ use Rattle.station.specs.declared.numbers.Numeral.{Numeral}
 use Rattle.station.specs.declared.brackets.Bracket.{Bracket}
 use Rattle.station.specs.Text.{bytes}
 use Rattle.station.specs.Decimal.{digit_count, plain}
-use Rattle.station.specs.Form.{last, next, starts, word, whole, ◌or_else◌, also, read_brackets}
+use Rattle.station.specs.Form.{last, starts, word, whole, ◌or_else◌, also, read_brackets}
 use Rattle.station.specs.method.Numeral.{front, closes, numeral_at, numeral_then}
 use Rattle.station.specs.method.Bracket.{no_bracket, BracketAt, no_bracket_lem, last_bracket, next_bracket}
 use Rattle.station.proofs.Form.{brackets_step}

@@ -18,7 +18,7 @@ use lib.Pow.{pow_pos, pow_mono}
 use Rattle.laws.proofs.Tests.{Is, is, is_true, is_false, clash, right_of, test_ext}
 use Rattle.station.specs.declared.brackets.Stretches.{Stretches}
 use Rattle.station.specs.declared.brackets.BusyMask.{BusyMask}
-use Rattle.station.specs.Form.{Pairs, last, next, also, read_brackets}
+use Rattle.station.specs.Form.{Pairs, last, also, read_brackets}
 use Rattle.station.specs.Writing.{mask_to, mask_of, ordered}
 use Rattle.station.specs.declared.brackets.Bracket.{Bracket}
 use Rattle.station.specs.method.Bracket.{no_stretch, MaskedSoFar, pick_stretches, stretched, busy_mask_in, BracketAt, no_bracket_lem, last_bracket, next_bracket}

@@ -17,7 +17,7 @@ use lib.Dec.{eqb, leb}
 use Rattle.laws.proofs.Tests.{Is, is, is_true, is_false, clash, right_of, test_ext}
 use Rattle.laws.proofs.Comparisons.{eqb_yes, eqb_no, eq_of, ne_of, le_of, gt_of, leb_yes}
 use Rattle.station.specs.Head.{within}
-use Rattle.station.specs.Decimal.{is_digit, digit_count, plain, value, value_from}
+use Rattle.station.specs.Decimal.{is_digit, digit_count, plain, value_from}
 use Rattle.station.specs.Form.{starts}
 use Rattle.station.specs.Text.{bytes}
 use Rattle.station.specs.method.Numeral.{leads, front_from, numeral_at, no_numeral, numeral_then, closes, numeral_last}

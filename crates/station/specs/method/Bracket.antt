@@ -8,7 +8,7 @@ use Rattle.station.specs.declared.brackets.Bracket.{Bracket}
 use Rattle.station.specs.declared.brackets.Stretches.{Stretches}
 use Rattle.station.specs.declared.brackets.BusyMask.{BusyMask}
 use Rattle.station.specs.declared.brackets.Jobs.{Jobs}
-use Rattle.station.specs.Form.{Pairs, CallJobs, last, next, also, read_brackets, jobs_of}
+use Rattle.station.specs.Form.{Pairs, CallJobs, last, also, read_brackets, jobs_of}
 use Rattle.station.specs.Writing.{mask_to, mask_of, ordered}
 use Rattle.station.specs.Jobs.{jobs_in_limits, padded, no_jobs, seen}
 

@@ -5,7 +5,6 @@ use mathlib.Core.Path.{sym, ◌∙◌}
 use Rattle.laws.proofs.Tests.{false_of_not, true_of_not}
 use Rattle.station.specs.Text.{bytes}
 use Rattle.station.proofs.brackets.OneBracket.{word_inside, not_opened, no_first, no_second, is_last, not_ended, is_next}
-use borrow.Author.Rules.{rules}
 use Rattle.station.proofs.brackets.bracket_at.Goals as goal
 
 pub returns-then-not-starts_at : goal.returns-then-not-starts_at

@@ -1,18 +1,14 @@
 -- `jobs_at` meets its contract. The invariant: the jobs so far and those from `i` on make what the jobs from `at` on make.
 -- The measure is what is left of the text.
 -- Assumes nothing.
-use Prim.Native.Nat.{◌-◌, ◌≤◌}
 use native.Mathlib.Omega.{arith}
 use mathlib.Core.Path.{◌≡◌, refl, sym, ◌∙◌}
-use borrow.Author.Rules.{rules}
-use lib.ListN.{length, drop, set, length-set}
+use lib.ListN.{drop, set, length-set}
 use lib.Seq.{set_out}
 use Rattle.laws.proofs.Tests.{false_of_not, true_of_not}
-use Rattle.station.specs.Limits.{most_jobs}
 use Rattle.station.specs.Form.{read_jobs}
-use Rattle.station.specs.method.Bracket.{jobs_read}
 use Rattle.station.proofs.brackets.OneBracket.{next_inside, first_small, second_small}
-use Rattle.station.proofs.brackets.JobList.{counted, counted_start, read_none, read_last, read_next}
+use Rattle.station.proofs.brackets.JobList.{counted_start, read_none, read_last, read_next}
 use Rattle.station.proofs.brackets.jobs_at.Goals.{then-count-lt-MOST_JOBS, else-count-lt-MOST_JOBS}
 use Rattle.station.proofs.brackets.jobs_at.Goals as goal
 
@@ -52,7 +48,7 @@ returns-then-b c = let b = c.bracket_at-b in
     let y = true_of_not b.result.found c.if-not-b.false in
     let kept : c.if-count-lt-MOST_JOBS.jobs ≡ set l.jobs l.count (record { number = b.result.first; slots = b.result.second }) =
     elim c.if-count-lt-MOST_JOBS.branch [
-      then-count-lt-MOST_JOBS w ↦ w.jobs-is
+      | then-count-lt-MOST_JOBS w ↦ w.jobs-is
       | else-count-lt-MOST_JOBS w ↦ let left = w.if-count-lt-MOST_JOBS.false in w.jobs-is ∙ sym (set_out l.jobs l.count _ (omega arith))
     ] in
     rw (c.seen_count.ensures, kept, c.job_in_limits-fit.ensures)
@@ -69,7 +65,7 @@ loop-jobs-preserved c = let b = c.bracket_at-b in
     let y = true_of_not b.result.found c.if-not-b.false in
     let kept : c.if-count-lt-MOST_JOBS.jobs ≡ set l.jobs l.count (record { number = b.result.first; slots = b.result.second }) =
     elim c.if-count-lt-MOST_JOBS.branch [
-      then-count-lt-MOST_JOBS w ↦ w.jobs-is
+      | then-count-lt-MOST_JOBS w ↦ w.jobs-is
       | else-count-lt-MOST_JOBS w ↦ let left = w.if-count-lt-MOST_JOBS.false in w.jobs-is ∙ sym (set_out l.jobs l.count _ (omega arith))
     ] in
     let h = next_inside b.ensures y in

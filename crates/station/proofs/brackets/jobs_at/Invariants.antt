@@ -2,17 +2,12 @@
 -- The measure is what is left of the text.
 -- Assumes nothing.
 use Prim.Native.Nat.{◌-◌, ◌≤◌}
-use native.Mathlib.Omega.{arith}
-use mathlib.Core.Path.{◌≡◌, refl, sym, ◌∙◌}
-use borrow.Author.Rules.{rules}
-use lib.ListN.{length, drop, set, length-set}
-use lib.Seq.{set_out}
-use Rattle.laws.proofs.Tests.{false_of_not, true_of_not}
+use mathlib.Core.Path.{◌≡◌}
+use lib.ListN.{length, drop}
 use Rattle.station.specs.Limits.{most_jobs}
 use Rattle.station.specs.Form.{read_jobs}
 use Rattle.station.specs.method.Bracket.{jobs_read}
-use Rattle.station.proofs.brackets.OneBracket.{next_inside, first_small, second_small}
-use Rattle.station.proofs.brackets.JobList.{counted, counted_start, read_none, read_last, read_next}
+use Rattle.station.proofs.brackets.JobList.{counted}
 use Rattle.station.proofs.brackets.jobs_at.Given as goal
 
 abbrev pub invariant-loop-jobs : goal.invariant-loop-jobs

@@ -3,7 +3,6 @@
 use Prim.Native.Nat.{◌-◌}
 use native.Mathlib.Omega.{arith}
 use Rattle.station.proofs.brackets.StretchMask.{shift_one, low_high, mask_parts, mask_parts_fit}
-use borrow.Author.Rules.{rules}
 use Rattle.station.proofs.brackets.stretch_mask.Goals as goal
 
 pub overflow_sub-result : goal.overflow_sub-result

@@ -1,16 +1,12 @@
 -- `stretches_at` meets its contract. The invariant: the stretches so far and those from `i` on make what the stretches from `at` on make.
 -- The measure is what is left of the text.
 -- Assumes nothing.
-use Prim.Native.Nat.{◌-◌, ◌≤◌, min}
-use native.Mathlib.Omega.{arith}
-use mathlib.Core.Path.{◌≡◌, ◌∙◌}
-use borrow.Author.Rules.{rules}
+use Prim.Native.Nat.{◌-◌, min}
+use mathlib.Core.Path.{◌≡◌}
 use lib.ListN.{length, drop}
-use Rattle.laws.proofs.Tests.{false_of_not, true_of_not}
 use Rattle.station.specs.Form.{read_brackets}
 use Rattle.station.specs.method.Bracket.{MaskedSoFar, busy_mask_in}
-use Rattle.station.proofs.brackets.OneBracket.{next_inside}
-use Rattle.station.proofs.brackets.StretchMask.{folded, folded_start, start_masked, stretched_masked, read_none, read_last, read_next}
+use Rattle.station.proofs.brackets.StretchMask.{folded}
 use Rattle.station.proofs.brackets.stretches_at.Given as goal
 
 abbrev pub invariant-loop-s : goal.invariant-loop-s

@@ -5,7 +5,6 @@ use mathlib.Core.Path.{refl}
 use Rattle.laws.proofs.Tests.{false_of_not, true_of_not}
 use Rattle.laws.proofs.Comparisons.{leb_yes, leb_no}
 use Rattle.station.proofs.brackets.StretchMask.{more_fits}
-use borrow.Author.Rules.{rules}
 use Rattle.station.proofs.brackets.with_stretch.Goals as goal
 
 pub returns-then-not-s : goal.returns-then-not-s

@@ -1,5 +1,5 @@
 -- `check::all_distinct` meets its contract. The invariant: the presets from i on have different numbers, and theirs are marked. Assumes nothing.
-use Prim.Native.Nat.{ℕ, suc, ◌-◌, ◌<◌, ◌≤◌}
+use Prim.Native.Nat.{ℕ, suc, ◌-◌, ◌<◌}
 use mathlib.Core.List.{List}
 use Rattle.station.specs.declared.types.Preset.{Preset}
 use native.Mathlib.Omega.{arith}

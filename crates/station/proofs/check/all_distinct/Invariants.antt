@@ -1,9 +1,6 @@
 -- `check::all_distinct` meets its contract. The invariant: the presets from i on have different numbers, and theirs are marked. Assumes nothing.
-use Prim.Native.Nat.{suc, ◌-◌, ◌≤◌}
-use native.Mathlib.Omega.{arith}
-use mathlib.Core.Path.{◌≡◌, sym, subst}
-use lib.ListN.{length}
-use Rattle.station.proofs.check.ValidRecord.{Marked, marked_none, marked_fault, marked_more}
+use Prim.Native.Nat.{◌≤◌}
+use Rattle.station.proofs.check.ValidRecord.{Marked}
 use Rattle.station.proofs.check.all_distinct.Given as goal
 
 abbrev pub invariant-loop-i : goal.invariant-loop-i

@@ -5,7 +5,6 @@ use mathlib.Core.Path.{sym}
 use lib.Pow.{pow_mono}
 use Rattle.laws.proofs.Comparisons.{ltb_yes}
 use Rattle.station.proofs.check.ValidRecord.{shifted_out}
-use borrow.Author.Rules.{rules}
 use Rattle.station.proofs.check.mask_below.Goals as goal
 
 pub returns-then-slots-ge-MOST_SLOTS : goal.returns-then-slots-ge-MOST_SLOTS

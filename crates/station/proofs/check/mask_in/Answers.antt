@@ -1,7 +1,6 @@
 -- `check::mask_in` meets its contract. Assumes nothing.
 use mathlib.Core.Path.{refl}
 use Rattle.laws.proofs.Comparisons.{ltb_yes, ltb_no}
-use borrow.Author.Rules.{rules}
 use Rattle.station.proofs.check.mask_in.Goals as goal
 
 pub returns-then-bridge-bridges : goal.returns-then-bridge-bridges

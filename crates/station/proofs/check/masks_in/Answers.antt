@@ -1,14 +1,11 @@
 -- `check::masks_in` meets its contract. The invariant: the answer is that of the masks from b on. Assumes nothing.
-use Prim.Native.Nat.{◌-◌, ◌^◌, ◌≤◌}
+use Prim.Native.Nat.{◌-◌}
 use native.Mathlib.Numerals.{add-one}
 use native.Mathlib.Omega.{arith}
 use mathlib.Core.Path.{◌≡◌, refl, sym, ◌∙◌}
-use lib.ListN.{length, drop}
-use Rattle.laws.proofs.Tests.{false_of_not, true_of_not}
+use lib.ListN.{length}
 use Rattle.laws.proofs.Comparisons.{eqb_yes}
-use Rattle.station.specs.Head.{masks_in}
 use Rattle.station.proofs.check.ValidRecord.{masks_fault, masks_next, masks_end}
-use borrow.Author.Rules.{rules}
 use Rattle.station.proofs.check.masks_in.Goals as goal
 
 pub loop-b-init : goal.loop-b-init

@@ -1,14 +1,8 @@
 -- `check::masks_in` meets its contract. The invariant: the answer is that of the masks from b on. Assumes nothing.
 use Prim.Native.Nat.{◌-◌, ◌^◌, ◌≤◌}
-use native.Mathlib.Numerals.{add-one}
-use native.Mathlib.Omega.{arith}
-use mathlib.Core.Path.{◌≡◌, refl, sym, ◌∙◌}
-use lib.ListN.{length, drop}
-use Rattle.laws.proofs.Tests.{false_of_not, true_of_not}
-use Rattle.laws.proofs.Comparisons.{eqb_yes}
+use mathlib.Core.Path.{◌≡◌}
+use lib.ListN.{drop}
 use Rattle.station.specs.Head.{masks_in}
-use Rattle.station.proofs.check.ValidRecord.{masks_fault, masks_next, masks_end}
-use borrow.Author.Rules.{rules}
 use Rattle.station.proofs.check.masks_in.Given as goal
 
 abbrev pub invariant-loop-b : goal.invariant-loop-b

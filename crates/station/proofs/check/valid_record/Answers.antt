@@ -2,9 +2,7 @@
 use native.Mathlib.Omega.{arith}
 use mathlib.Core.Path.{◌≡◌, sym, ◌∙◌}
 use lib.ListN.{length}
-use Rattle.laws.proofs.Tests.{false_of_not, true_of_not}
 use Rattle.station.proofs.check.ValidRecord.{valid_count, valid_frame, valid_supply, valid_masks, valid_limits, valid_distinct}
-use borrow.Author.Rules.{rules}
 use Rattle.station.proofs.check.valid_record.Goals as goal
 
 pub returns-then-count-gt-MOST_PRESETS : goal.returns-then-count-gt-MOST_PRESETS

@@ -4,7 +4,6 @@ use native.Mathlib.Omega.{arith}
 use mathlib.Core.Path.{refl}
 use Rattle.laws.proofs.Tests.{false_of_not, true_of_not}
 use Rattle.laws.proofs.Comparisons.{leb_yes, leb_no}
-use borrow.Author.Rules.{rules}
 use Rattle.station.specs.Limits.{most_jobs}
 use Rattle.station.proofs.events.call_event.Goals as goal
 

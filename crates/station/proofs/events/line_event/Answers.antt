@@ -2,7 +2,6 @@
 -- Assumes nothing.
 use mathlib.Core.Path.{sym, ◌∙◌, ap}
 use Rattle.station.specs.Event.{line_event}
-use borrow.Author.Rules.{rules}
 use Rattle.station.proofs.events.line_event.Goals as goal
 
 pub returns-in-NoForm : goal.returns-in-NoForm

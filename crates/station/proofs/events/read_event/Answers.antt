@@ -9,7 +9,6 @@ use Rattle.station.specs.declared.forms.Read.{Read}
 use Rattle.station.specs.Event.{line_event, event_in}
 use Rattle.station.proofs.events.EventLines.{call_form, call_read_lem, line_read}
 use Rattle.station.proofs.forms.LineForms.{call_none}
-use borrow.Author.Rules.{rules}
 use Rattle.station.proofs.events.read_event.Goals as goal
 
 pub returns-then-not-starts_at : goal.returns-then-not-starts_at

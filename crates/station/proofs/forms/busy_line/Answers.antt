@@ -10,7 +10,6 @@ use Rattle.station.specs.method.Numeral.{front}
 use Rattle.station.specs.method.ReadLine.{read_in}
 use Rattle.station.proofs.numbers.Recognised.{word_yes, word_no, then_yes, then_no, then_value}
 use Rattle.station.proofs.forms.LineForms.{busy_none, busy_some}
-use borrow.Author.Rules.{rules}
 use Rattle.station.proofs.forms.busy_line.Goals as goal
 
 pub returns-then-not-starts_at : goal.returns-then-not-starts_at

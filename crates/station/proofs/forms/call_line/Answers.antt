@@ -8,7 +8,6 @@ use Rattle.station.specs.Form.{read_jobs, call_in}
 use Rattle.station.specs.method.ReadLine.{read_in}
 use Rattle.station.proofs.numbers.Recognised.{word_yes, word_no}
 use Rattle.station.proofs.forms.LineForms.{call_none, call_some}
-use borrow.Author.Rules.{rules}
 use Rattle.station.proofs.forms.call_line.Goals as goal
 
 pub returns-then-not-starts_at : goal.returns-then-not-starts_at

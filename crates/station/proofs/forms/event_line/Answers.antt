@@ -3,7 +3,6 @@
 use mathlib.Core.Path.{sym, ◌∙◌}
 use Rattle.station.specs.Form.{◌or_else◌, clock_in, call_in, tie_in}
 use Rattle.station.proofs.forms.LineForms.{read_first, read_second}
-use borrow.Author.Rules.{rules}
 use Rattle.station.proofs.forms.event_line.Goals as goal
 
 pub returns-then-has_form : goal.returns-then-has_form

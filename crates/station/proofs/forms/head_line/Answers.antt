@@ -4,7 +4,6 @@ use Prim.Native.Nat.{min}
 use mathlib.Core.Path.{sym, ◌∙◌}
 use Rattle.station.specs.Form.{◌or_else◌, frame_in, busy_in, preset_in, supply_in}
 use Rattle.station.proofs.forms.LineForms.{read_first, read_second}
-use borrow.Author.Rules.{rules}
 use Rattle.station.proofs.forms.head_line.Goals as goal
 
 pub returns-then-has_form : goal.returns-then-has_form

@@ -6,7 +6,6 @@ use Rattle.station.specs.Text.{bytes}
 use Rattle.station.specs.Form.{preset_in}
 use Rattle.station.specs.method.ReadLine.{read_in}
 use Rattle.station.proofs.numbers.Recognised.{word_yes, word_no, then_yes, then_no, then_value, last_yes, last_no, last_value}
-use borrow.Author.Rules.{rules}
 use Rattle.station.proofs.forms.preset_line.Goals as goal
 
 pub returns-then-not-starts_at : goal.returns-then-not-starts_at

@@ -4,7 +4,6 @@ use Prim.Native.Nat.{min}
 use mathlib.Core.Path.{sym, ◌∙◌}
 use Rattle.station.specs.method.ReadLine.{head_form, event_form}
 use Rattle.station.proofs.forms.LineForms.{read_first, read_second, form_parts}
-use borrow.Author.Rules.{rules}
 use Rattle.station.proofs.forms.read_line.Goals as goal
 
 pub returns-then-has_form : goal.returns-then-has_form

@@ -4,7 +4,6 @@ use mathlib.Core.Path.{sym, ◌∙◌, ap}
 use Rattle.station.specs.Text.{bytes}
 use Rattle.station.specs.method.ReadLine.{read_in}
 use Rattle.station.proofs.forms.LineForms.{tie_hold_lem, tie_place_lem, tie_none}
-use borrow.Author.Rules.{rules}
 use Rattle.station.proofs.forms.tie_line.Goals as goal
 
 pub returns-then-closes_at : goal.returns-then-closes_at

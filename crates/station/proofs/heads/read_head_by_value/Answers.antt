@@ -2,7 +2,6 @@
 -- Assumes nothing.
 use native.Mathlib.Omega.{arith}
 use mathlib.Core.Path.{◌∙◌}
-use borrow.Author.Rules.{rules}
 use Rattle.station.proofs.heads.LineLoop.{out_long}
 use Rattle.station.proofs.heads.read_head_by_value.Goals as goal
 

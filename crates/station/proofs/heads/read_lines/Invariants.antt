@@ -2,12 +2,8 @@
 -- measure is what is left of the text.
 -- Assumes nothing.
 use Prim.Native.Nat.{◌-◌}
-use native.Mathlib.Omega.{arith}
-use mathlib.Core.Path.{sym, ◌∙◌, subst}
 use lib.ListN.{length}
-use borrow.Author.Rules.{rules}
-use Rattle.station.specs.declared.heads.steps.State.{State}
-use Rattle.station.proofs.heads.LineLoop.{AtLine, at_start, LineRead, line_inside, line_bytes, at_next, out_ends, out_fails, out_whole, out_empty}
+use Rattle.station.proofs.heads.LineLoop.{AtLine}
 use Rattle.station.proofs.heads.read_lines.Given as goal
 
 abbrev pub invariant-loop-at : goal.invariant-loop-at

@@ -6,7 +6,6 @@ use mathlib.Core.Path.{◌≡◌}
 use lib.ListN.{length, take, drop, length-drop}
 use lib.Seq.{take_all}
 use Rattle.station.proofs.lines.FirstLine.{line_none, line_part, line_short}
-use borrow.Author.Rules.{rules}
 use Rattle.station.proofs.lines.line_at.Goals as goal
 
 pub returns-then-text-at : goal.returns-then-text-at

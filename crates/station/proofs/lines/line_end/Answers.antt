@@ -1,11 +1,9 @@
 -- `line_end` meets its contract. The invariant: where the line from `i` on ends is where the line from `at` on ends. The measure is what is
 -- left of the text.
 -- Assumes nothing.
-use Prim.Native.Nat.{◌+◌, ◌-◌}
+use Prim.Native.Nat.{◌+◌}
 use native.Mathlib.Omega.{arith}
-use mathlib.Core.Path.{◌≡◌, refl}
-use lib.ListN.{length, drop}
-use Rattle.station.specs.Line.{line_of}
+use mathlib.Core.Path.{refl}
 use Rattle.station.proofs.lines.FirstLine.{line_here, line_further, line_past}
 use Rattle.station.proofs.lines.line_end.Goals as goal
 

@@ -2,11 +2,9 @@
 -- left of the text.
 -- Assumes nothing.
 use Prim.Native.Nat.{◌+◌, ◌-◌}
-use native.Mathlib.Omega.{arith}
-use mathlib.Core.Path.{◌≡◌, refl}
+use mathlib.Core.Path.{◌≡◌}
 use lib.ListN.{length, drop}
 use Rattle.station.specs.Line.{line_of}
-use Rattle.station.proofs.lines.FirstLine.{line_here, line_further, line_past}
 use Rattle.station.proofs.lines.line_end.Given as goal
 
 abbrev pub invariant-loop-i : goal.invariant-loop-i

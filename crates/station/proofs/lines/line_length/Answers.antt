@@ -1,11 +1,7 @@
 -- `line_length` meets its contract. The invariant: the line ends where the line from `i` on ends. The measure is what is left of the text.
 -- Assumes nothing.
-use Prim.Native.Nat.{◌+◌, ◌-◌, ◌≤◌}
+use Prim.Native.Nat.{◌+◌}
 use native.Mathlib.Omega.{arith}
-use mathlib.Core.Path.{◌≡◌}
-use borrow.Author.Rules.{rules}
-use lib.ListN.{length, drop}
-use Rattle.station.specs.Line.{line_of}
 use Rattle.station.proofs.lines.FirstLine.{line_here, line_further}
 use Rattle.station.proofs.lines.line_length.Goals as goal
 

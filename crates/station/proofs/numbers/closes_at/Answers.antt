@@ -9,7 +9,6 @@ use Rattle.laws.proofs.Tests.{fails_right}
 use Rattle.laws.proofs.Comparisons.{leb_no}
 use Rattle.station.specs.Form.{starts}
 use Rattle.station.proofs.numbers.Decimals.{starts_none, closes_short}
-use borrow.Author.Rules.{rules}
 use Rattle.station.proofs.numbers.closes_at.Goals as goal
 
 pub returns-then-text-at : goal.returns-then-text-at

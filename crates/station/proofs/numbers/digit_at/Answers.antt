@@ -3,7 +3,6 @@
 use native.Mathlib.Omega.{arith}
 use mathlib.Core.Path.{sym}
 use Rattle.station.proofs.numbers.Decimals.{leads_at, leads_past}
-use borrow.Author.Rules.{rules}
 use Rattle.station.proofs.numbers.digit_at.Goals as goal
 
 pub returns-then-text-at : goal.returns-then-text-at

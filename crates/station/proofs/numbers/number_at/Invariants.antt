@@ -1,16 +1,11 @@
 -- `number_at` meets its contract. The invariant: the digits from `i` on end where those from `at` on do, and after `value` they make the same
 -- number, as it is read. The measure is what is left of the text.
 -- Assumes nothing.
-use borrow.Author.Rules.{rules}
 use Prim.Native.Nat.{◌+◌, ◌-◌, ◌≤◌}
-use native.Mathlib.Omega.{arith}
-use native.Mathlib.Numerals.{add-one}
-use mathlib.Core.Path.{◌≡◌, refl, sym, ◌∙◌}
+use mathlib.Core.Path.{◌≡◌}
 use lib.ListN.{length, drop}
-use Rattle.laws.proofs.Tests.{false_of_not, true_of_not}
 use Rattle.station.specs.Decimal.{digit_count}
 use Rattle.station.specs.method.Numeral.{front, front_from}
-use Rattle.station.proofs.numbers.Decimals.{lead, count_more, count_none, front_none, plain_none, plain_digits, seen_more}
 use Rattle.station.specs.Jobs.{seen}
 use Rattle.station.proofs.numbers.number_at.Given as goal
 

@@ -4,7 +4,6 @@ use mathlib.Core.Path.{sym, ◌∙◌}
 use Rattle.station.specs.Text.{bytes}
 use Rattle.laws.proofs.Tests.{false_of_not, true_of_not}
 use Rattle.station.proofs.numbers.Decimals.{last_missing, last_other, last_found}
-use borrow.Author.Rules.{rules}
 use Rattle.station.proofs.numbers.number_last.Goals as goal
 
 pub returns-then-not-n : goal.returns-then-not-n

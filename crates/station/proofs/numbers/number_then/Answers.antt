@@ -4,7 +4,6 @@ use native.Mathlib.Omega.{arith}
 use mathlib.Core.Path.{sym, ◌∙◌}
 use Rattle.laws.proofs.Tests.{false_of_not, true_of_not}
 use Rattle.station.proofs.numbers.Decimals.{then_missing, then_other, then_found, then_fits}
-use borrow.Author.Rules.{rules}
 use Rattle.station.proofs.numbers.number_then.Goals as goal
 
 pub returns-then-not-n : goal.returns-then-not-n

@@ -4,7 +4,6 @@ use mathlib.Core.Path.{◌∙◌}
 use lib.ListN.{length-set}
 use Rattle.station.specs.Text.{bytes}
 use Rattle.station.proofs.output.Runs.{wrote_two, wrote_then, wrote_length}
-use borrow.Author.Rules.{rules}
 use Rattle.station.proofs.output.lettered.Goals as goal
 
 pub bounds-out-at-then-at-places_before : goal.bounds-out-at-then-at-places_before

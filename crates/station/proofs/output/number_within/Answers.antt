@@ -6,7 +6,6 @@ use lib.ListN.{length-set}
 use Rattle.station.proofs.Decimal.{digits_small}
 use Rattle.station.proofs.output.TwoDigits.{digits_two, digits_hundreds}
 use Rattle.station.proofs.output.Runs.{wrote_byte, wrote_then, wrote_length, wrote_place}
-use borrow.Author.Rules.{rules}
 use Rattle.station.proofs.output.number_within.Goals as goal
 
 pub returns-then-n-lt10 : goal.returns-then-n-lt10

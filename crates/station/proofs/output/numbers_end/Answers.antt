@@ -6,7 +6,6 @@ use lib.ListN.{length-set}
 use Rattle.station.specs.Text.{bytes}
 use Rattle.station.proofs.output.TwoDigits.{after_number}
 use Rattle.station.proofs.output.Runs.{wrote_byte, wrote_two, wrote_then}
-use borrow.Author.Rules.{rules}
 use Rattle.station.proofs.output.numbers_end.Goals as goal
 
 pub returns-then-places_before-at : goal.returns-then-places_before-at

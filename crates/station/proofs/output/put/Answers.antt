@@ -1,7 +1,6 @@
 -- `output::put` meets its contract. Assumes nothing.
 use mathlib.Core.List.{[], ◌∷◌}
 use Rattle.station.proofs.output.Runs.{wrote_byte, wrote_out}
-use borrow.Author.Rules.{rules}
 use Rattle.station.proofs.output.put.Goals as goal
 
 pub returns-then-at-out : goal.returns-then-at-out

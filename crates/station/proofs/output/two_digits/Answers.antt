@@ -2,7 +2,6 @@
 use native.Mathlib.Omega.{arith}
 use lib.ListN.{length-set}
 use Rattle.station.proofs.output.Runs.{wrote_two}
-use borrow.Author.Rules.{rules}
 use Rattle.station.proofs.output.two_digits.Goals as goal
 
 pub bounds-out-at-2 : goal.bounds-out-at-2

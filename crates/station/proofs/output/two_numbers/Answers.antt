@@ -1,7 +1,6 @@
 -- `output::two_numbers` meets its contract. Assumes nothing.
 use Rattle.station.specs.Text.{bytes}
 use Rattle.station.proofs.output.Runs.{wrote_then}
-use borrow.Author.Rules.{rules}
 use Rattle.station.proofs.output.two_numbers.Goals as goal
 
 pub returns : goal.returns

@@ -1,14 +1,12 @@
 -- `output::word` meets its contract. The invariant: the bytes from i on are left, and they fit. Assumes nothing.
-use Prim.Native.Nat.{suc, ◌+◌, ◌-◌, ◌≤◌, ◌<◌}
+use Prim.Native.Nat.{suc, ◌+◌, ◌<◌}
 use native.Mathlib.Numerals.{add-one}
 use native.Mathlib.Omega.{arith}
 use mathlib.Core.List.{[], ◌∷◌}
 use mathlib.Core.Path.{◌≡◌, refl}
 use lib.ListN.{length, drop, get_or}
 use lib.Seq.{drop-cons, drop-length}
-use Rattle.station.specs.Wrote.{Left}
 use Rattle.station.proofs.output.Runs.{wrote_byte, left_all, left_wrote, left_none}
-use borrow.Author.Rules.{rules}
 use Rattle.station.proofs.output.word.Goals as goal
 
 pub returns-then-places_before-at : goal.returns-then-places_before-at

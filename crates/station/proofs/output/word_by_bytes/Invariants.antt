@@ -1,14 +1,7 @@
 -- `output::word_by_bytes` meets its contract. The invariant: the bytes from i on are left. Assumes nothing.
-use Prim.Native.Nat.{suc, ◌-◌, ◌≤◌, ◌<◌}
-use native.Mathlib.Numerals.{add-one}
-use native.Mathlib.Omega.{arith}
-use mathlib.Core.List.{[], ◌∷◌}
-use mathlib.Core.Path.{◌≡◌}
-use lib.ListN.{length, drop, get_or}
-use lib.Seq.{drop-cons, drop-length}
+use Prim.Native.Nat.{◌-◌, ◌≤◌}
+use lib.ListN.{length, drop}
 use Rattle.station.specs.Wrote.{Left}
-use Rattle.station.proofs.output.Runs.{left_all, left_wrote, left_none}
-use borrow.Author.Rules.{rules}
 use Rattle.station.proofs.output.word_by_bytes.Given as goal
 
 abbrev pub invariant-loop-i : goal.invariant-loop-i

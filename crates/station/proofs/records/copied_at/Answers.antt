@@ -3,7 +3,6 @@
 use native.Mathlib.Omega.{arith}
 use mathlib.Core.Path.{sym}
 use lib.ListN.{get_or-eq_default}
-use borrow.Author.Rules.{rules}
 use Rattle.station.specs.Types.{no_record}
 use Rattle.station.proofs.records.copied_at.Goals as goal
 

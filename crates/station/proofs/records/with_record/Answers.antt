@@ -3,7 +3,6 @@
 use native.Mathlib.Omega.{arith}
 use mathlib.Core.Path.{sym}
 use lib.Seq.{set_out}
-use borrow.Author.Rules.{rules}
 use Rattle.station.proofs.records.with_record.Goals as goal
 
 pub returns-else-at-lt-MOST_PRESETS : goal.returns-else-at-lt-MOST_PRESETS

@@ -2,14 +2,8 @@
 -- what is left of the text.
 -- Assumes nothing.
 use Prim.Native.Nat.{◌-◌}
-use native.Mathlib.Omega.{arith}
-use mathlib.Core.Path.{sym, ◌∙◌}
 use lib.ListN.{length}
-use Rattle.station.specs.Row.{RowIn, with_row}
-use Rattle.station.specs.method.RowFields.{row_is}
-use borrow.Author.Rules.{rules}
-use Rattle.laws.proofs.Tests.{false_of_not, true_of_not}
-use Rattle.station.proofs.rows.RowLoop.{AtRow, rows_start, RowRead, row_further, row_fits, rows_next, out_no_row, out_outside, out_rows}
+use Rattle.station.proofs.rows.RowLoop.{AtRow}
 use Rattle.station.proofs.rows.read_row_lines.Given as goal
 
 abbrev pub invariant-loop-at : goal.invariant-loop-at

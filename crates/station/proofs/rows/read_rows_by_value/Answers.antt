@@ -2,8 +2,6 @@
 -- Assumes nothing.
 use native.Mathlib.Omega.{arith}
 use mathlib.Core.Path.{sym, ◌∙◌}
-use borrow.Author.Rules.{rules}
-use Rattle.laws.proofs.Tests.{false_of_not, true_of_not}
 use Rattle.station.proofs.check.ValidRecord.{valid_head}
 use Rattle.station.proofs.rows.RowCauses.{rows_long, rows_invalid, rows_tried}
 use Rattle.station.proofs.rows.read_rows_by_value.Goals as goal

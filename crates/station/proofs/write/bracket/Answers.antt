@@ -2,7 +2,6 @@
 use mathlib.Core.List.{append_assoc}
 use Rattle.station.specs.Text.{bytes}
 use Rattle.station.proofs.output.Runs.{wrote_then}
-use borrow.Author.Rules.{rules}
 use Rattle.station.proofs.write.bracket.Goals as goal
 
 pub returns : goal.returns

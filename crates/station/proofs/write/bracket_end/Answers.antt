@@ -1,6 +1,5 @@
 -- `write::bracket_end` meets its contract. Assumes nothing.
 use Rattle.station.specs.Text.{bytes}
-use borrow.Author.Rules.{rules}
 use Rattle.station.proofs.write.bracket_end.Goals as goal
 
 pub returns-then-more : goal.returns-then-more

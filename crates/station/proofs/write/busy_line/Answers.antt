@@ -6,7 +6,6 @@ use Rattle.station.specs.Writing.{stretches}
 use Rattle.station.proofs.Stretches.{stretches_zero}
 use Rattle.station.proofs.write.MaskRuns.{busy_text}
 use Rattle.station.proofs.output.Runs.{wrote_none, wrote_then}
-use borrow.Author.Rules.{rules}
 use Rattle.station.proofs.write.busy_line.Goals as goal
 
 pub returns-then-mask-eq0 : goal.returns-then-mask-eq0

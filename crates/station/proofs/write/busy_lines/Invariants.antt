@@ -1,18 +1,11 @@
 -- `write::busy_lines` meets its contract. The invariant: the lines of the bridges from b on are left. Assumes nothing.
-use Prim.Native.Nat.{suc, ◌-◌, ◌≤◌, ◌<◌}
-use native.Mathlib.Numerals.{add-one}
-use native.Mathlib.Omega.{arith}
-use mathlib.Core.Path.{◌≡◌}
+use Prim.Native.Nat.{suc, ◌-◌, ◌≤◌}
 use mathlib.Core.List.{map}
-use lib.ListN.{length, drop, get_or}
-use lib.Seq.{drop-length}
+use lib.ListN.{drop}
 use Rattle.station.specs.Text.{join}
 use Rattle.station.specs.Form.{print}
-use Rattle.station.specs.Writing.{busy_lines, busy_line_of, stretches}
+use Rattle.station.specs.Writing.{busy_lines}
 use Rattle.station.specs.Wrote.{Left}
-use Rattle.station.proofs.output.Runs.{left_all, left_wrote, left_none}
-use Rattle.station.proofs.write.HeadLines.{busy_lines_step}
-use borrow.Author.Rules.{rules}
 use Rattle.station.proofs.write.busy_lines.Given as goal
 
 abbrev pub invariant-loop-b : goal.invariant-loop-b

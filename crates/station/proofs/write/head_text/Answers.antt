@@ -4,7 +4,6 @@ use Rattle.station.specs.Types.{head_in}
 use Rattle.station.proofs.check.ValidRecord.{valid_head, valid_few}
 use Rattle.station.proofs.write.HeadLines.{head_text}
 use Rattle.station.proofs.output.Runs.{wrote_then}
-use borrow.Author.Rules.{rules}
 use Rattle.station.proofs.write.head_text.Goals as goal
 
 pub overflow_cast-slots : goal.overflow_cast-slots

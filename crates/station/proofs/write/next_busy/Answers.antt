@@ -1,10 +1,9 @@
 -- `write::next_busy` meets its contract. The invariant: the scan from i on ends where the whole scan does. Assumes nothing.
-use Prim.Native.Nat.{◌-◌, ◌/◌, ◌%◌, ◌^◌}
+use Prim.Native.Nat.{◌/◌, ◌%◌, ◌^◌}
 use native.Mathlib.Numerals.{add-one}
 use native.Mathlib.Omega.{arith}
-use mathlib.Core.Path.{◌≡◌, refl, sym, ◌∙◌}
+use mathlib.Core.Path.{refl, sym, ◌∙◌}
 use Rattle.laws.proofs.Comparisons.{eqb_yes, eqb_no}
-use Rattle.station.specs.method.Runs.{busy_from}
 use Rattle.station.proofs.write.MaskRuns.{busy_here, busy_next, busy_end}
 use Rattle.station.proofs.write.next_busy.Goals as goal
 

@@ -1,11 +1,7 @@
 -- `write::next_free` meets its contract. The invariant: the scan from i on ends where the whole scan does. Assumes nothing.
-use Prim.Native.Nat.{◌-◌, ◌/◌, ◌%◌, ◌^◌}
-use native.Mathlib.Numerals.{add-one}
-use native.Mathlib.Omega.{arith}
-use mathlib.Core.Path.{◌≡◌, refl, sym, ◌∙◌}
-use Rattle.laws.proofs.Comparisons.{eqb_yes, eqb_no}
+use Prim.Native.Nat.{◌-◌}
+use mathlib.Core.Path.{◌≡◌}
 use Rattle.station.specs.method.Runs.{free_from}
-use Rattle.station.proofs.write.MaskRuns.{free_here, free_next, free_end}
 use Rattle.station.proofs.write.next_free.Given as goal
 
 abbrev pub invariant-loop-i : goal.invariant-loop-i

@@ -3,7 +3,6 @@ use mathlib.Core.List.{append_assoc}
 use Rattle.station.specs.Form.{print}
 use Rattle.station.specs.Text.{bytes}
 use Rattle.station.proofs.output.Runs.{wrote_then}
-use borrow.Author.Rules.{rules}
 use Rattle.station.proofs.write.preset_line.Goals as goal
 
 pub returns : goal.returns

@@ -1,5 +1,5 @@
 -- `write::preset_lines` meets its contract. The invariant: the lines of the presets from i on are left. Assumes nothing.
-use Prim.Native.Nat.{suc, ◌-◌, ◌≤◌}
+use Prim.Native.Nat.{suc}
 use native.Mathlib.Numerals.{add-one}
 use native.Mathlib.Omega.{arith}
 use mathlib.Core.Path.{◌≡◌}
@@ -9,10 +9,8 @@ use lib.Seq.{drop-length, length-take-le}
 use Rattle.station.specs.Text.{join}
 use Rattle.station.specs.Form.{preset_line, print}
 use Rattle.station.specs.Types.{preset_in, presets_in, no_record}
-use Rattle.station.specs.Wrote.{Left}
 use Rattle.station.proofs.output.Runs.{left_all, left_wrote, left_none}
 use Rattle.station.proofs.write.HeadLines.{preset_lines_step}
-use borrow.Author.Rules.{rules}
 use Rattle.station.proofs.write.preset_lines.Goals as goal
 
 pub loop-i-init : goal.loop-i-init

@@ -1,18 +1,11 @@
 -- `write::stretch_list` meets its contract. The invariant: `from` is busy or past the end, and the brackets of the slots from there on are left. Assumes nothing.
-use Prim.Native.Nat.{suc, ◌-◌, ◌≤◌, ◌<◌}
-use native.Mathlib.Nat.{div-one}
-use native.Mathlib.Numerals.{add-one}
-use native.Mathlib.Omega.{arith}
-use mathlib.Core.Path.{◌≡◌, refl, sym, ap}
+use Prim.Native.Nat.{◌-◌, ◌≤◌, ◌<◌}
+use mathlib.Core.Path.{◌≡◌}
 use mathlib.Core.Bool.{true}
-use lib.Dec.{ltb}
 use Rattle.station.specs.Head.{has_bit}
 use Rattle.station.specs.Writing.{stretches}
-use Rattle.station.specs.method.Runs.{stretches_from, brackets_of, bracket_text}
+use Rattle.station.specs.method.Runs.{stretches_from, brackets_of}
 use Rattle.station.specs.Wrote.{Left}
-use Rattle.station.proofs.write.MaskRuns.{busy_found, busy_high, free_high, from_next_busy, NextRun, next_run, bracket_step}
-use Rattle.station.proofs.output.Runs.{left_all, left_wrote, left_none}
-use borrow.Author.Rules.{rules}
 use Rattle.station.proofs.write.stretch_list.Given as goal
 
 abbrev pub invariant-loop-from : goal.invariant-loop-from

@@ -2,7 +2,6 @@
 use Rattle.station.specs.Text.{bytes}
 use Rattle.station.proofs.write.HeadLines.{supply_text}
 use Rattle.station.proofs.output.Runs.{wrote_none, wrote_then}
-use borrow.Author.Rules.{rules}
 use Rattle.station.proofs.write.supply_line.Goals as goal
 
 pub returns-then-motors-eq0 : goal.returns-then-motors-eq0

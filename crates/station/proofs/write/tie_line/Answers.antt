@@ -2,7 +2,6 @@
 use Rattle.station.specs.Form.{print}
 use Rattle.station.specs.Text.{bytes}
 use Rattle.station.proofs.output.Runs.{wrote_none}
-use borrow.Author.Rules.{rules}
 use Rattle.station.proofs.write.tie_line.Goals as goal
 
 pub returns-then-hold : goal.returns-then-hold

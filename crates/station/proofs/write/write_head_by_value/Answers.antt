@@ -1,8 +1,6 @@
 -- `write_head_by_value` meets its contract. Assumes nothing.
 use mathlib.Core.Path.{sym, ◌∙◌}
-use Rattle.laws.proofs.Tests.{false_of_not, true_of_not}
 use Rattle.station.proofs.write.HeadLines.{too_short_lem, out_of_limits_lem, head_written}
-use borrow.Author.Rules.{rules}
 use Rattle.station.proofs.write.write_head_by_value.Goals as goal
 
 pub returns-then-out-lt-LEAST_OUTPUT : goal.returns-then-out-lt-LEAST_OUTPUT

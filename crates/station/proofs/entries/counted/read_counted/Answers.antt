@@ -2,7 +2,6 @@
 -- Assumes nothing.
 use native.Mathlib.Omega.{arith}
 use mathlib.Core.Path.{◌∙◌}
-use borrow.Author.Rules.{rules}
 use Rattle.station.proofs.entries.ListOfRecords.{read_long, read_few, read_enough}
 use Rattle.station.proofs.entries.counted.read_counted.Goals as goal
 

@@ -2,7 +2,6 @@
 -- Assumes nothing.
 use native.Mathlib.Omega.{arith}
 use mathlib.Core.Path.{◌∙◌}
-use borrow.Author.Rules.{rules}
 use Rattle.station.proofs.rows.RowCauses.{rows_long, rows_few, rows_enough}
 use Rattle.station.proofs.entries.counted.read_rows_counted.Goals as goal
 

@@ -1,7 +1,6 @@
 -- `write_counted` meets its contract: fewer than 32 records are refused, else the head is written.
 -- Assumes nothing.
 use native.Mathlib.Omega.{arith}
-use borrow.Author.Rules.{rules}
 use Rattle.station.proofs.entries.ListOfRecords.{write_few, write_enough}
 use Rattle.station.proofs.entries.counted.write_counted.Goals as goal
 

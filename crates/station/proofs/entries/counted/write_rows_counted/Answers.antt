@@ -1,7 +1,6 @@
 -- `write_rows_counted` meets its contract: fewer than 32 records are refused, else the rows are written.
 -- Assumes nothing.
 use native.Mathlib.Omega.{arith}
-use borrow.Author.Rules.{rules}
 use Rattle.station.proofs.entries.ListOfRecords.{write_rows_few, write_rows_enough}
 use Rattle.station.proofs.entries.counted.write_rows_counted.Goals as goal
 

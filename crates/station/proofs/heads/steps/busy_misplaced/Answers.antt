@@ -1,7 +1,6 @@
 -- `busy_misplaced` meets its contract: at the busy lines the stage is known.
 -- Assumes nothing.
 use mathlib.Core.Path.{sym, ap}
-use borrow.Author.Rules.{rules}
 use Rattle.station.specs.declared.heads.steps.Stage.{Stage}
 use Rattle.station.specs.Reading.{busy_misplaced}
 use Rattle.station.specs.method.HeadStep.{stage_in}

@@ -3,7 +3,6 @@
 use Prim.Native.Nat.{ℕ, ◌+◌}
 use mathlib.Core.Path.{sym, ◌∙◌, ap}
 use mathlib.Core.List.{List}
-use borrow.Author.Rules.{rules}
 use Rattle.station.specs.declared.heads.steps.Stage.TheVariants.{Busy}
 use Rattle.station.specs.declared.heads.steps.Verdict.TheVariants.{Goes}
 use Rattle.station.specs.Types.{with_masks}

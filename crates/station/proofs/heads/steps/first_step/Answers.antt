@@ -1,7 +1,6 @@
 -- `first_step` meets its contract: each arm is given which line it is.
 -- Assumes nothing.
 use mathlib.Core.Path.{sym, ◌∙◌, ap}
-use borrow.Author.Rules.{rules}
 use Rattle.station.specs.method.HeadStep.{first_step}
 use Rattle.station.proofs.heads.steps.first_step.Goals as goal
 

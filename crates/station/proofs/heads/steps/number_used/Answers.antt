@@ -1,15 +1,9 @@
 -- `number_used` meets its contract. The invariant: the number is used just where one of the records from `i` on has it. The measure is what is left of the
 -- count.
 -- Assumes nothing.
-use Prim.Native.Nat.{◌-◌}
 use native.Mathlib.Omega.{arith}
 use native.Mathlib.Numerals.{add-one}
-use mathlib.Core.Path.{◌≡◌, refl, sym, ◌∙◌}
-use mathlib.Core.List.{map}
-use lib.ListN.{take, drop}
-use borrow.Author.Rules.{rules}
-use Rattle.station.specs.Head.{has_number}
-use Rattle.station.specs.Types.{preset_in}
+use mathlib.Core.Path.{refl, sym, ◌∙◌}
 use Rattle.station.proofs.heads.OneLine.{used_here, used_further, used_past}
 use Rattle.station.proofs.heads.steps.number_used.Goals as goal
 

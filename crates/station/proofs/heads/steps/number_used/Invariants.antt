@@ -2,15 +2,11 @@
 -- count.
 -- Assumes nothing.
 use Prim.Native.Nat.{◌-◌}
-use native.Mathlib.Omega.{arith}
-use native.Mathlib.Numerals.{add-one}
-use mathlib.Core.Path.{◌≡◌, refl, sym, ◌∙◌}
+use mathlib.Core.Path.{◌≡◌}
 use mathlib.Core.List.{map}
 use lib.ListN.{take, drop}
-use borrow.Author.Rules.{rules}
 use Rattle.station.specs.Head.{has_number}
 use Rattle.station.specs.Types.{preset_in}
-use Rattle.station.proofs.heads.OneLine.{used_here, used_further, used_past}
 use Rattle.station.proofs.heads.steps.number_used.Given as goal
 
 abbrev pub invariant-loop-i : goal.invariant-loop-i

@@ -6,7 +6,6 @@ use mathlib.Core.Path.{◌≡◌, sym, ◌∙◌, ap}
 use mathlib.Core.Bool.{false, not}
 use mathlib.Core.List.{List, map}
 use lib.ListN.{set, take}
-use borrow.Author.Rules.{rules}
 use Rattle.laws.proofs.Tests.{true_of_not}
 use Rattle.station.specs.Head.{preset_of, preset_in_limits, has_number}
 use Rattle.station.specs.Types.{preset_in, with_count}

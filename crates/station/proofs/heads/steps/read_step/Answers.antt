@@ -3,7 +3,6 @@
 use Prim.Native.Nat.{min}
 use mathlib.Core.Path.{sym, ◌∙◌, ap}
 use mathlib.Core.Bool.{Bool}
-use borrow.Author.Rules.{rules}
 use Rattle.station.specs.Form.{form}
 use Rattle.station.specs.declared.forms.Read.{Read}
 use Rattle.station.specs.method.ReadLine.{line_in}

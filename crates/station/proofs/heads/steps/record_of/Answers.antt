@@ -1,7 +1,6 @@
 -- `record_of` meets its contract: each value is at most 255.
 -- Assumes nothing.
 use native.Mathlib.Omega.{arith}
-use borrow.Author.Rules.{rules}
 use Rattle.station.specs.Head.{preset_of, InLimits}
 use Rattle.station.proofs.ValidHead.{limits_of}
 use Rattle.station.proofs.heads.steps.record_of.Goals as goal

@@ -2,7 +2,6 @@
 -- Assumes nothing.
 use mathlib.Core.Path.{sym, ◌∙◌, ap}
 use mathlib.Core.Bool.{not}
-use borrow.Author.Rules.{rules}
 use Rattle.station.proofs.heads.OneLine.{supply_late, supply_refused, supply_goes}
 use Rattle.station.proofs.heads.steps.supply_step.Goals as goal
 

@@ -1,7 +1,6 @@
 -- `tie_in_head` meets its contract: place, or hold.
 -- Assumes nothing.
 use mathlib.Core.Path.{sym, ◌∙◌, ap}
-use borrow.Author.Rules.{rules}
 use Rattle.station.specs.method.HeadStep.{head_tie_step}
 use Rattle.station.proofs.heads.steps.tie_in_head.Goals as goal
 

@@ -1,7 +1,6 @@
 -- `tie_step` meets its contract: each arm is given which stage it is.
 -- Assumes nothing.
 use mathlib.Core.Path.{sym, ◌∙◌, ap}
-use borrow.Author.Rules.{rules}
 use Rattle.station.specs.declared.heads.steps.Stage.{Stage}
 use Rattle.station.specs.method.HeadStep.{tie_step_at}
 use Rattle.station.proofs.heads.steps.tie_step.Goals as goal

@@ -3,7 +3,6 @@
 use native.Mathlib.Omega.{arith}
 use mathlib.Core.Path.{sym}
 use lib.Seq.{set_out}
-use borrow.Author.Rules.{rules}
 use Rattle.station.proofs.heads.steps.with_mask.Goals as goal
 
 pub returns-else-at-lt-MOST_BRIDGES : goal.returns-else-at-lt-MOST_BRIDGES

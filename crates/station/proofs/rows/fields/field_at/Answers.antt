@@ -4,7 +4,6 @@ use native.Mathlib.Omega.{arith}
 use mathlib.Core.Path.{refl, sym, ◌∙◌}
 use Rattle.station.specs.Row.{quote}
 use Rattle.station.proofs.rows.RowLine.{at_quoted, at_bare, word_fits}
-use borrow.Author.Rules.{rules}
 use Rattle.station.proofs.rows.fields.field_at.Goals as goal
 
 pub overflow_add-at : goal.overflow_add-at

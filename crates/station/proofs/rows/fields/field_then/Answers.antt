@@ -5,7 +5,6 @@ use mathlib.Core.Path.{refl, sym, ◌∙◌}
 use Rattle.laws.proofs.Tests.{false_of_not, true_of_not}
 use Rattle.station.specs.Text.{bytes}
 use Rattle.station.proofs.rows.RowLine.{word_fits, comma_missing, comma_other, comma_found}
-use borrow.Author.Rules.{rules}
 use Rattle.station.proofs.rows.fields.field_then.Goals as goal
 
 pub returns-then-not-field : goal.returns-then-not-field

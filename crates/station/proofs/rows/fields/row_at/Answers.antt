@@ -12,7 +12,6 @@ use Rattle.station.specs.Row.{row}
 use Rattle.station.proofs.numbers.Recognised.{word_yes, word_no}
 use Rattle.station.proofs.rows.RowText.{row_then}
 use Rattle.station.proofs.rows.RowLine.{word_fits, comma_yes, comma_no, comma_value, field_number, field_yes, field_no, field_value, row_found, row_missing}
-use borrow.Author.Rules.{rules}
 use Rattle.station.proofs.rows.fields.row_at.Goals as goal
 
 pub returns-then-not-bridge : goal.returns-then-not-bridge

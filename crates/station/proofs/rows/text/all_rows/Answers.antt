@@ -1,5 +1,5 @@
 -- `rows::text::all_rows` meets its contract. The invariant: the rows of the bridges from b on are left. Assumes nothing.
-use Prim.Native.Nat.{suc, ◌-◌, ◌≤◌, ◌<◌}
+use Prim.Native.Nat.{suc, ◌<◌}
 use native.Mathlib.Numerals.{add-one}
 use native.Mathlib.Omega.{arith}
 use mathlib.Core.Path.{◌≡◌}
@@ -7,10 +7,8 @@ use lib.ListN.{length, drop, get_or}
 use lib.Seq.{drop-length}
 use Rattle.station.specs.Writing.{stretches}
 use Rattle.station.specs.Row.{bridge_rows, mask_rows, bare, rows_text}
-use Rattle.station.specs.Wrote.{Left}
 use Rattle.station.proofs.output.Runs.{left_all, left_wrote, left_none}
 use Rattle.station.proofs.rows.RowRuns.{bridge_rows_step}
-use borrow.Author.Rules.{rules}
 use Rattle.station.proofs.rows.text.all_rows.Goals as goal
 
 pub loop-b-init : goal.loop-b-init

@@ -2,7 +2,6 @@
 use Rattle.station.specs.Text.{bytes}
 use Rattle.station.specs.Row.{print_row}
 use Rattle.station.proofs.output.Runs.{wrote_then}
-use borrow.Author.Rules.{rules}
 use Rattle.station.proofs.rows.text.bare_row.Goals as goal
 
 pub returns : goal.returns

@@ -1,19 +1,16 @@
 -- `rows::text::bridge_rows` meets its contract. The invariant: `from` is busy or past the end, and the rows of the slots from there on are left. Assumes nothing.
-use Prim.Native.Nat.{suc, ◌-◌, ◌≤◌, ◌<◌}
+use Prim.Native.Nat.{suc, ◌-◌}
 use native.Mathlib.Nat.{div-one}
 use native.Mathlib.Numerals.{add-one}
 use native.Mathlib.Omega.{arith}
 use mathlib.Core.Path.{◌≡◌, refl, sym, ap}
-use mathlib.Core.Bool.{true, false}
-use Rattle.station.specs.Head.{has_bit}
+use mathlib.Core.Bool.{false}
 use Rattle.station.specs.Writing.{stretches}
 use Rattle.station.specs.Row.{row, print_row, bridge_rows, bare}
 use Rattle.station.specs.method.Runs.{stretches_from}
-use Rattle.station.specs.Wrote.{Left}
 use Rattle.station.proofs.write.MaskRuns.{busy_found, busy_high, free_high, from_next_busy, NextRun, next_run}
 use Rattle.station.proofs.output.Runs.{left_all, left_wrote, left_none}
 use Rattle.station.proofs.rows.RowRuns.{row_step}
-use borrow.Author.Rules.{rules}
 use Rattle.station.proofs.rows.text.bridge_rows.Goals as goal
 
 pub loop-from-init : goal.loop-from-init

@@ -1,8 +1,6 @@
 -- `write_rows_by_value` meets its contract. Assumes nothing.
 use mathlib.Core.Path.{sym, ◌∙◌}
-use Rattle.laws.proofs.Tests.{false_of_not, true_of_not}
 use Rattle.station.proofs.rows.RowRuns.{rows_too_short, rows_out_of_limits, rows_written_lem}
-use borrow.Author.Rules.{rules}
 use Rattle.station.proofs.rows.text.write_rows_by_value.Goals as goal
 
 pub returns-then-out-lt-LEAST_OUTPUT : goal.returns-then-out-lt-LEAST_OUTPUT
