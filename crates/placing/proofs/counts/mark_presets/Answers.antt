@@ -25,10 +25,10 @@ pub bounds-presets-i : goal.bounds-presets-i
 bounds-presets-i c = omega arith
 
 pub overflow_cast-n : goal.overflow_cast-n
-overflow_cast-n c = omega (arith, c.struct_known-1.given)
+overflow_cast-n c = omega arith
 
 pub bounds-used-n : goal.bounds-used-n
-bounds-used-n c = omega (arith, c.struct_known-1.given)
+bounds-used-n c = omega arith
 
 pub overflow_add-i : goal.overflow_add-i
 overflow_add-i c = omega arith
@@ -41,7 +41,7 @@ loop-i-preserved c = let l = c.loop-i in
     let a = c.args in (
       omega arith,
       l.invariant.1,
-      beside_more _ l.invariant.2 (omega (arith, c.struct_known-1.given))
+      beside_more _ l.invariant.2 (omega arith)
           (sym (ap (λ (p : Preset). p.number) (preset_at_lem a.head.count a.presets l.i (omega arith)))),
     )
 

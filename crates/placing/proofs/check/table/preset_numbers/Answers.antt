@@ -23,10 +23,10 @@ pub bounds-presets-i : goal.bounds-presets-i
 bounds-presets-i c = omega arith
 
 pub overflow_cast-n : goal.overflow_cast-n
-overflow_cast-n c = omega (arith, c.struct_known-1.given)
+overflow_cast-n c = omega arith
 
 pub bounds-numbers-n : goal.bounds-numbers-n
-bounds-numbers-n c = omega (arith, c.struct_known-1.given)
+bounds-numbers-n c = omega arith
 
 pub overflow_add-numbers : goal.overflow_add-numbers
 overflow_add-numbers c = let a = c.args in
@@ -34,7 +34,7 @@ overflow_add-numbers c = let a = c.args in
     rw l.invariant.2 (omega (arith, numbered_le (map preset_in (take a.head.count a.presets)) (record_at a.presets l.i).number l.i))
 
 pub bounds-numbers-n-in-loop-i : goal.bounds-numbers-n-in-loop-i
-bounds-numbers-n-in-loop-i c = omega (arith, c.struct_known-1.given)
+bounds-numbers-n-in-loop-i c = omega arith
 
 pub overflow_add-i : goal.overflow_add-i
 overflow_add-i c = omega arith
