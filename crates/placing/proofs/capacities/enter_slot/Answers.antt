@@ -35,9 +35,9 @@ loop-r-preserved c = let l = c.loop-r in
     let here = l.invariant.2.rest l.r (omega arith) in
     elim c.if-r-free.branch [ then-r-free w ↦ (
       omega arith,
-      rw w.2 (simp length-set l.invariant.1),
-      rw w.2 (stored_more l.invariant.2 (omega arith) (omega (arith, l.invariant.1)) (omega (arith, here, ap bit (ltb_yes l.r free w.if-r-free.true)))),
-    ) | else-r-free w ↦ (omega arith, rw w.1 l.invariant.1, rw w.1 (stored_kept l.invariant.2 (omega (arith, here, ap bit (ltb_no l.r free w.if-r-free.false))))) ]
+      rw w.entries-is (simp length-set l.invariant.1),
+      rw w.entries-is (stored_more l.invariant.2 (omega arith) (omega (arith, l.invariant.1)) (omega (arith, here, ap bit (ltb_yes l.r free w.if-r-free.true)))),
+    ) | else-r-free w ↦ (omega arith, rw w.entries-is l.invariant.1, rw w.entries-is (stored_kept l.invariant.2 (omega (arith, here, ap bit (ltb_no l.r free w.if-r-free.false))))) ]
 
 pub returns : goal.returns
 returns c = let l = c.loop-r in (l.invariant.1, λ q low. l.invariant.2.done q (omega arith) (omega (arith, c.loop-r-test.false)))

@@ -32,14 +32,14 @@ loop-r-preserved c = let l = c.loop-r in
     let free = c.args.free in
     elim c.if-r-free.branch [ then-r-free w ↦ (
       omega arith,
-      rw w.3 (simp length-set l.invariant.1),
-      rw w.3 (λ long.
+      rw w.entries-is (simp length-set l.invariant.1),
+      rw w.entries-is (λ long.
           let here = (l.invariant.2 long).rest l.r (omega arith) in
-          stored_more (l.invariant.2 long) (omega arith) (omega (arith, l.invariant.1)) (omega (arith, here, w.2.ensures, ap bit (ltb_yes l.r free w.if-r-free.true)))),
+          stored_more (l.invariant.2 long) (omega arith) (omega (arith, l.invariant.1)) (omega (arith, here, w.less_byte.ensures, ap bit (ltb_yes l.r free w.if-r-free.true)))),
     ) | else-r-free w ↦ (
       omega arith,
-      rw w.1 l.invariant.1,
-      rw w.1 (λ long. let here = (l.invariant.2 long).rest l.r (omega arith) in stored_kept (l.invariant.2 long) (omega (arith, here, ap bit (ltb_no l.r free w.if-r-free.false)))),
+      rw w.entries-is l.invariant.1,
+      rw w.entries-is (λ long. let here = (l.invariant.2 long).rest l.r (omega arith) in stored_kept (l.invariant.2 long) (omega (arith, here, ap bit (ltb_no l.r free w.if-r-free.false)))),
     ) ]
 
 pub returns : goal.returns

@@ -12,11 +12,8 @@ use Rattle.laws.specs.Lists.{at}
 use Rattle.laws.specs.method.Capacities.{AtLeast}
 use Rattle.laws.proofs.Stores.{Stored, stored_none, stored_more, stored_zeros}
 use Rattle.laws.proofs.Capacities.{at_least_none, at_least_le, at_least_on, at_least_ext}
+use Rattle.placing.proofs.capacities.slot_counts.Invariants.{number_at}
 use Rattle.placing.proofs.capacities.slot_counts.Goals as goal
-
--- the free number of a slot, by its mask and its room
-abbrev number_at : List ℕ → List ℕ → ℕ → ℕ
-number_at masks spare s = min (ones (get_or masks s 0)) (get_or spare s 0)
 
 pub loop-s-init : goal.loop-s-init
 loop-s-init c = let x : ℕ → ℕ = number_at c.args.masks.now c.args.spare.now in

@@ -14,6 +14,10 @@ use Rattle.laws.proofs.Stores.{Stored, stored_none, stored_more, stored_zeros}
 use Rattle.laws.proofs.Capacities.{at_least_none, at_least_le, at_least_on, at_least_ext}
 use Rattle.placing.proofs.capacities.slot_counts.Given as goal
 
+-- the free number of a slot, by its mask and its room
+abbrev pub number_at : List ℕ → List ℕ → ℕ → ℕ
+number_at masks spare s = min (ones (get_or masks s 0)) (get_or spare s 0)
+
 abbrev pub invariant-loop-s : goal.invariant-loop-s
 invariant-loop-s l = (l.s ≤ l.slots) × (length l.out ≡ 64) × Stored (replicate 64 0) (number_at l.masks l.spare) 0 l.s l.out × AtLeast l.entries l.s (number_at l.masks l.spare)
 
