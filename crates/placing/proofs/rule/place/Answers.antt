@@ -4,7 +4,7 @@ use Prim.Native.Nat.{ℕ, ◌≤◌, ◌<◌, ◌+◌, ◌-◌, ◌*◌}
 use native.Mathlib.Omega.{arith}
 use mathlib.Core.Path.{◌≡◌, refl, sym, ◌∙◌, ap}
 use mathlib.Core.Logic.{⊎_elim}
-use mathlib.Core.Bool.{true}
+use mathlib.Core.Bool.{Bool, true}
 use mathlib.Core.List.{List}
 use lib.ListN.{length, take}
 use borrow.Author.Rules as author
@@ -48,10 +48,10 @@ loop-s-init c =
       l.2,
       l.3,
       refl,
-      search author.needs,
+      search author.rules,
       c.enter-top.ensures.0,
       c.enter-top.ensures.2,
-      λ n enough h most clean fill. progress_none a.hold a.bridges a.free a.counts n a.first a.early a.late a.table.now a.k c.enter-top.new.0 c.enter-top.result h most,
+      λ n enough h most clean fill. progress_none a.hold a.bridges a.free a.counts n a.first a.early a.late a.table.now a.k c.enter-top.new.levels c.enter-top.result h most,
     )
 
 pub highest-top-requires : goal.highest-top-requires
@@ -65,16 +65,15 @@ unfilled : (B : ℕ) (masks counts : List ℕ) (s : ℕ) → at masks s ≡ 0 �
 unfilled B masks counts s e l = omega (arith, count_none B (free_in masks s) (λ b m. ap (λ (n : ℕ). has_bit n b) e ∙ has_bit_zero b))
 
 -- the table after all slots
-placed : (c : goal.At-loop-s)
-    → let a = c.args in
-    SlotsPlaced a.bridges (cell_of (tie_of a.hold) a.bridges a.free a.counts (take a.k a.needs) a.first a.early a.late a.table.now) a.table.now c.loop-s.table a.slots
-    → c.loop-s.table ≡ placed_within (tie_of a.hold) a.slots a.bridges a.free a.counts a.needs a.k a.first a.early a.late a.table.now
+placed : (hold : Bool) (slots bridges : ℕ) (free counts needs : List ℕ) (k : ℕ) (first early late t table : List ℕ) → placeable slots bridges needs k (length t) ≡ true
+    → slots ≤ 64 → bridges ≤ 8 → 512 ≤ length t
+    → SlotsPlaced bridges (cell_of (tie_of hold) bridges free counts (take k needs) first early late t) t table slots
+    → table ≡ placed_within (tie_of hold) slots bridges free counts needs k first early late t
 unfolding placed_in
-placed c all =
-    let a = c.args in
-    slots_all a.bridges (cell_of (tie_of a.hold) a.bridges a.free a.counts (take a.k a.needs) a.first a.early a.late a.table.now) a.table.now
-    c.loop-s.table a.slots (omega (arith, c.loop-s.invariant.4, frame_within a.slots a.bridges c.loop-s.invariant.1 c.loop-s.invariant.2)) all
-    ∙ sym (placed_within_lem (tie_of a.hold) a.slots a.bridges a.free a.counts a.needs a.k a.first a.early a.late a.table.now (within c))
+placed hold slots bridges free counts needs k first early late t table within few few_b long all =
+    slots_all bridges (cell_of (tie_of hold) bridges free counts (take k needs) first early late t) t
+    table slots (omega (arith, long, frame_within slots bridges few few_b)) all
+    ∙ sym (placed_within_lem (tie_of hold) slots bridges free counts needs k first early late t within)
 
 pub returns-then-clean-s : goal.returns-then-clean-s
 returns-then-clean-s c = 
@@ -83,14 +82,14 @@ returns-then-clean-s c =
     CleanFrom a.clean a.slots a.bridges a.free a.table.now → Fillable a.slots a.bridges a.free a.counts
     → Progress a.hold a.bridges a.free a.counts (take a.k a.needs) a.first a.early a.late a.table.now a.k l.s l.table l.due l.levels l.top l.held =
         λ clean fill. let a = c.args in
-    c.loop-s.invariant.9 a.needs (omega (arith, c.loop-s.invariant.3, c.well_formed.1.1.1.1.0)) (standing_all a.needs c.enter-top.new.0 a.k c.enter-top.ensures.1)
+    c.loop-s.invariant.9 a.needs (omega (arith, c.loop-s.invariant.3, c.well_formed.1.1.1.1.0)) (standing_all a.needs c.enter-top.new.levels a.k c.enter-top.ensures.1)
     c.enter-top.ensures.3 clean fill in
     λ clean fill.
     let l = c.loop-s in
     let a = c.args in
     let now = so_far clean fill in
     let none : c.highest-top.result ≡ 0 = c.if-top-eq0.true in
-    placed c
+    placed a.hold a.slots a.bridges a.free a.counts a.needs a.k a.first a.early a.late a.table.now l.table (sym c.placeable.ensures ∙ c.if-not-placeable.false) l.invariant.1 l.invariant.2 l.invariant.4
     (progress_idle a.hold a.bridges a.free a.counts a.needs a.first a.early a.late a.table.now a.k l.s l.table l.due l.levels l.top l.held now l.invariant.3
     (rw none at (most_of l.levels (at (reached a.hold a.counts (take a.k a.needs) l.s).needs) l.top c.highest-top.result
     now.levelled l.invariant.8 now.most c.highest-top.ensures.1))
@@ -131,28 +130,28 @@ loop-s-preserved c = let top = c.highest-top.result in
     let l = c.loop-s in
     let a = c.args in
     let low : top < 65 = omega (arith, c.highest-top.ensures.0, l.invariant.8) in
-    elim c.if-mask-ne0.branch [ then-mask-ne0 w ↦ rw (c.held_after-held.ensures, w.10, w.11, w.12, w.13) (
+    elim c.if-mask-ne0.branch [ then-mask-ne0 w ↦ rw (c.held_after-held.ensures, w.table-is, w.due-is, w.levels-is, w.chosen-is) (
       omega arith,
       l.invariant.1,
       l.invariant.2,
       l.invariant.3,
       l.invariant.4,
-      w.7.ensures.0 ∙ l.invariant.5,
-      w.7.ensures.1,
-      w.2.ensures.0,
+      w.write_row.ensures.0 ∙ l.invariant.5,
+      w.write_row.ensures.1,
+      w.choose-chosen.ensures.0,
       low,
       λ n enough h m clean fill.
           let now = l.invariant.9 n enough h m clean fill in
           let rest : ℕ → ℕ = at (reached a.hold a.counts (take a.k n) l.s).needs in
           let most : (i : ℕ) → i < 64 → rest i ≤ top = most_of l.levels rest l.top top now.levelled l.invariant.8 now.most c.highest-top.ensures.1 in
-          let did = w.2.ensures.1 rest now.levelled most in
+          let did = w.choose-chosen.ensures.1 rest now.levelled most in
           progress_more a.hold a.bridges a.free a.counts n a.first a.early a.late a.table.now a.k enough l.invariant.3
-          l.s l.table l.due l.levels l.top l.held now w.2.result
+          l.s l.table l.due l.levels l.top l.held now w.choose-chosen.result
           did.picks
-          w.7.last.0 w.7.last.1.1.1.1.1.0 w.2.last.0 top most
-          (w.7.ensures.3 (λ e b q free. now.table.after (l.s * a.bridges + b) (omega arith) ∙ clean l.s (ge_of l.s a.clean e) (omega arith) b q free))
-          w.7.ensures.2 did.levels,
-    ) | else-mask-ne0 w ↦ rw (c.held_after-held.ensures, w.1, w.2, w.3, w.4) (
+          w.write_row.new.table w.write_row.new.due w.choose-chosen.new.levels top most
+          (w.write_row.ensures.3 (λ e b q free. now.table.after (l.s * a.bridges + b) (omega arith) ∙ clean l.s (ge_of l.s a.clean e) (omega arith) b q free))
+          w.write_row.ensures.2 did.levels,
+    ) | else-mask-ne0 w ↦ rw (c.held_after-held.ensures, w.table-is, w.due-is, w.levels-is, w.chosen-is) (
       omega arith,
       l.invariant.1,
       l.invariant.2,
@@ -179,8 +178,10 @@ returns c =
     CleanFrom a.clean a.slots a.bridges a.free a.table.now → Fillable a.slots a.bridges a.free a.counts
     → Progress a.hold a.bridges a.free a.counts (take a.k a.needs) a.first a.early a.late a.table.now a.k l.s l.table l.due l.levels l.top l.held =
         λ clean fill. let a = c.args in
-    c.loop-s.invariant.9 a.needs (omega (arith, c.loop-s.invariant.3, c.well_formed.1.1.1.1.0)) (standing_all a.needs c.enter-top.new.0 a.k c.enter-top.ensures.1)
+    c.loop-s.invariant.9 a.needs (omega (arith, c.loop-s.invariant.3, c.well_formed.1.1.1.1.0)) (standing_all a.needs c.enter-top.new.levels a.k c.enter-top.ensures.1)
     c.enter-top.ensures.3 clean fill in
     λ clean fill.
+    let l = c.loop-s in
+    let a = c.args in
     let end : c.loop-s.s ≡ c.args.slots = omega arith in
-    placed c (rw end at (so_far clean fill).table)
+    placed a.hold a.slots a.bridges a.free a.counts a.needs a.k a.first a.early a.late a.table.now l.table (sym c.placeable.ensures ∙ c.if-not-placeable.false) l.invariant.1 l.invariant.2 l.invariant.4 (rw end at (so_far clean fill).table)

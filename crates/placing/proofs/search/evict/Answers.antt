@@ -31,4 +31,4 @@ returns c =
         let a = c.args in
     within a.head a.k (length a.table.now) c.if-k-gt-MOST_PLACED.false (sym c.in_limits.ensures ∙ c.if-not-in_limits.false) in
     let a = c.args in
-    searched_found a.head a.presets a.clock a.needs a.k a.table.now c.evict_in_limits.result looked.evict_in_limits.ensures
+    searched_found a.head a.presets a.clock a.needs a.k a.table.now c.evict_in_limits.result looked c.evict_in_limits.ensures

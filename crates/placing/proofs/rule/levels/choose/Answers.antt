@@ -46,15 +46,15 @@ bounds-levels-below-in-loop-l c = omega arith
 
 pub returns-then-rest-eq0 : goal.returns-then-rest-eq0
 returns-then-rest-eq0 c = 
-    let gone : let l = c.loop in
+    let gone : let l = c.loop-l in
     let a = c.args in
-    let next = c.first-held.result.jobs in
+    let next = c.first_held-first.result.jobs in
     let off = set l.levels l.l (bit_xor (at l.levels l.l) next) in
     (n : ℕ → ℕ) → Levelled a.levels.now n → ((i : ℕ) → i < 64 → n i ≤ a.top)
-    → Gone (tie_hold 0 (has_bit a.held)) n a.d (set off (l.l - 1) (bit_or (at off (l.l - 1)) next)) (l.l - 1) c.first-held.result.more (bit_or l.served next) =
-        λ n h most. let l = c.loop in
+    → Gone (tie_hold 0 (has_bit a.held)) n a.d (set off (l.l - 1) (bit_or (at off (l.l - 1)) next)) (l.l - 1) c.first_held-first.result.more (bit_or l.served next) =
+        λ n h most. let l = c.loop-l in
     let a = c.args in
-    let gave = c.first-held in
+    let gave = c.first_held-first in
     rw (sym gave.ensures.1) at (gone_more (tie_hold 0 (has_bit a.held)) n a.d l.levels l.l l.rest l.served (omega arith) (l.invariant.2 n h most) (omega arith) gave.result.jobs
     gave.ensures.0 l.invariant.1) in
     let l = c.loop-l in
@@ -79,15 +79,15 @@ loop-l-smaller c = omega (arith, c.highest-l.ensures.0)
 
 pub loop-l-preserved : goal.loop-l-preserved
 loop-l-preserved c = 
-    let gone : let l = c.loop in
+    let gone : let l = c.loop-l in
     let a = c.args in
-    let next = c.first-held.result.jobs in
+    let next = c.first_held-first.result.jobs in
     let off = set l.levels l.l (bit_xor (at l.levels l.l) next) in
     (n : ℕ → ℕ) → Levelled a.levels.now n → ((i : ℕ) → i < 64 → n i ≤ a.top)
-    → Gone (tie_hold 0 (has_bit a.held)) n a.d (set off (l.l - 1) (bit_or (at off (l.l - 1)) next)) (l.l - 1) c.first-held.result.more (bit_or l.served next) =
-        λ n h most. let l = c.loop in
+    → Gone (tie_hold 0 (has_bit a.held)) n a.d (set off (l.l - 1) (bit_or (at off (l.l - 1)) next)) (l.l - 1) c.first_held-first.result.more (bit_or l.served next) =
+        λ n h most. let l = c.loop-l in
     let a = c.args in
-    let gave = c.first-held in
+    let gave = c.first_held-first in
     rw (sym gave.ensures.1) at (gone_more (tie_hold 0 (has_bit a.held)) n a.d l.levels l.l l.rest l.served (omega arith) (l.invariant.2 n h most) (omega arith) gave.result.jobs
     gave.ensures.0 l.invariant.1) in
     let l = c.loop-l in

@@ -60,8 +60,8 @@ loop-i-preserved c = let level = c.level_of-l in
       omega arith,
       simp length-set l.invariant.1,
       rw (power, level.ensures.0) (standing_more n l.levels l.i (omega (arith, level.ensures, l.invariant.1)) l.invariant.2),
-      elim c.if-top-l.branch [ then-top-l w ↦ omega (arith, w.1, level.ensures) | else-top-l w ↦ omega (arith, w.1, l.invariant.3) ],
-      elim c.if-top-l.branch [ then-top-l w ↦ most c.if-top-l.top (omega (arith, w.1, w.if-top-l.true)) (omega (arith, w.1, level.ensures)) | else-top-l w ↦ most c.if-top-l.top (omega (arith, w.1)) (omega (arith, w.1, w.if-top-l.false, level.ensures)) ],
+      elim c.if-top-l.branch [ then-top-l w ↦ omega (arith, w.top-is, level.ensures) | else-top-l w ↦ omega (arith, w.top-is, l.invariant.3) ],
+      elim c.if-top-l.branch [ then-top-l w ↦ most c.if-top-l.top (omega (arith, w.top-is, w.if-top-l.true)) (omega (arith, w.top-is, level.ensures)) | else-top-l w ↦ most c.if-top-l.top (omega (arith, w.top-is)) (omega (arith, w.top-is, w.if-top-l.false, level.ensures)) ],
     )
 
 pub returns : goal.returns

@@ -17,7 +17,7 @@ use Rattle.placing.proofs.rule.levels.enter.Given as goal
 abbrev pub invariant-loop-i : goal.invariant-loop-i
 invariant-loop-i l = (l.i ≤ l.k)
     × (length l.levels ≡ 65)
-    × ((l j : ℕ) → has_bit (at l.levels l) j ≡ (ltb j l.i && eqb (at l.needs j) l))
+    × ((v j : ℕ) → has_bit (at l.levels v) j ≡ (ltb j l.i && eqb (at l.needs j) v))
     × (l.top < 65)
     × ((j : ℕ) → j < l.i → at l.needs j ≤ l.top)
 

@@ -41,8 +41,8 @@ loop-rest-preserved c = let l = c.loop-rest in
     let fewer : (b : ℕ) → has_bit (bit_and l.rest (l.rest - 1)) b ≡ (has_bit l.rest b && not (eqb b z)) = rw at-z (cleared 8 l.rest some l.invariant.0) in (
       omega (arith, l.invariant.0, c.without_next-rest.ensures, and_le_l l.rest (l.rest - 1)),
       rw c.without_next-rest.ensures
-          (elim c.if-b-bridges.branch [ then-b-bridges w ↦ rw w.1 (emptying_next t a.start a.bridges (has_bit a.mask) l.table (has_bit l.rest) (has_bit (bit_and l.rest (l.rest - 1))) z l.invariant.1 here fewer
-          w.if-b-bridges.true (omega arith)) | else-b-bridges w ↦ rw w.1 (emptying_past t a.start a.bridges (has_bit a.mask) l.table (has_bit l.rest) (has_bit (bit_and l.rest (l.rest - 1))) z l.invariant.1 here fewer
+          (elim c.if-b-bridges.branch [ then-b-bridges w ↦ rw w.table-is (emptying_next t a.start a.bridges (has_bit a.mask) l.table (has_bit l.rest) (has_bit (bit_and l.rest (l.rest - 1))) z l.invariant.1 here fewer
+          w.if-b-bridges.true (omega arith)) | else-b-bridges w ↦ rw w.table-is (emptying_past t a.start a.bridges (has_bit a.mask) l.table (has_bit l.rest) (has_bit (bit_and l.rest (l.rest - 1))) z l.invariant.1 here fewer
           w.if-b-bridges.false) ]),
     )
 

@@ -23,7 +23,7 @@ loop-jobs-init c = let a = c.args in
     let t = a.table.now in
     let v = due_cells a.due.now a.early.now a.late.now in (
       omega arith,
-      serving_none t a.start a.bridges a.chosen (has_bit a.mask) v a.due.now (search author.needs) c.requires.2 t a.mask
+      serving_none t a.start a.bridges a.chosen (has_bit a.mask) v a.due.now (search author.rules) c.requires.2 t a.mask
           (filled_none t a.start a.bridges (has_bit a.chosen) (has_bit a.mask) v),
     )
 
@@ -58,13 +58,13 @@ loop-jobs-preserved c = let l = c.loop-jobs in
     value_of t a.start a.bridges a.chosen (has_bit a.mask) v a.due.now l.table l.free l.jobs l.due l.invariant.1 some
     a.early.now a.late.now c.next_job-i.result here c.next_cell-value.result c.next_cell-value.ensures.0 in
     elim c.if-b-bridges.branch [ then-b-bridges w ↦ (
-      omega (arith, w.3, w.1.ensures, and_le_l l.free (l.free - 1)),
-      rw (w.2, w.3, w.1.ensures, c.without_lowest-jobs.ensures, c.next_cell-value.ensures.1, here)
+      omega (arith, w.free-is, w.without_next-free.ensures, and_le_l l.free (l.free - 1)),
+      rw (w.table-is, w.free-is, w.without_next-free.ensures, c.without_lowest-jobs.ensures, c.next_cell-value.ensures.1, here)
           (serving_next t a.start a.bridges a.chosen (has_bit a.mask) v a.due.now l.table l.free l.jobs l.due l.invariant.1 some
           l.invariant.0 c.next_free-b.result c.next_free-b.ensures w.if-b-bridges.true (omega arith) (omega arith) c.next_cell-value.result value),
     ) | else-b-bridges w ↦ (
-      omega (arith, w.2),
-      rw (w.1, w.2, c.without_lowest-jobs.ensures, c.next_cell-value.ensures.1, here)
+      omega (arith, w.free-is),
+      rw (w.table-is, w.free-is, c.without_lowest-jobs.ensures, c.next_cell-value.ensures.1, here)
           (serving_full t a.start a.bridges a.chosen (has_bit a.mask) v a.due.now l.table l.free l.jobs l.due l.invariant.1 some
           (λ b h. none_below_lowest 8 l.free l.invariant.0 b (let over = w.if-b-bridges.false in omega (arith, h, over, c.next_free-b.ensures)))),
     ) ]
@@ -91,7 +91,7 @@ returns-then-not-empties c =
       all.1,
       λ clean.
           filled_clean a.table.now a.start a.bridges (has_bit a.chosen) (has_bit a.mask) (due_cells a.due.now a.early.now a.late.now) 64
-          l.table (has_bit l.free) all.0 (clean (false_of_not _ c.if-not-empties.true)),
+          l.table (has_bit l.free) all.0 (clean (c.if-not-empties.true)),
     )
 
 pub empty_row-requires : goal.empty_row-requires
@@ -119,5 +119,5 @@ returns c =
       all.1,
       λ clean.
           filled_all a.table.now a.start a.bridges (has_bit a.chosen) (has_bit a.mask) (due_cells a.due.now a.early.now a.late.now) 64
-          l.table (has_bit l.free) all.0 c.empty_row.new.0 c.empty_row.ensures,
+          l.table (has_bit l.free) all.0 c.empty_row.new.table c.empty_row.ensures,
     )

@@ -45,9 +45,9 @@ loop-b-preserved c = let a = c.args in
     let v = get_or a.table.now (a.from + c.loop-b.b) 0 in
     let next = mask_more a.table.now a.from c.loop-b.b in (
       omega arith,
-      elim c.if-v-eq0.branch [ then-v-eq0 w ↦ omega (arith, next, ap (λ t. only t (2 ^ c.loop-b.b)) (eq-eqb v 0 w.if-v-eq0.true), w.1.ensures, w.2) | else-v-eq0 w ↦ omega (arith, w, next, ap (λ t. only t (2 ^ c.loop-b.b)) (ne_eqb v 0 w.if-v-eq0.false)) ],
-      elim c.if-b-bridges.branch [ then-b-bridges w ↦ omega (arith, w, w.1.ensures.1) | else-b-bridges w ↦ omega (arith, w) ],
-      elim c.if-b-bridges.branch [ then-b-bridges w ↦ omega (arith, w, w.1.ensures.0, held_here a.table.now a.from a.bridges c.loop-b.b w.if-b-bridges.true) | else-b-bridges w ↦ omega (arith, w, held_past a.table.now a.from a.bridges c.loop-b.b w.if-b-bridges.false) ],
+      elim c.if-v-eq0.branch [ then-v-eq0 w ↦ omega (arith, next, ap (λ t. only t (2 ^ c.loop-b.b)) (eq-eqb v 0 w.if-v-eq0.true), w.bridge_bit-mask.ensures, w.mask-is) | else-v-eq0 w ↦ omega (arith, w, next, ap (λ t. only t (2 ^ c.loop-b.b)) (ne_eqb v 0 w.if-v-eq0.false)) ],
+      elim c.if-b-bridges.branch [ then-b-bridges w ↦ omega (arith, w.held-is, w.held_cell-held.ensures.1) | else-b-bridges w ↦ omega (arith, w) ],
+      elim c.if-b-bridges.branch [ then-b-bridges w ↦ omega (arith, w.held-is, w.held_cell-held.ensures.0, held_here a.table.now a.from a.bridges c.loop-b.b w.if-b-bridges.true) | else-b-bridges w ↦ omega (arith, w, held_past a.table.now a.from a.bridges c.loop-b.b w.if-b-bridges.false) ],
     )
 
 pub returns : goal.returns

@@ -39,13 +39,13 @@ pub loop-r-preserved : goal.loop-r-preserved
 loop-r-preserved c = let some = c.loop-r-test.true in
     let a = c.args in
     let w = c.through_chain-walked in
-    let v = w.new.1.1.1 in
+    let v = w.new in
     let r = c.loop-r.r in (
       omega (arith, c.loop-r.invariant.0),
       w.ensures.0,
       λ of C. remains_after a.demand (downward a.n of) (search_of a.free.now a.counts.now a.entries.now a.kept) (downward r of)
           (search_of c.loop-r.free c.loop-r.counts c.loop-r.entries c.loop-r.current) (c.loop-r.invariant.2 of C) (of (r - 1)) (downward (r - 1) of)
-          {q = search_of v.0 v.1.0 v.1.1.0 w.result} (downward_less r of some)
+          {q = search_of v.free v.counts v.entries w.result} (downward_less r of some)
           (w.ensures.1 (of (r - 1)) (C (r - 1) (omega (arith, some, c.loop-r.invariant.0, c.requires.0)))),
     )
 

@@ -30,7 +30,7 @@ lacks-requires c = (c.requires.2, omega (arith, c.requires.3.few))
 pub overflow_sub-entries : goal.overflow_sub-entries
 overflow_sub-entries c = 
     let few : let a = c.args in get_or a.counts.now a.slot 0 < 8 =
-        omega (arith, c.if1.false) in
+        omega (arith, c.if-x-ge-MOST_BRIDGES.false) in
     let x = get_or c.args.counts.now c.args.slot 0 in
     omega (arith, get_or-set_same c.args.entries.now x (get_or c.args.entries.now x 0 + 1) 0 (omega (arith, few, c.requires.3.table.long)))
 
@@ -39,7 +39,7 @@ returns-then-lacks c =
     let searchAt : Search =
         search_of c.args.free.now c.args.counts.now c.args.entries.now c.args.kept in
     let few : let a = c.args in get_or a.counts.now a.slot 0 < 8 =
-        omega (arith, c.if1.false) in
+        omega (arith, c.if-x-ge-MOST_BRIDGES.false) in
     let a = c.args in
     let S = c.requires.3 in
     step_back a.demand searchAt a.slot a.bridge S c.requires.0 few (tried_back a.demand searchAt a.slot a.bridge S c.requires.0 few (omega arith))
@@ -53,7 +53,7 @@ returns c =
     let searchAt : Search =
         search_of c.args.free.now c.args.counts.now c.args.entries.now c.args.kept in
     let few : let a = c.args in get_or a.counts.now a.slot 0 < 8 =
-        omega (arith, c.if1.false) in
+        omega (arith, c.if-x-ge-MOST_BRIDGES.false) in
     let a = c.args in
     step_taken a.demand searchAt a.slot a.bridge c.requires.3 c.requires.0 few _
     (ap (λ (m : ℕ). record { free = set a.free.now a.slot (bit_or (get_or a.free.now a.slot 0) m); counts = set a.counts.now a.slot (get_or a.counts.now a.slot 0 + 1); evicted = a.kept.evicted + 1 }) c.bridge_bit.ensures)

@@ -35,11 +35,11 @@ unfolding places_of
 returns c = 
     let looked : (c.args.head.slots ≤ 64) × (c.args.head.bridges ≤ 8) × (c.args.head.count ≤ 32) × (512 ≤ length c.args.table.now) =
         limits_of c.args.head.slots c.args.head.bridges c.args.head.count (length c.args.table.now) c.requires.0 in
-    let v = c.through_ranks-end.new.1.1.1.1 in
+    let v = c.through_ranks-end.new in
     let a = c.args in
     let h = head_in a.head a.presets in
     let long : a.head.count ≤ length a.presets = omega (arith, looked.2, c) in
     walked_order h a.clock a.table.now c.ranks_of-ranks.result a.demand a.start
-    {e = search_of v.0 v.1.0 v.1.1.0 c.through_ranks-end.result}
+    {e = search_of v.free v.counts v.entries c.through_ranks-end.result}
     (λ m. c.ranks_of-ranks.ensures m ∙ ranks_record a.head a.presets long m) c.requires.1 (sym (presets_count a.head a.presets long))
     (c.through_ranks-end.ensures (λ q. places_from a.table.now a.head.bridges a.clock c.ranks_of-ranks.result q a.demand.slots) c.link_slots.ensures.1)
