@@ -201,7 +201,7 @@ module _ (h : Head) (few : h.bridges ≤ most_bridges) (none_there : h.supply �
   both_valid = sym (ap (λ (k : ℕ). valid (with_supply h k)) none_there)
 
   plan_both : (t : List ℕ) → plan_uncapped (with_supply h 8) t ≡ plan_uncapped h t
-  unfolding plan_uncapped plan_fits_uncapped needs_uncapped grants_uncapped planned_uncapped placing written
+  unfolding plan_uncapped needs_uncapped grants_uncapped planned_uncapped placing written
   plan_both t =
       ap (λ (c : Bool).
       elim (first_of (try too_short (ltb (length t) least_cells) ∷ try out_of_limits (not c) ∷ try mandatory_not_feasible (not (plan_fits_uncapped h (mandatories h))) ∷ [])) [
