@@ -43,7 +43,7 @@ loop-s-preserved c = let l = c.loop-s in
     let a = c.args in
     let next = next_row l.s a.bridges in
     let many : List ℕ → ℕ = λ u. count 256 (marked u) in
-    elim c.if-has_calls.branch [ then-has_calls p ↦ (omega arith, rw p.3 (rw next at p.2.ensures.0), p.4 ∙ omega (arith, l.invariant.2, p.2.ensures.1) ∙ sym (ap many p.3)) | else-has_calls p ↦ (omega arith, rw p.1 (rw next at (marked_past a.bridges l.invariant.1 c.requires.1 (sym c.has_calls.ensures ∙ p.if-has_calls.false))), p.2 ∙ l.invariant.2 ∙ sym (ap many p.1)) ]
+    elim c.if-has_calls.branch [ then-has_calls p ↦ (omega arith, rw p.used-is (rw next at p.mark_slot-jobs.ensures.0), p.jobs-is ∙ omega (arith, l.invariant.2, p.mark_slot-jobs.ensures.1) ∙ sym (ap many p.used-is)) | else-has_calls p ↦ (omega arith, rw p.used-is (rw next at (marked_past a.bridges l.invariant.1 c.requires.1 (sym c.has_calls.ensures ∙ p.if-has_calls.false))), p.jobs-is ∙ l.invariant.2 ∙ sym (ap many p.used-is)) ]
 
 pub returns : goal.returns
 returns c = let l = c.loop-s in

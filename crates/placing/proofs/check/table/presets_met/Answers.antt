@@ -28,7 +28,7 @@ pub returns-then-not-preset_met : goal.returns-then-not-preset_met
 returns-then-not-preset_met c = let a = c.args in
     let i = c.loop-i.i in
     sym (every_not a.head.count _ i (omega arith)
-    (ap (is_met a.counts.now) (preset_at_lem a.head.count a.presets i (omega arith)) ∙ sym c.preset_met.ensures ∙ not-true _ c.if-not-preset_met.true))
+    (ap (is_met a.counts.now) (preset_at_lem a.head.count a.presets i (omega arith)) ∙ sym c.preset_met.ensures ∙ c.if-not-preset_met.true))
 
 pub overflow_add-i : goal.overflow_add-i
 overflow_add-i c = omega arith
@@ -42,7 +42,7 @@ loop-i-preserved c = let a = c.args in
       omega arith,
       omega arith,
       every_more i _ c.loop-i.invariant.2
-          (ap (is_met a.counts.now) (preset_at_lem a.head.count a.presets i (omega arith)) ∙ sym c.preset_met.ensures ∙ not-false _ c.if-not-preset_met.false),
+          (ap (is_met a.counts.now) (preset_at_lem a.head.count a.presets i (omega arith)) ∙ sym c.preset_met.ensures ∙ c.if-not-preset_met.false),
     )
 
 pub returns : goal.returns

@@ -79,19 +79,19 @@ bounds-last-n-then-v-ge-MANDATORY c = omega arith
 pub overflow_cast-place : goal.overflow_cast-place
 overflow_cast-place c = 
     let below : value (at-loop c) < 1280 =
-        fits_below _ _ _ _ (sym c.cell_fits.ensures ∙ not-false _ c.if-not-cell_fits.false) in
+        fits_below _ _ _ _ (sym c.cell_fits.ensures ∙ c.if-not-cell_fits.false) in
     omega (arith, below)
 
 pub offset_bounds-counts-place : goal.offset_bounds-counts-place
 offset_bounds-counts-place c = 
     let below : value (at-loop c) < 1280 =
-        fits_below _ _ _ _ (sym c.cell_fits.ensures ∙ not-false _ c.if-not-cell_fits.false) in
+        fits_below _ _ _ _ (sym c.cell_fits.ensures ∙ c.if-not-cell_fits.false) in
     omega (arith, below)
 
 pub bounds-counts-place : goal.bounds-counts-place
 bounds-counts-place c = 
     let below : value (at-loop c) < 1280 =
-        fits_below _ _ _ _ (sym c.cell_fits.ensures ∙ not-false _ c.if-not-cell_fits.false) in
+        fits_below _ _ _ _ (sym c.cell_fits.ensures ∙ c.if-not-cell_fits.false) in
     omega (arith, below)
 
 pub overflow_add-counts : goal.overflow_add-counts
@@ -108,7 +108,7 @@ overflow_add-counts c =
 pub bounds-counts-place-then-v-ge-MANDATORY : goal.bounds-counts-place-then-v-ge-MANDATORY
 bounds-counts-place-then-v-ge-MANDATORY c = 
     let below : value (at-loop c) < 1280 =
-        fits_below _ _ _ _ (sym c.cell_fits.ensures ∙ not-false _ c.if-not-cell_fits.false) in
+        fits_below _ _ _ _ (sym c.cell_fits.ensures ∙ c.if-not-cell_fits.false) in
     omega (arith, below)
 
 pub overflow_add-at : goal.overflow_add-at
@@ -127,7 +127,7 @@ pub loop-b-preserved : goal.loop-b-preserved
 loop-b-preserved c = let k = at-loop c in
     let a = (begun (at-frame k)).args in
     let l = k.loop in
-    let fits = sym c.cell_fits.ensures ∙ not-false _ c.if-not-cell_fits.false in (
+    let fits = sym c.cell_fits.ensures ∙ c.if-not-cell_fits.false in (
       l.invariant.0,
       l.invariant.1,
       l.invariant.2,
@@ -172,7 +172,7 @@ returns-then-not-cell_fits c = let k = at-loop c in
       rw (sym (fed-is (at-frame k)))
           (cell_unfit a.head.bridges (fed (at-frame k)) a.head.busy a.numbers.now a.table.now
           (slot k) l.b l.at l.counts l.last l.held l.invariant.5 a.head.slots l.invariant.3 (omega arith)
-          (sym c.cell_fits.ensures ∙ not-true _ c.if-not-cell_fits.true)),
+          (sym c.cell_fits.ensures ∙ c.if-not-cell_fits.true)),
       l.invariant.5.counted,
     )
 

@@ -37,12 +37,12 @@ presets_met-requires c = few (begun (scanned c))
 
 pub returns-then-not-presets_met : goal.returns-then-not-presets_met
 returns-then-not-presets_met c = let s = begun (scanned c) in
-    sym (preset_fails (head_of s) (valid_head s) (held (scanned c)) (presets-by c ∙ sym c.presets_met.ensures ∙ not-true _ c.if-not-presets_met.true))
+    sym (preset_fails (head_of s) (valid_head s) (held (scanned c)) (presets-by c ∙ sym c.presets_met.ensures ∙ c.if-not-presets_met.true))
 
 pub returns : goal.returns
 returns c = let s = begun (scanned c) in
     sym (all_but_jobs (head_of s) (valid_head s) (held (scanned c))
     (cells_fit (head_of s) (valid_head s) (held (scanned c)) (scanned c).scan.result (first (scanned c)) c.if-scan-cells.false)
-    (presets-by c ∙ sym c.presets_met.ensures ∙ not-false _ c.if-not-presets_met.false)
+    (presets-by c ∙ sym c.presets_met.ensures ∙ c.if-not-presets_met.false)
     ∙ ap (λ (x : List ℕ). leb (count 256 (has_call x)) 64) (full c)
     ∙ ap (λ (n : ℕ). leb n 64) (sym c.job_count.ensures))

@@ -26,16 +26,16 @@ returns-in-Met c = let a = c.args in (
 pub jobs_fit-requires : goal.jobs_fit-requires
 jobs_fit-requires c = 
     let known : let a = c.args in (a.admitted + a.n ≤ 64) × (a.n ≤ 8) × (jobs_outside (jobs_in a.n a.jobs) ≡ false) =
-        c.own-cause.ensures.1 (ap cause_in c.in_default.is) in
+        c.own_cause.ensures.1 (ap cause_in c.in_default.is) in
     let k = known in (k.1, k.2)
 
 pub returns-then-not-jobs_fit : goal.returns-then-not-jobs_fit
 returns-then-not-jobs_fit c = 
     let known : let a = c.args in (a.admitted + a.n ≤ 64) × (a.n ≤ 8) × (jobs_outside (jobs_in a.n a.jobs) ≡ false) =
-        c.own-cause.ensures.1 (ap cause_in c.in_default.is) in
+        c.own_cause.ensures.1 (ap cause_in c.in_default.is) in
     let own-none : let a = c.args in
     (h : Head) (clock : ℕ) (t : Cells) → CountsOf h clock t a.used.now a.admitted a.entries.now → none ≡ first_of (job_causes h (call_jobs a.n a.jobs) t) =
-        λ h clock t right. sym (ap cause_in c.in_default.is) ∙ c.own-cause.ensures.0 h t right.used right.jobs in
+        λ h clock t right. sym (ap cause_in c.in_default.is) ∙ c.own_cause.ensures.0 h t right.used right.jobs in
     let a = c.args in (
       λ h clock t valid formed right. cause_seven a.jobs (omega (arith, c)) a.n h clock t (own-none h clock t right) known.1
           (sym (c.jobs_fit.ensures h clock t valid formed right.entries) ∙ c.if-not-jobs_fit.true),
@@ -45,10 +45,10 @@ returns-then-not-jobs_fit c =
 pub returns : goal.returns
 returns c = 
     let known : let a = c.args in (a.admitted + a.n ≤ 64) × (a.n ≤ 8) × (jobs_outside (jobs_in a.n a.jobs) ≡ false) =
-        c.own-cause.ensures.1 (ap cause_in c.in_default.is) in
+        c.own_cause.ensures.1 (ap cause_in c.in_default.is) in
     let own-none : let a = c.args in
     (h : Head) (clock : ℕ) (t : Cells) → CountsOf h clock t a.used.now a.admitted a.entries.now → none ≡ first_of (job_causes h (call_jobs a.n a.jobs) t) =
-        λ h clock t right. sym (ap cause_in c.in_default.is) ∙ c.own-cause.ensures.0 h t right.used right.jobs in
+        λ h clock t right. sym (ap cause_in c.in_default.is) ∙ c.own_cause.ensures.0 h t right.used right.jobs in
     let a = c.args in (
       λ h clock t valid formed right. cause_passed a.jobs (omega (arith, c)) a.n h clock t (own-none h clock t right) known.1
           (sym (c.jobs_fit.ensures h clock t valid formed right.entries) ∙ c.if-not-jobs_fit.false),

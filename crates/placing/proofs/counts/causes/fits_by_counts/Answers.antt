@@ -27,8 +27,8 @@ overflow_cast-need c = omega arith
 
 pub raise_sums-requires : goal.raise_sums-requires
 raise_sums-requires c = 
-    let short : c.loop.i < c.args.n → (job_record c.args.t4 c.loop.i).slots < 256 =
-        λ l. inside_slots c.args.jobs (omega (arith, c)) c.args.n c.requires.0 c.requires.1 c.loop.i l in
+    let short : c.loop-i.i < c.args.n → (job_record c.args.jobs c.loop-i.i).slots < 256 =
+        λ l. inside_slots c.args.jobs (omega (arith, c)) c.args.n c.requires.0 c.requires.1 c.loop-i.i l in
     let l = c.loop-i in
     let small = short (omega arith) in
     record { long = l.invariant.2; part = λ q low. omega arith; low = λ q low. omega (arith, l.invariant.3 q low); small = omega (arith, small) }
@@ -44,8 +44,8 @@ loop-i-smaller c = omega arith
 
 pub loop-i-preserved : goal.loop-i-preserved
 loop-i-preserved c = 
-    let short : c.loop.i < c.args.n → (job_record c.args.t4 c.loop.i).slots < 256 =
-        λ l. inside_slots c.args.jobs (omega (arith, c)) c.args.n c.requires.0 c.requires.1 c.loop.i l in
+    let short : c.loop-i.i < c.args.n → (job_record c.args.jobs c.loop-i.i).slots < 256 =
+        λ l. inside_slots c.args.jobs (omega (arith, c)) c.args.n c.requires.0 c.requires.1 c.loop-i.i l in
     let a = c.args in
     let l = c.loop-i in
     let small = short (omega arith) in

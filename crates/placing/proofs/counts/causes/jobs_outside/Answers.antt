@@ -25,7 +25,7 @@ bounds-jobs-i c = omega arith
 
 pub returns-then-not-job_in_limits : goal.returns-then-not-job_in_limits
 returns-then-not-job_in_limits c = sym (outside_one c.args.jobs c.well_formed.0.1.0.1 c.args.n (omega arith) c.loop-i.i (omega arith)
-    (sym c.job_in_limits.ensures ∙ not-true _ c.if-not-job_in_limits.true))
+    (sym c.job_in_limits.ensures ∙ c.if-not-job_in_limits.true))
 
 pub overflow_add-i : goal.overflow_add-i
 overflow_add-i c = omega arith
@@ -39,7 +39,7 @@ loop-i-preserved c = let l = c.loop-i in (
       omega arith,
       omega arith,
       every_more l.i (within_at c.args.jobs) l.invariant.3
-          (sym c.job_in_limits.ensures ∙ not-false _ c.if-not-job_in_limits.false),
+          (sym c.job_in_limits.ensures ∙ c.if-not-job_in_limits.false),
     )
 
 pub returns : goal.returns

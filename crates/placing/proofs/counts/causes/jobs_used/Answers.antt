@@ -38,7 +38,7 @@ pub returns-then-not-is_first : goal.returns-then-not-is_first
 returns-then-not-is_first c = let a = c.args in
     sym (not_is_true _
     (every_not a.n (job_new a.used.now a.jobs) c.loop-i.i (omega arith)
-    (new_twice a.used.now a.jobs c.loop-i.i (sym c.is_first.ensures ∙ not-true _ c.if-not-is_first.true))))
+    (new_twice a.used.now a.jobs c.loop-i.i (sym c.is_first.ensures ∙ c.if-not-is_first.true))))
 
 pub overflow_add-i : goal.overflow_add-i
 overflow_add-i c = omega arith
@@ -53,7 +53,7 @@ loop-i-preserved c = let a = c.args in
       l.invariant.1,
       l.invariant.2,
       every_more l.i (job_new a.used.now a.jobs) l.invariant.3
-          (new_job a.used.now a.jobs l.i c.if-used-number-ne0.false (sym c.is_first.ensures ∙ not-false _ c.if-not-is_first.false)),
+          (new_job a.used.now a.jobs l.i c.if-used-number-ne0.false (sym c.is_first.ensures ∙ c.if-not-is_first.false)),
     )
 
 pub returns : goal.returns

@@ -25,14 +25,14 @@ pub returns-then-jobs_used : goal.returns-then-jobs_used
 returns-then-jobs_used c = 
     let inside : jobs_outside (jobs_in c.args.n c.args.jobs) ≡ false =
         sym c.jobs_outside.ensures ∙ c.if-jobs_outside.false in
-    (λ h t right many. cause_used c.args.jobs (omega (arith, c)) c.args.n h t c.if-n-gt-MOST_JOBS.false inside.args.used.now right many (sym c.jobs_used.ensures ∙ c.if-jobs_used.true), λ q. absurd (none_some (sym q)))
+    (λ h t right many. cause_used c.args.jobs (omega (arith, c)) c.args.n h t c.if-n-gt-MOST_JOBS.false inside c.args.used.now right many (sym c.jobs_used.ensures ∙ c.if-jobs_used.true), λ q. absurd (none_some (sym q)))
 
 pub returns-then-n-admitted : goal.returns-then-n-admitted
 returns-then-n-admitted c = 
     let inside : jobs_outside (jobs_in c.args.n c.args.jobs) ≡ false =
         sym c.jobs_outside.ensures ∙ c.if-jobs_outside.false in
     (
-      λ h t right many. cause_over c.args.jobs (omega (arith, c)) c.args.n h t c.if-n-gt-MOST_JOBS.false inside.args.used.now right many (sym c.jobs_used.ensures ∙ c.if-jobs_used.false)
+      λ h t right many. cause_over c.args.jobs (omega (arith, c)) c.args.n h t c.if-n-gt-MOST_JOBS.false inside c.args.used.now right many (sym c.jobs_used.ensures ∙ c.if-jobs_used.false)
           c.if-n-admitted.true,
       λ q. absurd (none_some (sym q)),
     )
@@ -42,7 +42,7 @@ returns c =
     let inside : jobs_outside (jobs_in c.args.n c.args.jobs) ≡ false =
         sym c.jobs_outside.ensures ∙ c.if-jobs_outside.false in
     (
-      λ h t right many. cause_none c.args.jobs (omega (arith, c)) c.args.n h t c.if-n-gt-MOST_JOBS.false inside.args.used.now right many (sym c.jobs_used.ensures ∙ c.if-jobs_used.false)
+      λ h t right many. cause_none c.args.jobs (omega (arith, c)) c.args.n h t c.if-n-gt-MOST_JOBS.false inside c.args.used.now right many (sym c.jobs_used.ensures ∙ c.if-jobs_used.false)
           c.if-n-admitted.false,
       λ q. (omega (arith, c.if-n-admitted.false, c.if-n-gt-MOST_JOBS.false), c.if-n-gt-MOST_JOBS.false, inside),
     )

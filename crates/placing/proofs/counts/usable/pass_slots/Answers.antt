@@ -25,8 +25,8 @@ pub overflow_mul-s : goal.overflow_mul-s
 overflow_mul-s c = 
     let within : let a = c.args in
     (a.head.slots ≤ 64) × (a.head.bridges ≤ 8) × (0 ≤ 32) × (512 ≤ length a.table.now) =
-        let a = e.args in
-    limits_of a.head.slots a.head.bridges 0 (length a.table.now) (sym e.in_limits.ensures ∙ true_of_not _ e.if1.false) in
+        let a = c.args in
+    limits_of a.head.slots a.head.bridges 0 (length a.table.now) (sym c.in_limits.ensures ∙ c.if-not-in_limits.false) in
     let below : c.loop-s.s < 64 =
         omega (arith, c.loop-s-test.true, c.first_slot-end.ensures, within.0) in
     let a = c.args in
@@ -36,8 +36,8 @@ pub usable_in-free-requires : goal.usable_in-free-requires
 usable_in-free-requires c = 
     let within : let a = c.args in
     (a.head.slots ≤ 64) × (a.head.bridges ≤ 8) × (0 ≤ 32) × (512 ≤ length a.table.now) =
-        let a = e.args in
-    limits_of a.head.slots a.head.bridges 0 (length a.table.now) (sym e.in_limits.ensures ∙ true_of_not _ e.if1.false) in
+        let a = c.args in
+    limits_of a.head.slots a.head.bridges 0 (length a.table.now) (sym c.in_limits.ensures ∙ c.if-not-in_limits.false) in
     let below : c.loop-s.s < 64 =
         omega (arith, c.loop-s-test.true, c.first_slot-end.ensures, within.0) in
     let a = c.args in
@@ -47,8 +47,8 @@ pub overflow_add-s : goal.overflow_add-s
 overflow_add-s c = 
     let within : let a = c.args in
     (a.head.slots ≤ 64) × (a.head.bridges ≤ 8) × (0 ≤ 32) × (512 ≤ length a.table.now) =
-        let a = e.args in
-    limits_of a.head.slots a.head.bridges 0 (length a.table.now) (sym e.in_limits.ensures ∙ true_of_not _ e.if1.false) in
+        let a = c.args in
+    limits_of a.head.slots a.head.bridges 0 (length a.table.now) (sym c.in_limits.ensures ∙ c.if-not-in_limits.false) in
     let below : c.loop-s.s < 64 =
         omega (arith, c.loop-s-test.true, c.first_slot-end.ensures, within.0) in
     omega (arith, below)

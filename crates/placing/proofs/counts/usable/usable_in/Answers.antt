@@ -10,12 +10,9 @@ use borrow.Author.Rules.{rules}
 use Rattle.laws.specs.Sums.{count}
 use Rattle.laws.proofs.Loops.{sum_none, count_here, count_past}
 use Rattle.placing.specs.method.Counts.{free_cell, staying_cell, usable_in}
+use Rattle.placing.proofs.counts.usable.usable_in.Invariants.{along}
 use Rattle.placing.proofs.counts.usable.usable_in.Goals as goal
 use Rattle.placing.proofs.counts.usable.usable_in.Goals.{else-b-bridges, then-b-bridges}
-
--- a test of the cells from a place on
-abbrev along : (ℕ → Bool) → List ℕ → ℕ → ℕ → Bool
-along p table from b = p (get_or table (from + b) 0)
 
 pub loop-b-init : goal.loop-b-init
 loop-b-init c = let a = c.args in

@@ -12,6 +12,10 @@ use Rattle.laws.proofs.Loops.{sum_none, count_here, count_past}
 use Rattle.placing.specs.method.Counts.{free_cell, staying_cell, usable_in}
 use Rattle.placing.proofs.counts.usable.usable_in.Given as goal
 
+-- a test of the cells from a place on
+abbrev pub along : (ℕ → Bool) → List ℕ → ℕ → ℕ → Bool
+along p table from b = p (get_or table (from + b) 0)
+
 abbrev pub invariant-loop-b : goal.invariant-loop-b
 invariant-loop-b l = (l.b ≤ 8) × (l.free ≤ l.b) × (l.free ≡ count (min l.b l.bridges) (along free_cell l.table l.from)) × (l.staying ≤ l.b) × (l.staying ≡ count (min l.b l.bridges) (along staying_cell l.table l.from))
 
