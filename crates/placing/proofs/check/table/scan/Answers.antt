@@ -12,17 +12,7 @@ use Rattle.placing.proofs.HeadRecord.{place_lt}
 use Rattle.placing.proofs.check.table.Counted.{tally_le}
 use Rattle.placing.proofs.check.table.FrameWalk.{fits_below, Passed, Walked, passed_none, slot_begun, walked_skip, walked_more, slot_done, cell_unfit, number_twice, no_motor_left, no_fault}
 use Rattle.placing.proofs.check.table.scan.Goals as goal
-use Rattle.placing.proofs.check.table.scan.Goals.{else-v-ge-MANDATORY, then-v-ge-MANDATORY}
-
-abbrev invariant-frame : goal.invariant-frame
-invariant-frame numbers table counts₀ slots bridges fed busy last₀ at₀ s₀ counts last at s =
-    (slots ≤ 64) × (bridges ≤ 8) × (512 ≤ length table) × (s ≤ slots) × Passed bridges fed busy numbers table s at counts last
-
-abbrev decreases-frame : goal.decreases-frame
-decreases-frame numbers table counts₀ slots bridges fed busy last₀ at₀ s₀ counts last at s = slots - s
-
-abbrev at-loop : goal.After-cell_fits invariant-frame decreases-frame → goal.At-loop-b invariant-frame decreases-frame
-at-loop c = c
+use Rattle.placing.proofs.check.table.scan.Goals.{else-v-ge-MANDATORY, then-v-ge-MANDATORY+else-fed-held+else-last-n}
 
 pub frame-init : goal.frame-init
 frame-init c = let a = c.args in
@@ -36,26 +26,26 @@ pub overflow_add-mark : goal.overflow_add-mark
 overflow_add-mark c = omega arith
 
 pub loop-b-init : goal.loop-b-init
-loop-b-init c = let a = (begun c).args in
+loop-b-init c = let a = c.args in
     let f = c.frame in (
       f.invariant.0,
       f.invariant.1,
       f.invariant.2,
       omega arith,
       omega arith,
-      slot_begun a.head.bridges (fed c) a.head.busy a.numbers.now a.table.now f.s f.at f.counts f.new f.invariant.4,
+      slot_begun a.head.bridges c.motors-fed.result a.head.busy a.numbers.now a.table.now f.s f.at f.counts f.last f.invariant.4,
     )
 
 pub offset_bounds-table-at : goal.offset_bounds-table-at
 offset_bounds-table-at c = 
     let below_end : c.loop-b.at < 512 =
-        omega (arith, c.loop-b.invariant.5.place, place_lt (slot c) c.loop-b.b (begun (at-frame c)).args.head.bridges 512 (omega arith) (omega arith) (omega arith) (omega arith)) in
+        omega (arith, c.loop-b.invariant.5.place, place_lt c.frame.s c.loop-b.b c.args.head.bridges 512 (omega arith) (omega arith) (omega arith) (omega arith)) in
     omega (arith, below_end)
 
 pub bounds-table-at : goal.bounds-table-at
 bounds-table-at c = 
     let below_end : c.loop-b.at < 512 =
-        omega (arith, c.loop-b.invariant.5.place, place_lt (slot c) c.loop-b.b (begun (at-frame c)).args.head.bridges 512 (omega arith) (omega arith) (omega arith) (omega arith)) in
+        omega (arith, c.loop-b.invariant.5.place, place_lt c.frame.s c.loop-b.b c.args.head.bridges 512 (omega arith) (omega arith) (omega arith) (omega arith)) in
     omega (arith, below_end)
 
 pub offset_bounds-busy-b : goal.offset_bounds-busy-b
@@ -78,43 +68,42 @@ bounds-last-n-then-v-ge-MANDATORY c = omega arith
 
 pub overflow_cast-place : goal.overflow_cast-place
 overflow_cast-place c = 
-    let below : value (at-loop c) < 1280 =
+    let below : get_or c.args.table.now c.loop-b.at 0 < 1280 =
         fits_below _ _ _ _ (sym c.cell_fits.ensures ∙ c.if-not-cell_fits.false) in
     omega (arith, below)
 
 pub offset_bounds-counts-place : goal.offset_bounds-counts-place
 offset_bounds-counts-place c = 
-    let below : value (at-loop c) < 1280 =
+    let below : get_or c.args.table.now c.loop-b.at 0 < 1280 =
         fits_below _ _ _ _ (sym c.cell_fits.ensures ∙ c.if-not-cell_fits.false) in
     omega (arith, below)
 
 pub bounds-counts-place : goal.bounds-counts-place
 bounds-counts-place c = 
-    let below : value (at-loop c) < 1280 =
+    let below : get_or c.args.table.now c.loop-b.at 0 < 1280 =
         fits_below _ _ _ _ (sym c.cell_fits.ensures ∙ c.if-not-cell_fits.false) in
     omega (arith, below)
 
 pub overflow_add-counts : goal.overflow_add-counts
 overflow_add-counts c = 
     let below_end : c.loop-b.at < 512 =
-        omega (arith, c.loop-b.invariant.5.place, place_lt (slot c) c.loop-b.b (begun (at-frame c)).args.head.bridges 512 (omega arith) (omega arith) (omega arith) (omega arith)) in
-    let k = at-loop c in
-    rw k.loop.invariant.5.counted (omega (
+        omega (arith, c.loop-b.invariant.5.place, place_lt c.frame.s c.loop-b.b c.args.head.bridges 512 (omega arith) (omega arith) (omega arith) (omega arith)) in
+    rw c.loop-b.invariant.5.counted (omega (
       arith,
-      tally_le (begun (at-frame k)).args.table.now (value k - 512) k.loop.at,
+      tally_le c.args.table.now (get_or c.args.table.now c.loop-b.at 0 - 512) c.loop-b.at,
       below_end,
     ))
 
 pub bounds-counts-place-then-v-ge-MANDATORY : goal.bounds-counts-place-then-v-ge-MANDATORY
 bounds-counts-place-then-v-ge-MANDATORY c = 
-    let below : value (at-loop c) < 1280 =
+    let below : get_or c.args.table.now c.loop-b.at 0 < 1280 =
         fits_below _ _ _ _ (sym c.cell_fits.ensures ∙ c.if-not-cell_fits.false) in
     omega (arith, below)
 
 pub overflow_add-at : goal.overflow_add-at
 overflow_add-at c = 
     let below_end : c.loop-b.at < 512 =
-        omega (arith, c.loop-b.invariant.5.place, place_lt (slot c) c.loop-b.b (begun (at-frame c)).args.head.bridges 512 (omega arith) (omega arith) (omega arith) (omega arith)) in
+        omega (arith, c.loop-b.invariant.5.place, place_lt c.frame.s c.loop-b.b c.args.head.bridges 512 (omega arith) (omega arith) (omega arith) (omega arith)) in
     omega (arith, below_end)
 
 pub overflow_step-b : goal.overflow_step-b
@@ -124,20 +113,19 @@ pub loop-b-smaller : goal.loop-b-smaller
 loop-b-smaller c = omega arith
 
 pub loop-b-preserved : goal.loop-b-preserved
-loop-b-preserved c = let k = at-loop c in
-    let a = (begun (at-frame k)).args in
-    let l = k.loop in
+loop-b-preserved c = let a = c.args in
+    let l = c.loop-b in
     let fits = sym c.cell_fits.ensures ∙ c.if-not-cell_fits.false in (
       l.invariant.0,
       l.invariant.1,
       l.invariant.2,
       l.invariant.3,
       omega arith,
-      elim c.if-v-ge-MANDATORY.branch [ then-v-ge-MANDATORY w ↦ rw (w.5, w.6, w.7, w.2.ensures.0)
-          (walked_more a.head.bridges (fed (at-frame k)) a.head.busy a.numbers.now a.table.now
-          (slot k) l.b l.at l.counts l.last l.held l.invariant.5 (omega arith) fits w.if-v-ge-MANDATORY.true w.1.left (rw w.2.ensures.0 at w.3.left)) | else-v-ge-MANDATORY w ↦ rw (w.1, w.2, w.3)
-          (walked_skip a.head.bridges (fed (at-frame k)) a.head.busy a.numbers.now a.table.now
-          (slot k) l.b l.at l.counts l.last l.held l.invariant.5 (omega arith) fits w.if-v-ge-MANDATORY.false) ],
+      elim c.if-v-ge-MANDATORY.branch [ then-v-ge-MANDATORY+else-fed-held+else-last-n w ↦ rw (w.counts-is, w.last-is, w.held-is, w.number_in-n.ensures.0)
+          (walked_more a.head.bridges c.motors-fed.result a.head.busy a.numbers.now a.table.now
+          c.frame.s l.b l.at l.counts l.last l.held l.invariant.5 (omega arith) fits w.if-v-ge-MANDATORY.true w.if-fed-held.false (rw w.number_in-n.ensures.0 at w.if-last-n.false)) | else-v-ge-MANDATORY w ↦ rw (w.counts-is, w.last-is, w.held-is)
+          (walked_skip a.head.bridges c.motors-fed.result a.head.busy a.numbers.now a.table.now
+          c.frame.s l.b l.at l.counts l.last l.held l.invariant.5 (omega arith) fits w.if-v-ge-MANDATORY.false) ],
     )
 
 pub overflow_step-s : goal.overflow_step-s
@@ -147,53 +135,50 @@ pub frame-smaller : goal.frame-smaller
 frame-smaller c = omega arith
 
 pub frame-preserved : goal.frame-preserved
-frame-preserved c = let a = (begun (at-frame c)).args in
+frame-preserved c = let a = c.args in
     let l = c.loop-b in (
       l.invariant.0,
       l.invariant.1,
       l.invariant.2,
       omega arith,
-      slot_done a.head.bridges (fed (at-frame c)) a.head.busy a.numbers.now a.table.now (slot c) l.b l.at l.counts l.last l.held l.invariant.5 (omega arith),
+      slot_done a.head.bridges c.motors-fed.result a.head.busy a.numbers.now a.table.now c.frame.s l.b l.at l.counts l.last l.held l.invariant.5 (omega arith),
     )
 
 pub returns-after-frame : goal.returns-after-frame
-returns-after-frame c = let a = (begun c).args in
+returns-after-frame c = let a = c.args in
     let f = c.frame in (
-      rw (sym (fed-is c))
-          (no_fault a.head.bridges (fed c) a.head.busy a.numbers.now a.table.now
-          a.head.slots f.s f.at f.counts f.new f.invariant.4 (omega arith)),
+      rw (sym c.motors-fed.ensures)
+          (no_fault a.head.bridges c.motors-fed.result a.head.busy a.numbers.now a.table.now
+          a.head.slots f.s f.at f.counts f.last f.invariant.4 (omega arith)),
       f.invariant.4.counted,
     )
 
 pub returns-then-not-cell_fits : goal.returns-then-not-cell_fits
-returns-then-not-cell_fits c = let k = at-loop c in
-    let a = (begun (at-frame k)).args in
-    let l = k.loop in (
-      rw (sym (fed-is (at-frame k)))
-          (cell_unfit a.head.bridges (fed (at-frame k)) a.head.busy a.numbers.now a.table.now
-          (slot k) l.b l.at l.counts l.last l.held l.invariant.5 a.head.slots l.invariant.3 (omega arith)
+returns-then-not-cell_fits c = let a = c.args in
+    let l = c.loop-b in (
+      rw (sym c.motors-fed.ensures)
+          (cell_unfit a.head.bridges c.motors-fed.result a.head.busy a.numbers.now a.table.now
+          c.frame.s l.b l.at l.counts l.last l.held l.invariant.5 a.head.slots l.invariant.3 (omega arith)
           (sym c.cell_fits.ensures ∙ c.if-not-cell_fits.true)),
       l.invariant.5.counted,
     )
 
 pub returns-then-fed-held : goal.returns-then-fed-held
-returns-then-fed-held c = let k = at-loop c in
-    let a = (begun (at-frame k)).args in
-    let l = k.loop in (
-      rw (sym (fed-is (at-frame k)))
-          (no_motor_left a.head.bridges (fed (at-frame k)) a.head.busy a.numbers.now a.table.now
-          (slot k) l.b l.at l.counts l.last l.held l.invariant.5 a.head.slots l.invariant.3 (omega arith)
+returns-then-fed-held c = let a = c.args in
+    let l = c.loop-b in (
+      rw (sym c.motors-fed.ensures)
+          (no_motor_left a.head.bridges c.motors-fed.result a.head.busy a.numbers.now a.table.now
+          c.frame.s l.b l.at l.counts l.last l.held l.invariant.5 a.head.slots l.invariant.3 (omega arith)
           c.if-v-ge-MANDATORY.true c.if-fed-held.true),
       l.invariant.5.counted,
     )
 
 pub returns-then-last-n : goal.returns-then-last-n
-returns-then-last-n c = let k = at-loop c in
-    let a = (begun (at-frame k)).args in
-    let l = k.loop in (
-      rw (sym (fed-is (at-frame k)))
-          (number_twice a.head.bridges (fed (at-frame k)) a.head.busy a.numbers.now a.table.now
-          (slot k) l.b l.at l.counts l.last l.held l.invariant.5 a.head.slots l.invariant.3 (omega arith)
+returns-then-last-n c = let a = c.args in
+    let l = c.loop-b in (
+      rw (sym c.motors-fed.ensures)
+          (number_twice a.head.bridges c.motors-fed.result a.head.busy a.numbers.now a.table.now
+          c.frame.s l.b l.at l.counts l.last l.held l.invariant.5 a.head.slots l.invariant.3 (omega arith)
           c.if-v-ge-MANDATORY.true (rw c.number_in-n.ensures.0 at c.if-last-n.true)),
       l.invariant.5.counted,
     )

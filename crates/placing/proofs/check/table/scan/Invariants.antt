@@ -18,3 +18,9 @@ invariant-loop-b l = (l.slots ≤ 64) × (l.bridges ≤ 8) × (512 ≤ length l.
 
 abbrev pub decreases-loop-b : goal.decreases-loop-b
 decreases-loop-b l = l.bridges - l.b
+
+abbrev pub invariant-frame : goal.invariant-frame
+invariant-frame l = (l.slots ≤ 64) × (l.bridges ≤ 8) × (512 ≤ length l.table) × (l.s ≤ l.slots) × Passed l.bridges l.fed l.busy l.numbers l.table l.s l.at l.counts l.last
+
+abbrev pub decreases-frame : goal.decreases-frame
+decreases-frame l = l.slots - l.s

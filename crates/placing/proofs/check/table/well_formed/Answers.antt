@@ -17,32 +17,64 @@ use Rattle.placing.proofs.check.table.SameTest.{cell_fails, cells_fit, preset_fa
 use Rattle.placing.proofs.HeadRecord.{frame_le, count_high, record_valid, presets_count}
 use Rattle.placing.proofs.check.table.well_formed.Goals as goal
 
+-- the first cell at fault, by the counts of the head's presets
+first_by : (h : Head) (n : ℕ) (ns held : List ℕ) (at : ℕ) → preset_count h ≡ n → ns ≡ numbered h.presets n
+    → FirstFault h.slots h.bridges (motors h) h.busy ns held at
+    → FirstFault h.slots h.bridges (motors h) h.busy (numbered h.presets (preset_count h)) held at
+first_by h n ns held at lines e f =
+    subst (λ (l : List ℕ). FirstFault h.slots h.bridges (motors h) h.busy l held at) (e ∙ ap (numbered h.presets) (sym lines)) f
+
+-- the counts are those of the whole frame
+full_by : (h : Head) (held counts : List ℕ) (at : ℕ) → at ≤ h.slots * h.bridges → h.slots * h.bridges ≤ at → counts ≡ tally held at
+    → tally held (h.slots * h.bridges) ≡ counts
+full_by h held counts at low high e = let whole : at ≡ h.slots * h.bridges = omega arith in ap (tally held) (sym whole) ∙ sym e
+
+-- the test by presets, by the counts at hand
+presets_by : (h : Head) (n : ℕ) (held counts : List ℕ) → preset_count h ≡ n → tally held (h.slots * h.bridges) ≡ counts
+    → every (preset_count h) (preset_met h.presets (tally held (h.slots * h.bridges))) ≡ every n (preset_met h.presets counts)
+presets_by h n held counts lines full = ap₂ (λ (k : ℕ) (l : List ℕ). every k (preset_met h.presets l)) lines full
+
 pub overflow_mul-cells : goal.overflow_mul-cells
-overflow_mul-cells c = let v = valid_head c in
+overflow_mul-cells c = let v = record_valid c.args.head c.args.presets c.requires.0 in
     omega (arith, frame_le c.args.head.slots c.args.head.bridges v.slots_high v.bridges_high)
 
 pub preset_numbers-numbers-requires : goal.preset_numbers-numbers-requires
-preset_numbers-numbers-requires c = few c
+preset_numbers-numbers-requires c = count_high c.args.head c.args.presets c.requires.0
 
 pub scan-requires : goal.scan-requires
-scan-requires c = let v = valid_head c in
+scan-requires c = let v = record_valid c.args.head c.args.presets c.requires.0 in
     (v.slots_high, v.bridges_high, c.requires.1, sym (tally_none c.args.table.now))
 
 pub returns-then-scan-cells : goal.returns-then-scan-cells
-returns-then-scan-cells c = let s = begun c in
-    sym (cell_fails (head_of s) (valid_head s) (held c) c.scan.result (first c) c.if-scan-cells.true)
+returns-then-scan-cells c = let a = c.args in
+    let h = head_in a.head a.presets in
+    let few = count_high a.head a.presets c.requires.0 in
+    let lines : preset_count h ≡ a.head.count = presets_count a.head a.presets (omega (arith, c, few)) in
+    let first = first_by h a.head.count c.preset_numbers-numbers.result a.table.now c.scan.result lines c.preset_numbers-numbers.ensures c.scan.ensures.0 in
+    sym (cell_fails h (record_valid a.head a.presets c.requires.0) a.table.now c.scan.result first c.if-scan-cells.true)
 
 pub presets_met-requires : goal.presets_met-requires
-presets_met-requires c = few (begun (scanned c))
+presets_met-requires c = count_high c.args.head c.args.presets c.requires.0
 
 pub returns-then-not-presets_met : goal.returns-then-not-presets_met
-returns-then-not-presets_met c = let s = begun (scanned c) in
-    sym (preset_fails (head_of s) (valid_head s) (held (scanned c)) (presets-by c ∙ sym c.presets_met.ensures ∙ c.if-not-presets_met.true))
+returns-then-not-presets_met c = let a = c.args in
+    let h = head_in a.head a.presets in
+    let few = count_high a.head a.presets c.requires.0 in
+    let lines : preset_count h ≡ a.head.count = presets_count a.head a.presets (omega (arith, c, few)) in
+    let first = first_by h a.head.count c.preset_numbers-numbers.result a.table.now c.scan.result lines c.preset_numbers-numbers.ensures c.scan.ensures.0 in
+    let full = full_by h a.table.now c.scan.new.counts c.scan.result (first.most) c.if-scan-cells.false c.scan.ensures.1 in
+    sym (preset_fails h (record_valid a.head a.presets c.requires.0) a.table.now (presets_by h a.head.count a.table.now c.scan.new.counts lines full ∙ sym c.presets_met.ensures ∙ c.if-not-presets_met.true))
 
 pub returns : goal.returns
-returns c = let s = begun (scanned c) in
-    sym (all_but_jobs (head_of s) (valid_head s) (held (scanned c))
-    (cells_fit (head_of s) (valid_head s) (held (scanned c)) (scanned c).scan.result (first (scanned c)) c.if-scan-cells.false)
-    (presets-by c ∙ sym c.presets_met.ensures ∙ c.if-not-presets_met.false)
-    ∙ ap (λ (x : List ℕ). leb (count 256 (has_call x)) 64) (full c)
+returns c = let a = c.args in
+    let h = head_in a.head a.presets in
+    let v = record_valid a.head a.presets c.requires.0 in
+    let few = count_high a.head a.presets c.requires.0 in
+    let lines : preset_count h ≡ a.head.count = presets_count a.head a.presets (omega (arith, c, few)) in
+    let first = first_by h a.head.count c.preset_numbers-numbers.result a.table.now c.scan.result lines c.preset_numbers-numbers.ensures c.scan.ensures.0 in
+    let full = full_by h a.table.now c.scan.new.counts c.scan.result (first.most) c.if-scan-cells.false c.scan.ensures.1 in
+    sym (all_but_jobs h v a.table.now
+    (cells_fit h v a.table.now c.scan.result first c.if-scan-cells.false)
+    (presets_by h a.head.count a.table.now c.scan.new.counts lines full ∙ sym c.presets_met.ensures ∙ c.if-not-presets_met.false)
+    ∙ ap (λ (x : List ℕ). leb (count 256 (has_call x)) 64) full
     ∙ ap (λ (n : ℕ). leb n 64) (sym c.job_count.ensures))
