@@ -1,4 +1,3 @@
--- The answers of a call; cells that are empty already; a call's job records in a walk by hand.
+-- The answers of a call; cells that are empty already.
 pub mod CallAnswers
 pub mod EmptyFrom
-pub mod JobRecords

@@ -13,11 +13,19 @@ pub returns-in-Met : goal.returns-in-Met
 returns-in-Met c = let a = c.args in
     let st = state_of a.table.now a.clock a.hold in
     let done = frame_refused a.head a.presets (call_jobs a.n a.jobs) st c.in-Met.r (c.frame_cause.ensures a.hold) c.in-Met.is in
-    (done, (done_running a.head a.presets (call_jobs a.n a.jobs) st done, call_claim_lem (head_in a.head a.presets) (call_jobs a.n a.jobs) st))
+    record {
+      done = done;
+      kept = done_running a.head a.presets (call_jobs a.n a.jobs) st done;
+      claim = call_claim_lem (head_in a.head a.presets) (call_jobs a.n a.jobs) st;
+    }
 
 pub returns : goal.returns
 returns c = let a = c.args in
     let st = state_of a.table.now a.clock a.hold in
     let run = frame_running a.head a.presets st (sym (c.frame_cause.ensures a.hold) ∙ ap cause_in c.in_default.is) in
     let done = (c.call_by_counts.ensures run.0 run.1 (c.counts_of-counts.ensures run.0 run.1.long)).0 in
-    (done, (done_running a.head a.presets (call_jobs a.n a.jobs) st done, call_claim_lem (head_in a.head a.presets) (call_jobs a.n a.jobs) st))
+    record {
+      done = done;
+      kept = done_running a.head a.presets (call_jobs a.n a.jobs) st done;
+      claim = call_claim_lem (head_in a.head a.presets) (call_jobs a.n a.jobs) st;
+    }

@@ -14,18 +14,18 @@ use Rattle.placing.proofs.plan.plan_by_value.Goals as goal
 
 pub returns-then-table-lt-LEAST_CELLS : goal.returns-then-table-lt-LEAST_CELLS
 returns-then-table-lt-LEAST_CELLS c = let a = c.args in
-    let t = a.table.now in (
-      plan_refused a.head a.presets t TooShort (meant_short a.head a.presets t c.if-table-lt-LEAST_CELLS.true) refl refl,
-      plan_claim (head_in a.head a.presets) t,
-    )
+    let t = a.table.now in record {
+      done = plan_refused a.head a.presets t TooShort (meant_short a.head a.presets t c.if-table-lt-LEAST_CELLS.true) refl refl;
+      claim = plan_claim (head_in a.head a.presets) t;
+    }
 
 pub returns-then-not-granted : goal.returns-then-not-granted
 returns-then-not-granted c = let a = c.args in
-    let t = a.table.now in (
-      plan_refused a.head a.presets t OutOfLimits
-          (meant_invalid a.head a.presets t c.if-table-lt-LEAST_CELLS.false (sym c.grant-granted.ensures.valid ∙ false_of_not _ c.if-not-granted.true)) refl refl,
-      plan_claim (head_in a.head a.presets) t,
-    )
+    let t = a.table.now in record {
+      done = plan_refused a.head a.presets t OutOfLimits
+          (meant_invalid a.head a.presets t c.if-table-lt-LEAST_CELLS.false (sym c.grant-granted.ensures.valid ∙ false_of_not _ c.if-not-granted.true)) refl refl;
+      claim = plan_claim (head_in a.head a.presets) t;
+    }
 
 pub returns-then-not-granted-2 : goal.returns-then-not-granted-2
 returns-then-not-granted-2 c = 
@@ -34,12 +34,12 @@ returns-then-not-granted-2 c =
     let given : let a = c.args in GrantedValid a.head a.presets c.grant-granted.result =
         c.grant-granted.ensures.granted valid in
     let a = c.args in
-    let t = a.table.now in (
-      plan_refused a.head a.presets t MandatoryNotFeasible
+    let t = a.table.now in record {
+      done = plan_refused a.head a.presets t MandatoryNotFeasible
           (meant_full a.head a.presets t c.if-table-lt-LEAST_CELLS.false valid (sym given.granted.fits ∙ false_of_not _ c.if-not-granted-2.true))
-          refl refl,
-      plan_claim (head_in a.head a.presets) t,
-    )
+          refl refl;
+      claim = plan_claim (head_in a.head a.presets) t;
+    }
 
 pub grants_of-grants-requires : goal.grants_of-grants-requires
 grants_of-grants-requires c = 
@@ -68,8 +68,8 @@ returns c =
     let r = c.grant-granted.result in
     let fits = true_of_not r.fits c.if-not-granted-2.false in
     let array = grants_are a.head a.presets (omega arith) v r g.granted fits refl g.mandatory c.grants_of-grants.ensures in
-    let done = grants_done a.head a.presets (omega arith) v r g.granted fits array in (
-      plan_done a.head a.presets t (meant_granted a.head a.presets t c.if-table-lt-LEAST_CELLS.false v (sym g.granted.fits ∙ fits)) refl
-          done.0 done.1 c.write_plan.ensures,
-      plan_claim (head_in a.head a.presets) t,
-    )
+    let done = grants_done a.head a.presets (omega arith) v r g.granted fits array in record {
+      done = plan_done a.head a.presets t (meant_granted a.head a.presets t c.if-table-lt-LEAST_CELLS.false v (sym g.granted.fits ∙ fits)) refl
+          done.0 done.1 c.write_plan.ensures;
+      claim = plan_claim (head_in a.head a.presets) t;
+    }

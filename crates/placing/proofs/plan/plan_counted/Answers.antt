@@ -8,4 +8,4 @@ pub returns-then-records-lt-LEAST_RECORDS : goal.returns-then-records-lt-LEAST_R
 returns-then-records-lt-LEAST_RECORDS c = record { short = λ _. (refl, refl); done = λ l. absurd (omega (arith, c.if-records-lt-LEAST_RECORDS.true, l)) }
 
 pub returns : goal.returns
-returns c = record { short = λ l. absurd (omega (arith, c.if-records-lt-LEAST_RECORDS.false, l)); done = λ _. c.plan_by_value.ensures.0 }
+returns c = record { short = λ l. absurd (omega (arith, c.if-records-lt-LEAST_RECORDS.false, l)); done = λ _. c.plan_by_value.ensures.done }
