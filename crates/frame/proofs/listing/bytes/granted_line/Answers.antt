@@ -1,0 +1,10 @@
+-- `listing::bytes::granted_line` meets its contract. Assumes nothing.
+use Rattle.station.specs.Text.{bytes}
+use Rattle.station.proofs.Theorems.{wrote_then}
+use Rattle.frame.specs.Listing.{granted_line}
+use borrow.Author.Rules.{rules}
+use Rattle.frame.proofs.listing.bytes.granted_line.Goals as goal
+
+pub returns : goal.returns
+unfolding granted_line bytes
+returns c = wrote_then c.word-numbers.ensures c.numbers_end.ensures

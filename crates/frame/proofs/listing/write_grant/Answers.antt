@@ -1,0 +1,13 @@
+-- `listing::write_grant` meets its contract. Assumes nothing.
+use native.Mathlib.Omega.{arith}
+use Rattle.frame.specs.Listing.{granted_line}
+use Rattle.frame.proofs.listing.OneLine.{grant_fits, line_short, line_whole}
+use borrow.Author.Rules.{rules}
+use Rattle.frame.proofs.listing.write_grant.Goals as goal
+
+pub returns-then-out-lt-LEAST_OUTPUT : goal.returns-then-out-lt-LEAST_OUTPUT
+returns-then-out-lt-LEAST_OUTPUT c = let a = c.args in line_short _ (granted_line a.number a.slots) a.out.now c.if-out-lt-LEAST_OUTPUT.true
+
+pub returns : goal.returns
+returns c = let a = c.args in
+    line_whole (granted_line a.number a.slots) a.out.now c.if-out-lt-LEAST_OUTPUT.false (grant_fits a.number a.slots (omega arith) (omega arith)) c.granted_line.ensures
