@@ -4,7 +4,7 @@
 -- `call_count`), and no table is above the cap (`supplied_uncapped`); the parts of a plan and of a call; then `plan_uncapped_lem`, `call_uncapped_lem`; `(supply 8)` is none (`fed_uncapped`) and gives the same (`plan_eight`,
 -- `frame_eight`, `causes_eight`, `cost_eight`, `state_eight`).
 -- Assumes nothing.
-use Prim.Native.Nat.{ℕ, ◌+◌, ◌-◌, ◌≤◌}
+use Prim.Native.Nat.{ℕ, ◌-◌, ◌≤◌}
 use native.Mathlib.Omega.{arith}
 use mathlib.Core.Path.{◌≡◌, refl, sym, ◌∙◌, ap, ap₂, fun_ext}
 use mathlib.Core.Bool.{Bool, not, ◌&&◌, ◌||◌, cond, and-true}

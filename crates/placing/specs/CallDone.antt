@@ -2,7 +2,7 @@
 -- Assumes nothing.
 use Rattle.std.specs.Prelude.{ℕ, ◌≡◌, List}
 use Rattle.std.proofs.Math.Option.{none, some}
-use Rattle.station.specs.Head.{Head, Job}
+use Rattle.station.specs.Head.{Job}
 use Rattle.station.specs.Refusal.{first_of}
 use Rattle.station.specs.declared.types.Preset as record-of-preset
 use Rattle.station.specs.declared.types.Head as record-of-head

@@ -7,7 +7,6 @@ use Rattle.placing.specs.Table.{cell}
 use Rattle.placing.specs.Causes.{cause_in, call_jobs}
 use Rattle.placing.proofs.counts.causes.CallCauses.{call_jobs_lem, cause_known}
 use Rattle.placing.proofs.call.CallAnswers.{counted_refused, counted_done, counted_after}
-use borrow.Author.Rules.{rules}
 use Rattle.placing.proofs.call.call_by_counts.Goals as goal
 
 pub returns-in-Met : goal.returns-in-Met

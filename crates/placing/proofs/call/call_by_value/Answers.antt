@@ -1,6 +1,5 @@
 -- `call::call_by_value` meets its contract: a cause of the frame is met, or the frame is a running one and its counts are made. Assumes nothing.
 use mathlib.Core.Path.{sym, ◌∙◌, ap}
-use borrow.Author.Rules.{rules}
 use Rattle.station.specs.Types.{head_in}
 use Rattle.placing.specs.State.{state_of}
 use Rattle.placing.proofs.ClaimsHold.{call_claim_lem}

@@ -4,7 +4,6 @@ use native.Mathlib.Omega.{arith}
 use mathlib.Core.Path.{◌≡◌, sym, ◌∙◌}
 use mathlib.Core.Bool.{true, false}
 use lib.ListN.{length}
-use borrow.Author.Rules.{rules}
 use Rattle.laws.proofs.Tests.{false_of_not, true_of_not}
 use Rattle.station.specs.Types.{head_in, valid_record}
 use Rattle.placing.specs.State.{state_of}
@@ -21,11 +20,11 @@ use Rattle.placing.proofs.call.EmptyFrom.{clean_from}
 use Rattle.placing.proofs.call.carry_out.Goals as goal
 
 pub returns-then-not-found : goal.returns-then-not-found
-returns-then-not-found c = 
+returns-then-not-found c =
     let searched : let a = c.args in
     valid_record a.head a.presets ≡ true → 512 ≤ length a.table.now → a.n ≤ 8 → jobs_outside (jobs_in a.n a.jobs) ≡ false
     → Evicts (head_in a.head a.presets) a.clock (jobs_in a.n a.jobs) (cell (head_in a.head a.presets) a.table.now) c.evict-found.result =
-        λ v long few inside. let a = c.args in
+    λ v long few inside. let a = c.args in
     c.evict-found.ensures.found (valid_searchable a.head a.n _ a.presets v (omega (arith, few)) long) (jobs_in a.n a.jobs) (c.job_needs-needs.ensures a.n few inside) in
     λ v long formed few inside.
     let a = c.args in
@@ -33,11 +32,11 @@ returns-then-not-found c =
     (sym (searched v long few inside).fits ∙ false_of_not _ c.if-not-found.true)
 
 pub returns : goal.returns
-returns c = 
+returns c =
     let searched : let a = c.args in
     valid_record a.head a.presets ≡ true → 512 ≤ length a.table.now → a.n ≤ 8 → jobs_outside (jobs_in a.n a.jobs) ≡ false
     → Evicts (head_in a.head a.presets) a.clock (jobs_in a.n a.jobs) (cell (head_in a.head a.presets) a.table.now) c.evict-found.result =
-        λ v long few inside. let a = c.args in
+    λ v long few inside. let a = c.args in
     c.evict-found.ensures.found (valid_searchable a.head a.n _ a.presets v (omega (arith, few)) long) (jobs_in a.n a.jobs) (c.job_needs-needs.ensures a.n few inside) in
     λ v long formed few inside.
     let a = c.args in

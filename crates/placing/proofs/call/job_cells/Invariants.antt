@@ -1,11 +1,9 @@
 -- `call::job_cells` meets its contract. The loop's invariant: the records before `i` have theirs. Assumes nothing.
 use Prim.Native.Nat.{◌+◌, ◌-◌, ◌%◌, ◌≤◌}
-use native.Mathlib.Omega.{arith}
-use mathlib.Core.Path.{◌≡◌, refl}
-use lib.ListN.{length, length-set, replicate}
-use Rattle.laws.proofs.Stores.{Stored, stored_none, stored_more}
+use mathlib.Core.Path.{◌≡◌}
+use lib.ListN.{length, replicate}
+use Rattle.laws.proofs.Stores.{Stored}
 use Rattle.placing.specs.method.Jobs.{job_number}
-use Rattle.placing.proofs.call.CallAnswers.{cells_are}
 use Rattle.placing.proofs.call.job_cells.Given as goal
 
 abbrev pub invariant-loop-i : goal.invariant-loop-i

@@ -1,13 +1,10 @@
 -- `capacities::enter_slot` meets its contract: one more in the entries passed up to the slot's free bridges. Assumes nothing.
-use Prim.Native.Nat.{◌+◌, ◌-◌, ◌≤◌}
 use native.Mathlib.Omega.{arith}
-use mathlib.Core.Path.{◌≡◌, ap}
-use mathlib.Core.Logic.{⊎_elim}
-use lib.ListN.{length, get_or, length-set}
-use lib.Dec.{ltb}
+use mathlib.Core.Path.{ap}
+use lib.ListN.{length-set}
 use Rattle.laws.specs.Sums.{bit}
 use Rattle.laws.proofs.Comparisons.{ltb_yes, ltb_no}
-use Rattle.laws.proofs.Stores.{Stored, stored_none, stored_more, stored_kept}
+use Rattle.laws.proofs.Stores.{stored_none, stored_more, stored_kept}
 use Rattle.placing.proofs.capacities.enter_slot.Goals as goal
 use Rattle.placing.proofs.capacities.enter_slot.Goals.{else-r-free, then-r-free}
 
@@ -33,11 +30,14 @@ pub loop-r-preserved : goal.loop-r-preserved
 loop-r-preserved c = let l = c.loop-r in
     let free = c.args.free in
     let here = l.invariant.2.rest l.r (omega arith) in
-    elim c.if-r-free.branch [ then-r-free w ↦ (
-      omega arith,
-      rw w.entries-is (simp length-set l.invariant.1),
-      rw w.entries-is (stored_more l.invariant.2 (omega arith) (omega (arith, l.invariant.1)) (omega (arith, here, ap bit (ltb_yes l.r free w.if-r-free.true)))),
-    ) | else-r-free w ↦ (omega arith, rw w.entries-is l.invariant.1, rw w.entries-is (stored_kept l.invariant.2 (omega (arith, here, ap bit (ltb_no l.r free w.if-r-free.false))))) ]
+    elim c.if-r-free.branch [
+      | then-r-free w ↦ (
+        omega arith,
+        rw w.entries-is (simp length-set l.invariant.1),
+        rw w.entries-is (stored_more l.invariant.2 (omega arith) (omega (arith, l.invariant.1)) (omega (arith, here, ap bit (ltb_yes l.r free w.if-r-free.true)))),
+      )
+      | else-r-free w ↦ (omega arith, rw w.entries-is l.invariant.1, rw w.entries-is (stored_kept l.invariant.2 (omega (arith, here, ap bit (ltb_no l.r free w.if-r-free.false)))))
+    ]
 
 pub returns : goal.returns
 returns c = let l = c.loop-r in (l.invariant.1, λ q low. l.invariant.2.done q (omega arith) (omega (arith, c.loop-r-test.false)))

@@ -1,13 +1,10 @@
 -- `capacities::enter_slot` meets its contract: one more in the entries passed up to the slot's free bridges. Assumes nothing.
 use Prim.Native.Nat.{◌+◌, ◌-◌, ◌≤◌}
-use native.Mathlib.Omega.{arith}
-use mathlib.Core.Path.{◌≡◌, ap}
-use mathlib.Core.Logic.{⊎_elim}
-use lib.ListN.{length, get_or, length-set}
+use mathlib.Core.Path.{◌≡◌}
+use lib.ListN.{length, get_or}
 use lib.Dec.{ltb}
 use Rattle.laws.specs.Sums.{bit}
-use Rattle.laws.proofs.Comparisons.{ltb_yes, ltb_no}
-use Rattle.laws.proofs.Stores.{Stored, stored_none, stored_more, stored_kept}
+use Rattle.laws.proofs.Stores.{Stored}
 use Rattle.placing.proofs.capacities.enter_slot.Given as goal
 
 abbrev pub invariant-loop-r : goal.invariant-loop-r

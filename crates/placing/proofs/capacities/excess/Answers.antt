@@ -1,8 +1,7 @@
 -- `capacities::excess` meets its contract: the greatest excess over the capacities passed, each the sum of the entries so far. Assumes nothing.
-use Prim.Native.Nat.{ℕ, ◌*◌, ◌-◌, ◌≤◌, max}
+use Prim.Native.Nat.{ℕ, ◌-◌, max}
 use native.Mathlib.Omega.{arith}
 use mathlib.Core.Path.{◌≡◌, sym, ◌∙◌, ap, ap₂}
-use borrow.Author.Rules.{rules}
 use Rattle.laws.specs.Sums.{greatest}
 use Rattle.laws.specs.Lists.{at}
 use Rattle.laws.specs.method.Capacities.{capacity_from}

@@ -1,12 +1,9 @@
 -- `capacities::excess` meets its contract: the greatest excess over the capacities passed, each the sum of the entries so far. Assumes nothing.
-use Prim.Native.Nat.{ℕ, ◌*◌, ◌-◌, ◌≤◌, max}
-use native.Mathlib.Omega.{arith}
-use mathlib.Core.Path.{◌≡◌, sym, ◌∙◌, ap, ap₂}
-use borrow.Author.Rules.{rules}
+use Prim.Native.Nat.{◌*◌, ◌-◌, ◌≤◌}
+use mathlib.Core.Path.{◌≡◌}
 use Rattle.laws.specs.Sums.{greatest}
 use Rattle.laws.specs.Lists.{at}
 use Rattle.laws.specs.method.Capacities.{capacity_from}
-use Rattle.laws.proofs.Loops.{sum_none, sum_more, greatest_none, greatest_more}
 use Rattle.placing.proofs.capacities.excess.Given as goal
 
 abbrev pub invariant-loop-r : goal.invariant-loop-r

@@ -1,9 +1,8 @@
 -- `capacities::lacks` meets its contract: none of the sums passed exceeds its capacity by as much, each capacity the sum of the entries so far. Assumes nothing.
-use Prim.Native.Nat.{ℕ, ◌+◌, ◌*◌, ◌-◌, ◌≤◌, ◌<◌}
+use Prim.Native.Nat.{ℕ, ◌+◌, ◌<◌}
 use native.Mathlib.Omega.{arith}
 use mathlib.Core.Path.{◌≡◌, sym, ◌∙◌, ap}
 use lib.Dec.{eqb}
-use borrow.Author.Rules.{rules}
 use Rattle.laws.specs.Lists.{at}
 use Rattle.laws.specs.method.Capacities.{capacity_from}
 use Rattle.laws.proofs.Tests.{Is, is, is_true, is_false}
@@ -58,18 +57,18 @@ pub bounds-sums-8 : goal.bounds-sums-8
 bounds-sums-8 c = omega arith
 
 pub returns-then-enough-sums-2 : goal.returns-then-enough-sums-2
-returns-then-enough-sums-2 c = 
+returns-then-enough-sums-2 c =
     let whole : let a = c.args in c.loop-r.enough ≡ a.short + capacity_from a.entries.now 8 =
-        let l = c.loop-r in
+    let l = c.loop-r in
     let end : l.r ≡ 8 = omega arith in
     l.invariant.2 ∙ ap (λ (k : ℕ). c.args.short + capacity_from c.args.entries.now k) end in
     let a = c.args in
     sym (over_some (at a.sums.now) a.total (capacity_from a.entries.now) a.short 8 (omega arith) (omega (arith, whole, c.if-enough-sums-2.true)))
 
 pub returns : goal.returns
-returns c = 
+returns c =
     let whole : let a = c.args in c.loop-r.enough ≡ a.short + capacity_from a.entries.now 8 =
-        let l = c.loop-r in
+    let l = c.loop-r in
     let end : l.r ≡ 8 = omega arith in
     l.invariant.2 ∙ ap (λ (k : ℕ). c.args.short + capacity_from c.args.entries.now k) end in
     let a = c.args in

@@ -1,17 +1,11 @@
 -- `capacities::slot_counts` meets its contract: the slots passed are filled in and entered. Assumes nothing.
 use Prim.Native.Nat.{ℕ, ◌-◌, ◌≤◌, min}
-use native.Mathlib.Omega.{arith}
-use mathlib.Core.Path.{◌≡◌, sym, ◌∙◌, ap}
+use mathlib.Core.Path.{◌≡◌}
 use mathlib.Core.List.{List}
-use lib.ListN.{length, get_or, length-set, replicate}
+use lib.ListN.{length, get_or, replicate}
 use lib.Count.{ones}
-use lib.Dec.{ltb}
-use borrow.Author.Rules.{rules}
-use Rattle.laws.specs.Sums.{only}
-use Rattle.laws.specs.Lists.{at}
 use Rattle.laws.specs.method.Capacities.{AtLeast}
-use Rattle.laws.proofs.Stores.{Stored, stored_none, stored_more, stored_zeros}
-use Rattle.laws.proofs.Capacities.{at_least_none, at_least_le, at_least_on, at_least_ext}
+use Rattle.laws.proofs.Stores.{Stored}
 use Rattle.placing.proofs.capacities.slot_counts.Given as goal
 
 -- the free number of a slot, by its mask and its room

@@ -2,7 +2,6 @@
 use native.Mathlib.Omega.{arith}
 use mathlib.Core.Path.{sym}
 use Rattle.placing.proofs.WellFormedFrame.{clock_is, clock_past}
-use borrow.Author.Rules.{rules}
 use Rattle.placing.proofs.check.clock_in.Goals as goal
 
 pub returns-then-clock-slots : goal.returns-then-clock-slots

@@ -1,8 +1,7 @@
 -- `check::well_formed_frame` meets its contract: a clause of the test for each test. Assumes nothing.
 use mathlib.Core.Path.{sym, ◌∙◌, ap₂}
 use mathlib.Core.Bool.{Bool, ◌&&◌}
-use borrow.Author.Rules.{rules}
-use Rattle.laws.proofs.Tests.{false_of_not, true_of_not, fails_left}
+use Rattle.laws.proofs.Tests.{fails_left}
 use Rattle.station.specs.Types.{head_in}
 use Rattle.placing.specs.Table.{cell, well_formed}
 use Rattle.placing.specs.Valid.{clock_in}

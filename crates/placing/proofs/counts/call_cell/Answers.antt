@@ -2,7 +2,6 @@
 use native.Mathlib.Omega.{arith}
 use mathlib.Core.Path.{sym, ◌∙◌, ap}
 use Rattle.laws.specs.Sums.{bit}
-use borrow.Author.Rules.{rules}
 use Rattle.placing.proofs.counts.call_cell.Goals as goal
 
 pub returns-then-is_call : goal.returns-then-is_call

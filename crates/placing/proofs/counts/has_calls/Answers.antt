@@ -1,13 +1,12 @@
 -- `counts::has_calls` meets its contract. The loop's invariant: the call cells before `b` are counted. Assumes nothing.
 use native.Mathlib.Omega.{arith}
-use Prim.Native.Nat.{ℕ, ◌+◌, ◌-◌, ◌≤◌}
+use Prim.Native.Nat.{ℕ, ◌+◌}
 use mathlib.Core.Path.{◌≡◌, sym, ◌∙◌, ap}
 use lib.ListN.{get_or}
 use lib.Dec.{ltb}
 use Rattle.laws.specs.Sums.{bit, count}
 use Rattle.laws.proofs.Loops.{sum_none, sum_more}
 use Rattle.placing.specs.Table.{is_call}
-use borrow.Author.Rules.{rules}
 use Rattle.placing.proofs.counts.has_calls.Goals as goal
 
 pub loop-b-init : goal.loop-b-init

@@ -1,13 +1,9 @@
 -- `counts::has_calls` meets its contract. The loop's invariant: the call cells before `b` are counted. Assumes nothing.
-use native.Mathlib.Omega.{arith}
-use Prim.Native.Nat.{ℕ, ◌+◌, ◌-◌, ◌≤◌}
-use mathlib.Core.Path.{◌≡◌, sym, ◌∙◌, ap}
+use Prim.Native.Nat.{◌+◌, ◌-◌, ◌≤◌}
+use mathlib.Core.Path.{◌≡◌}
 use lib.ListN.{get_or}
-use lib.Dec.{ltb}
-use Rattle.laws.specs.Sums.{bit, count}
-use Rattle.laws.proofs.Loops.{sum_none, sum_more}
+use Rattle.laws.specs.Sums.{count}
 use Rattle.placing.specs.Table.{is_call}
-use borrow.Author.Rules.{rules}
 use Rattle.placing.proofs.counts.has_calls.Given as goal
 
 abbrev pub invariant-loop-b : goal.invariant-loop-b

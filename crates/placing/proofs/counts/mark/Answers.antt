@@ -1,7 +1,5 @@
 -- `counts::mark` meets its contract: a law for each answer. Assumes nothing.
 use mathlib.Core.Path.{sym, ◌∙◌}
-use borrow.Author.Tests.{not-true, not-false}
-use borrow.Author.Rules.{rules}
 use Rattle.placing.proofs.counts.MarkedNumbers.{mark_other, mark_again, mark_new}
 use Rattle.placing.proofs.counts.mark.Goals as goal
 

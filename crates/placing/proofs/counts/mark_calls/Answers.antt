@@ -1,9 +1,8 @@
 -- `counts::mark_calls` meets its contract. The loop's invariant: the slots before `s` are marked and counted. Assumes nothing.
 use native.Mathlib.Omega.{arith}
-use Prim.Native.Nat.{ℕ, ◌*◌, ◌-◌, ◌≤◌}
+use Prim.Native.Nat.{ℕ, ◌*◌}
 use native.Mathlib.Nat.{zero-mul}
 use mathlib.Core.Path.{◌≡◌, sym, ◌∙◌, ap, subst}
-use mathlib.Core.Logic.{⊎_elim}
 use mathlib.Core.List.{List}
 use Rattle.laws.specs.Sums.{count}
 use Rattle.laws.proofs.Counts.{count_le}

@@ -1,17 +1,9 @@
 -- `counts::mark_calls` meets its contract. The loop's invariant: the slots before `s` are marked and counted. Assumes nothing.
-use native.Mathlib.Omega.{arith}
-use Prim.Native.Nat.{ℕ, ◌*◌, ◌-◌, ◌≤◌}
-use native.Mathlib.Nat.{zero-mul}
-use mathlib.Core.Path.{◌≡◌, sym, ◌∙◌, ap, subst}
-use mathlib.Core.Logic.{⊎_elim}
-use mathlib.Core.List.{List}
+use Prim.Native.Nat.{◌*◌, ◌-◌, ◌≤◌}
+use mathlib.Core.Path.{◌≡◌}
 use Rattle.laws.specs.Sums.{count}
-use Rattle.laws.proofs.Counts.{count_le}
-use Rattle.placing.proofs.HeadRecord.{next_row}
 use Rattle.placing.specs.method.Jobs.{marked}
 use Rattle.placing.specs.method.Counts.{Marked}
-use Rattle.placing.proofs.counts.usable.UsableCells.{eight_le}
-use Rattle.placing.proofs.counts.MarkedNumbers.{marked_none, none_marked, marked_past}
 use Rattle.placing.proofs.counts.mark_calls.Given as goal
 
 abbrev pub invariant-loop-s : goal.invariant-loop-s

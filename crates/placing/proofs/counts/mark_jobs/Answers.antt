@@ -1,8 +1,7 @@
 -- `counts::mark_jobs` meets its contract. The loop's invariant: the numbers of the jobs before `i` are marked. Assumes nothing.
 use native.Mathlib.Omega.{arith}
-use Prim.Native.Nat.{ℕ, ◌-◌, ◌%◌, ◌≤◌}
+use Prim.Native.Nat.{ℕ, ◌%◌}
 use mathlib.Core.Path.{◌≡◌, refl, subst}
-use lib.ListN.{length}
 use Rattle.placing.specs.method.Jobs.{job_number}
 use Rattle.placing.specs.method.Counts.{MarkedBeside}
 use Rattle.placing.proofs.counts.MarkedNumbers.{beside_none, beside_more}

@@ -1,11 +1,9 @@
 -- `counts::mark_jobs` meets its contract. The loop's invariant: the numbers of the jobs before `i` are marked. Assumes nothing.
-use native.Mathlib.Omega.{arith}
-use Prim.Native.Nat.{ℕ, ◌-◌, ◌%◌, ◌≤◌}
-use mathlib.Core.Path.{◌≡◌, refl, subst}
+use Prim.Native.Nat.{◌-◌, ◌%◌, ◌≤◌}
+use mathlib.Core.Path.{◌≡◌}
 use lib.ListN.{length}
 use Rattle.placing.specs.method.Jobs.{job_number}
 use Rattle.placing.specs.method.Counts.{MarkedBeside}
-use Rattle.placing.proofs.counts.MarkedNumbers.{beside_none, beside_more}
 use Rattle.placing.proofs.counts.mark_jobs.Given as goal
 
 abbrev pub invariant-loop-i : goal.invariant-loop-i

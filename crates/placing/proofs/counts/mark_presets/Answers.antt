@@ -1,6 +1,6 @@
 -- `counts::mark_presets` meets its contract. The loop's invariant: the presets before `i` are marked. Assumes nothing.
 use native.Mathlib.Omega.{arith}
-use Prim.Native.Nat.{ℕ, ◌-◌, ◌≤◌}
+use Prim.Native.Nat.{ℕ}
 use mathlib.Core.Path.{◌≡◌, sym, ◌∙◌, ap}
 use mathlib.Core.Bool.{◌||◌}
 use mathlib.Core.List.{map}
@@ -11,7 +11,6 @@ use Rattle.station.specs.Head.{Preset, no_preset}
 use Rattle.station.specs.Types.{preset_in}
 use Rattle.placing.proofs.HeadRecord.{presets_count, preset_at_lem}
 use Rattle.placing.specs.method.Jobs.{marked}
-use Rattle.placing.specs.method.Counts.{MarkedBeside}
 use Rattle.placing.proofs.counts.MarkedNumbers.{beside_none, beside_more}
 use Rattle.placing.proofs.counts.mark_presets.Goals as goal
 

@@ -1,9 +1,7 @@
 -- `counts::mark_slot` meets its contract. The loop's invariant: the cells before `b` are marked and counted. Assumes nothing.
 use native.Mathlib.Omega.{arith}
-use Prim.Native.Nat.{ℕ, ◌+◌, ◌-◌, ◌≤◌}
+use Prim.Native.Nat.{ℕ, ◌+◌}
 use mathlib.Core.Path.{◌≡◌, refl, subst}
-use Rattle.laws.specs.Sums.{count}
-use Rattle.placing.specs.method.Jobs.{marked}
 use Rattle.placing.specs.method.Counts.{Marked}
 use Rattle.placing.proofs.counts.MarkedNumbers.{marked_more}
 use Rattle.placing.proofs.counts.mark_slot.Goals as goal

@@ -1,11 +1,9 @@
 -- `counts::mark_slot` meets its contract. The loop's invariant: the cells before `b` are marked and counted. Assumes nothing.
-use native.Mathlib.Omega.{arith}
-use Prim.Native.Nat.{ℕ, ◌+◌, ◌-◌, ◌≤◌}
-use mathlib.Core.Path.{◌≡◌, refl, subst}
+use Prim.Native.Nat.{◌+◌, ◌-◌, ◌≤◌}
+use mathlib.Core.Path.{◌≡◌}
 use Rattle.laws.specs.Sums.{count}
 use Rattle.placing.specs.method.Jobs.{marked}
 use Rattle.placing.specs.method.Counts.{Marked}
-use Rattle.placing.proofs.counts.MarkedNumbers.{marked_more}
 use Rattle.placing.proofs.counts.mark_slot.Given as goal
 
 abbrev pub invariant-loop-b : goal.invariant-loop-b

@@ -1,8 +1,6 @@
 -- `plan::grants_of` meets its contract. The invariant: the presets passed have theirs. Assumes nothing.
-use Prim.Native.Nat.{◌≤◌, ◌-◌}
 use native.Mathlib.Omega.{arith}
 use mathlib.Core.Path.{◌≡◌, refl}
-use Rattle.laws.specs.Lists.{at}
 use Rattle.placing.proofs.grants.Arrays.{filled_more}
 use Rattle.placing.specs.Types.{filled}
 use Rattle.placing.proofs.plan.grants_of.Goals as goal

@@ -1,9 +1,7 @@
 -- `plan::grants_of` meets its contract. The invariant: the presets passed have theirs. Assumes nothing.
 use Prim.Native.Nat.{◌≤◌, ◌-◌}
-use native.Mathlib.Omega.{arith}
-use mathlib.Core.Path.{◌≡◌, refl}
+use mathlib.Core.Path.{◌≡◌}
 use Rattle.laws.specs.Lists.{at}
-use Rattle.placing.proofs.grants.Arrays.{filled_more}
 use Rattle.placing.specs.Types.{filled}
 use Rattle.placing.proofs.plan.grants_of.Given as goal
 

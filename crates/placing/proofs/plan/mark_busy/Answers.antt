@@ -1,5 +1,5 @@
 -- `plan::mark_busy` meets its contract. The invariant: the cells passed are busy. Assumes nothing.
-use Prim.Native.Nat.{◌≤◌, ◌-◌, ◌+◌}
+use Prim.Native.Nat.{◌+◌}
 use native.Mathlib.Omega.{arith}
 use mathlib.Core.Path.{◌≡◌, refl}
 use mathlib.Core.Path.{ap, ◌∙◌}

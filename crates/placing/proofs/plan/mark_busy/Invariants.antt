@@ -1,10 +1,7 @@
 -- `plan::mark_busy` meets its contract. The invariant: the cells passed are busy. Assumes nothing.
-use Prim.Native.Nat.{◌≤◌, ◌-◌, ◌+◌}
-use native.Mathlib.Omega.{arith}
-use mathlib.Core.Path.{◌≡◌, refl}
-use mathlib.Core.Path.{ap, ◌∙◌}
+use Prim.Native.Nat.{◌≤◌, ◌-◌}
+use mathlib.Core.Path.{◌≡◌}
 use lib.ListN.{length}
-use Rattle.placing.proofs.plan.PlanAnswers.{busy_length, busy_more}
 use Rattle.placing.specs.method.PlanParts.{busy_to}
 use Rattle.placing.proofs.plan.mark_busy.Given as goal
 

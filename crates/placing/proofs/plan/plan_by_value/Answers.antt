@@ -9,7 +9,6 @@ use Rattle.placing.specs.method.Grants.{GrantedValid}
 use Rattle.placing.proofs.HeadRecord.{count_high}
 use Rattle.placing.proofs.plan.PlanAnswers.{meant_short, meant_invalid, meant_full, meant_granted, grants_are, grants_done, plan_refused, plan_done}
 use Rattle.placing.proofs.ClaimsHold.{plan_claim}
-use borrow.Author.Rules.{rules}
 use Rattle.placing.proofs.plan.plan_by_value.Goals as goal
 
 pub returns-then-table-lt-LEAST_CELLS : goal.returns-then-table-lt-LEAST_CELLS
@@ -28,11 +27,11 @@ returns-then-not-granted c = let a = c.args in
     }
 
 pub returns-then-not-granted-2 : goal.returns-then-not-granted-2
-returns-then-not-granted-2 c = 
+returns-then-not-granted-2 c =
     let valid : let a = c.args in valid_record a.head a.presets ≡ true =
-        sym c.grant-granted.ensures.valid ∙ true_of_not _ c.if-not-granted.false in
+    sym c.grant-granted.ensures.valid ∙ true_of_not _ c.if-not-granted.false in
     let given : let a = c.args in GrantedValid a.head a.presets c.grant-granted.result =
-        c.grant-granted.ensures.granted valid in
+    c.grant-granted.ensures.granted valid in
     let a = c.args in
     let t = a.table.now in record {
       done = plan_refused a.head a.presets t MandatoryNotFeasible
@@ -42,25 +41,25 @@ returns-then-not-granted-2 c =
     }
 
 pub grants_of-grants-requires : goal.grants_of-grants-requires
-grants_of-grants-requires c = 
+grants_of-grants-requires c =
     let valid : let a = c.args in valid_record a.head a.presets ≡ true =
-        sym c.grant-granted.ensures.valid ∙ true_of_not _ c.if-not-granted.false in
+    sym c.grant-granted.ensures.valid ∙ true_of_not _ c.if-not-granted.false in
     let a = c.args in count_high a.head a.presets valid
 
 pub write_plan-requires : goal.write_plan-requires
-write_plan-requires c = 
+write_plan-requires c =
     let valid : let a = c.args in valid_record a.head a.presets ≡ true =
-        sym c.grant-granted.ensures.valid ∙ true_of_not _ c.if-not-granted.false in
+    sym c.grant-granted.ensures.valid ∙ true_of_not _ c.if-not-granted.false in
     let given : let a = c.args in GrantedValid a.head a.presets c.grant-granted.result =
-        c.grant-granted.ensures.granted valid in
+    c.grant-granted.ensures.granted valid in
     (valid, c.if-table-lt-LEAST_CELLS.false, given, true_of_not _ c.if-not-granted-2.false)
 
 pub returns : goal.returns
-returns c = 
+returns c =
     let valid : let a = c.args in valid_record a.head a.presets ≡ true =
-        sym c.grant-granted.ensures.valid ∙ true_of_not _ c.if-not-granted.false in
+    sym c.grant-granted.ensures.valid ∙ true_of_not _ c.if-not-granted.false in
     let given : let a = c.args in GrantedValid a.head a.presets c.grant-granted.result =
-        c.grant-granted.ensures.granted valid in
+    c.grant-granted.ensures.granted valid in
     let a = c.args in
     let t = a.table.now in
     let v = valid in

@@ -1,7 +1,6 @@
 -- `plan::plan_counted` meets its contract: a case for fewer than 32 records, and one for the others. Assumes nothing.
 use native.Mathlib.Omega.{arith}
 use mathlib.Core.Path.{refl}
-use borrow.Author.Rules.{rules}
 use Rattle.placing.proofs.plan.plan_counted.Goals as goal
 
 pub returns-then-records-lt-LEAST_RECORDS : goal.returns-then-records-lt-LEAST_RECORDS

@@ -1,9 +1,7 @@
 -- `plan::preset_cells` meets its contract. The invariant: the presets passed have theirs. Assumes nothing.
 use Prim.Native.Nat.{◌≤◌, ◌-◌, ◌+◌}
-use native.Mathlib.Omega.{arith}
-use mathlib.Core.Path.{◌≡◌, refl}
+use mathlib.Core.Path.{◌≡◌}
 use Rattle.placing.specs.method.Records.{record_at}
-use Rattle.placing.proofs.grants.Arrays.{filled_more}
 use Rattle.placing.specs.Types.{filled}
 use Rattle.placing.proofs.plan.preset_cells.Given as goal
 

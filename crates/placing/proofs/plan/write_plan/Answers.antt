@@ -7,35 +7,34 @@ use Rattle.station.specs.Types.{head_in}
 use Rattle.placing.proofs.HeadRecord.{count_high, record_valid}
 use Rattle.placing.proofs.rule.SlotsPlaced.{frame_within}
 use Rattle.placing.proofs.plan.PlanAnswers.{plan_fillable, plan_written}
-use borrow.Author.Rules.{rules}
 use Rattle.placing.proofs.plan.write_plan.Goals as goal
 
 pub overflow_mul-slots : goal.overflow_mul-slots
-overflow_mul-slots c = 
+overflow_mul-slots c =
     let limits : Valid (head_in c.args.head c.args.presets) =
-        record_valid c.args.head c.args.presets c.requires.0 in
+    record_valid c.args.head c.args.presets c.requires.0 in
     let frame : c.args.head.slots * c.args.head.bridges ≤ 512 =
-        frame_within c.args.head.slots c.args.head.bridges limits.slots_high limits.bridges_high in
+    frame_within c.args.head.slots c.args.head.bridges limits.slots_high limits.bridges_high in
     omega (arith, frame)
 
 pub mark_busy-requires : goal.mark_busy-requires
-mark_busy-requires c = 
+mark_busy-requires c =
     let limits : Valid (head_in c.args.head c.args.presets) =
-        record_valid c.args.head c.args.presets c.requires.0 in
+    record_valid c.args.head c.args.presets c.requires.0 in
     let frame : c.args.head.slots * c.args.head.bridges ≤ 512 =
-        frame_within c.args.head.slots c.args.head.bridges limits.slots_high limits.bridges_high in
+    frame_within c.args.head.slots c.args.head.bridges limits.slots_high limits.bridges_high in
     omega (arith, frame, c.requires.1)
 
 pub preset_cells-early-requires : goal.preset_cells-early-requires
-preset_cells-early-requires c = 
+preset_cells-early-requires c =
     let few : c.args.head.count ≤ 32 =
-        count_high c.args.head c.args.presets c.requires.0 in
+    count_high c.args.head c.args.presets c.requires.0 in
     (few, omega arith)
 
 pub preset_cells-late-requires : goal.preset_cells-late-requires
-preset_cells-late-requires c = 
+preset_cells-late-requires c =
     let few : c.args.head.count ≤ 32 =
-        count_high c.args.head c.args.presets c.requires.0 in
+    count_high c.args.head c.args.presets c.requires.0 in
     (few, omega arith)
 
 pub returns : goal.returns

@@ -1,14 +1,12 @@
 -- `place` meets its contract. The loop's invariant: the slots before s are placed, `levels` has the needs that are left, `due` what is due of the first slots and `held` who
 -- goes first among equal ones, for all needs that the levels may have stood for at first. Assumes nothing.
-use Prim.Native.Nat.{ℕ, ◌≤◌, ◌<◌, ◌+◌, ◌-◌, ◌*◌}
+use Prim.Native.Nat.{ℕ, ◌≤◌, ◌<◌, ◌+◌, ◌*◌}
 use native.Mathlib.Omega.{arith}
 use mathlib.Core.Path.{◌≡◌, refl, sym, ◌∙◌, ap}
-use mathlib.Core.Logic.{⊎_elim}
 use mathlib.Core.Bool.{Bool, true}
 use mathlib.Core.List.{List}
 use lib.ListN.{length, take}
 use borrow.Author.Rules as author
-use Rattle.laws.proofs.Tests.{false_of_not, true_of_not}
 use Rattle.laws.proofs.Comparisons.{ge_of}
 use Rattle.laws.specs.Lists.{at}
 use Rattle.laws.specs.Sums.{count}
@@ -16,7 +14,7 @@ use Rattle.laws.proofs.Counts.{count_none}
 use Rattle.placing.proofs.MaskBits.{has_bit_zero}
 use Rattle.station.specs.Head.{has_bit}
 use Rattle.placing.specs.Plan.{tie_of}
-use Rattle.placing.specs.method.Rule.{Levelled, free_in, CleanFrom, Fillable, placeable, placed_in, placed_within}
+use Rattle.placing.specs.method.Rule.{free_in, CleanFrom, Fillable, placeable, placed_in, placed_within}
 use Rattle.placing.proofs.rule.levels.ByLevel.{standing_all, most_of}
 use Rattle.placing.proofs.rule.SlotsPlaced.{SlotsPlaced, Progress, reached, cell_of, progress_none, progress_more, progress_over, progress_idle, slots_all, frame_within, row_within, placed_within_lem, placed_beyond, placeable_of}
 use Rattle.placing.proofs.rule.place.Goals as goal
@@ -29,17 +27,17 @@ returns-then-not-placeable c = λ clean fill.
     (sym c.placeable.ensures ∙ c.if-not-placeable.true))
 
 pub enter-top-requires : goal.enter-top-requires
-enter-top-requires c = 
+enter-top-requires c =
     let within : let a = c.args in placeable a.slots a.bridges a.needs a.k (length a.table.now) ≡ true =
-        sym c.placeable.ensures ∙ c.if-not-placeable.false in
+    sym c.placeable.ensures ∙ c.if-not-placeable.false in
     let a = c.args in
     let l = placeable_of a.slots a.bridges a.needs a.k (length a.table.now) within in
     (l.2, l.4, refl)
 
 pub loop-s-init : goal.loop-s-init
-loop-s-init c = 
+loop-s-init c =
     let within : let a = c.args in placeable a.slots a.bridges a.needs a.k (length a.table.now) ≡ true =
-        sym c.placeable.ensures ∙ c.if-not-placeable.false in
+    sym c.placeable.ensures ∙ c.if-not-placeable.false in
     let a = c.args in
     let l = placeable_of a.slots a.bridges a.needs a.k (length a.table.now) within in (
       omega arith,
@@ -76,12 +74,12 @@ placed hold slots bridges free counts needs k first early late t table within fe
     ∙ sym (placed_within_lem (tie_of hold) slots bridges free counts needs k first early late t within)
 
 pub returns-then-clean-s : goal.returns-then-clean-s
-returns-then-clean-s c = 
+returns-then-clean-s c =
     let so_far : let l = c.loop-s in
     let a = c.args in
     CleanFrom a.clean a.slots a.bridges a.free a.table.now → Fillable a.slots a.bridges a.free a.counts
     → Progress a.hold a.bridges a.free a.counts (take a.k a.needs) a.first a.early a.late a.table.now a.k l.s l.table l.due l.levels l.top l.held =
-        λ clean fill. let a = c.args in
+    λ clean fill. let a = c.args in
     c.loop-s.invariant.9 a.needs (omega (arith, c.loop-s.invariant.3, c.well_formed.1.1.1.1.0)) (standing_all a.needs c.enter-top.new.levels a.k c.enter-top.ensures.1)
     c.enter-top.ensures.3 clean fill in
     λ clean fill.
@@ -114,10 +112,10 @@ overflow_mul-s c = let a = c.args in
 
 pub write_row-requires : goal.write_row-requires
 write_row-requires c = let a = c.args in (
-      c.loop-s.invariant.2,
-      omega (arith, row_within a.slots a.bridges c.loop-s.invariant.1 c.loop-s.invariant.2 c.loop-s.s (omega arith), c.loop-s.invariant.4, c.loop-s.invariant.5),
-      c.loop-s.invariant.6,
-    )
+  c.loop-s.invariant.2,
+  omega (arith, row_within a.slots a.bridges c.loop-s.invariant.1 c.loop-s.invariant.2 c.loop-s.s (omega arith), c.loop-s.invariant.4, c.loop-s.invariant.5),
+  c.loop-s.invariant.6,
+)
 
 pub overflow_add-s : goal.overflow_add-s
 overflow_add-s c = omega arith
@@ -130,54 +128,57 @@ loop-s-preserved c = let top = c.highest-top.result in
     let l = c.loop-s in
     let a = c.args in
     let low : top < 65 = omega (arith, c.highest-top.ensures.0, l.invariant.8) in
-    elim c.if-mask-ne0.branch [ then-mask-ne0 w ↦ rw (c.held_after-held.ensures, w.table-is, w.due-is, w.levels-is, w.chosen-is) (
-      omega arith,
-      l.invariant.1,
-      l.invariant.2,
-      l.invariant.3,
-      l.invariant.4,
-      w.write_row.ensures.0 ∙ l.invariant.5,
-      w.write_row.ensures.1,
-      w.choose-chosen.ensures.0,
-      low,
-      λ n enough h m clean fill.
-          let now = l.invariant.9 n enough h m clean fill in
-          let rest : ℕ → ℕ = at (reached a.hold a.counts (take a.k n) l.s).needs in
-          let most : (i : ℕ) → i < 64 → rest i ≤ top = most_of l.levels rest l.top top now.levelled l.invariant.8 now.most c.highest-top.ensures.1 in
-          let did = w.choose-chosen.ensures.1 rest now.levelled most in
-          progress_more a.hold a.bridges a.free a.counts n a.first a.early a.late a.table.now a.k enough l.invariant.3
-          l.s l.table l.due l.levels l.top l.held now w.choose-chosen.result
-          did.picks
-          w.write_row.new.table w.write_row.new.due w.choose-chosen.new.levels top most
-          (w.write_row.ensures.3 (λ e b q free. now.table.after (l.s * a.bridges + b) (omega arith) ∙ clean l.s (ge_of l.s a.clean e) (omega arith) b q free))
-          w.write_row.ensures.2 did.levels,
-    ) | else-mask-ne0 w ↦ rw (c.held_after-held.ensures, w.table-is, w.due-is, w.levels-is, w.chosen-is) (
-      omega arith,
-      l.invariant.1,
-      l.invariant.2,
-      l.invariant.3,
-      l.invariant.4,
-      l.invariant.5,
-      l.invariant.6,
-      l.invariant.7,
-      low,
-      λ n enough h m clean fill.
-          let now = l.invariant.9 n enough h m clean fill in
-          progress_over a.hold a.bridges a.free a.counts n a.first a.early a.late a.table.now a.k enough l.invariant.3 l.s l.table l.due l.levels l.top l.held top now
-          w.if-mask-ne0.false (unfilled a.bridges a.free a.counts l.s w.if-mask-ne0.false (fill l.s (omega arith)))
-          (most_of l.levels (at (reached a.hold a.counts (take a.k n) l.s).needs) l.top top now.levelled l.invariant.8 now.most c.highest-top.ensures.1),
-    ) ]
+    elim c.if-mask-ne0.branch [
+      | then-mask-ne0 w ↦ rw (c.held_after-held.ensures, w.table-is, w.due-is, w.levels-is, w.chosen-is) (
+        omega arith,
+        l.invariant.1,
+        l.invariant.2,
+        l.invariant.3,
+        l.invariant.4,
+        w.write_row.ensures.0 ∙ l.invariant.5,
+        w.write_row.ensures.1,
+        w.choose-chosen.ensures.0,
+        low,
+        λ n enough h m clean fill.
+            let now = l.invariant.9 n enough h m clean fill in
+            let rest : ℕ → ℕ = at (reached a.hold a.counts (take a.k n) l.s).needs in
+            let most : (i : ℕ) → i < 64 → rest i ≤ top = most_of l.levels rest l.top top now.levelled l.invariant.8 now.most c.highest-top.ensures.1 in
+            let did = w.choose-chosen.ensures.1 rest now.levelled most in
+            progress_more a.hold a.bridges a.free a.counts n a.first a.early a.late a.table.now a.k enough l.invariant.3
+            l.s l.table l.due l.levels l.top l.held now w.choose-chosen.result
+            did.picks
+            w.write_row.new.table w.write_row.new.due w.choose-chosen.new.levels top most
+            (w.write_row.ensures.3 (λ e b q free. now.table.after (l.s * a.bridges + b) (omega arith) ∙ clean l.s (ge_of l.s a.clean e) (omega arith) b q free))
+            w.write_row.ensures.2 did.levels,
+      )
+      | else-mask-ne0 w ↦ rw (c.held_after-held.ensures, w.table-is, w.due-is, w.levels-is, w.chosen-is) (
+        omega arith,
+        l.invariant.1,
+        l.invariant.2,
+        l.invariant.3,
+        l.invariant.4,
+        l.invariant.5,
+        l.invariant.6,
+        l.invariant.7,
+        low,
+        λ n enough h m clean fill.
+            let now = l.invariant.9 n enough h m clean fill in
+            progress_over a.hold a.bridges a.free a.counts n a.first a.early a.late a.table.now a.k enough l.invariant.3 l.s l.table l.due l.levels l.top l.held top now
+            w.if-mask-ne0.false (unfilled a.bridges a.free a.counts l.s w.if-mask-ne0.false (fill l.s (omega arith)))
+            (most_of l.levels (at (reached a.hold a.counts (take a.k n) l.s).needs) l.top top now.levelled l.invariant.8 now.most c.highest-top.ensures.1),
+      )
+    ]
 
 pub shape_of-table : goal.shape_of-table
 shape_of-table c = c.loop-s.invariant.5
 
 pub returns : goal.returns
-returns c = 
+returns c =
     let so_far : let l = c.loop-s in
     let a = c.args in
     CleanFrom a.clean a.slots a.bridges a.free a.table.now → Fillable a.slots a.bridges a.free a.counts
     → Progress a.hold a.bridges a.free a.counts (take a.k a.needs) a.first a.early a.late a.table.now a.k l.s l.table l.due l.levels l.top l.held =
-        λ clean fill. let a = c.args in
+    λ clean fill. let a = c.args in
     c.loop-s.invariant.9 a.needs (omega (arith, c.loop-s.invariant.3, c.well_formed.1.1.1.1.0)) (standing_all a.needs c.enter-top.new.levels a.k c.enter-top.ensures.1)
     c.enter-top.ensures.3 clean fill in
     λ clean fill.

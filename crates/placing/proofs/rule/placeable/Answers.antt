@@ -1,7 +1,5 @@
 -- `rule::placeable` meets its contract: a law for each answer. Assumes nothing.
 use mathlib.Core.Path.{sym, ◌∙◌}
-use borrow.Author.Rules.{rules}
-use Rattle.laws.proofs.Tests.{false_of_not, true_of_not}
 use Rattle.placing.proofs.rule.SlotsPlaced.{jobs_over, needs_over, all_but_frame}
 use Rattle.placing.proofs.rule.placeable.Goals as goal
 

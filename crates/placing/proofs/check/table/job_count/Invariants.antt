@@ -1,12 +1,7 @@
 -- `check::table::job_count` meets its contract. The loop's invariant: `jobs` of the numbers below `n` have a call cell. Assumes nothing.
-use Prim.Native.Nat.{ℕ, ◌+◌, ◌≤◌, ◌-◌}
-use native.Mathlib.Omega.{arith}
-use mathlib.Core.Logic.{⊎_elim}
-use mathlib.Core.Path.{◌≡◌, sym, ◌∙◌, ap}
-use lib.ListN.{get_or}
-use borrow.Author.Tests.{lt-ltb, le-ltb}
-use Rattle.laws.proofs.Loops.{sum_none, sum_more}
-use Rattle.laws.specs.Sums.{count, bit}
+use Prim.Native.Nat.{◌≤◌, ◌-◌}
+use mathlib.Core.Path.{◌≡◌}
+use Rattle.laws.specs.Sums.{count}
 use Rattle.placing.specs.method.Check.{has_call}
 use Rattle.placing.proofs.check.table.job_count.Given as goal
 

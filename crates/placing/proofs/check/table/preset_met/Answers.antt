@@ -1,6 +1,5 @@
 -- `check::table::preset_met` meets its contract. Assumes nothing.
 use mathlib.Core.Path.{sym}
-use borrow.Author.Rules.{rules}
 use Rattle.station.specs.Types.{preset_in}
 use Rattle.placing.proofs.check.table.Counted.{met_exact, met_not}
 use Rattle.placing.proofs.check.table.preset_met.Goals as goal

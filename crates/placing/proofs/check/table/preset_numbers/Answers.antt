@@ -1,10 +1,9 @@
 -- `check::table::preset_numbers` meets its contract. The loop's invariant: the counts are those of the presets before `i`. Assumes nothing.
-use Prim.Native.Nat.{ℕ, ◌≤◌, ◌-◌}
+use Prim.Native.Nat.{ℕ}
 use native.Mathlib.Omega.{arith}
 use mathlib.Core.List.{List, map}
 use mathlib.Core.Path.{◌≡◌, sym, ◌∙◌, ap}
 use lib.ListN.{take}
-use Rattle.laws.specs.Sums.{count}
 use Rattle.station.specs.Head.{Preset}
 use Rattle.station.specs.Types.{preset_in}
 use Rattle.placing.specs.method.Check.{bump, numbered}

@@ -1,16 +1,12 @@
 -- `check::table::scan` meets its contract. The loops' invariants: the cells before the place `at` fit and are counted; before a slot no number has its mark (`Passed`), in
 -- it those have it whose cells were passed, and these are as many as `held` says (`Walked`). Assumes nothing.
-use Prim.Native.Nat.{ℕ, ◌≤◌, ◌<◌, ◌-◌}
+use Prim.Native.Nat.{◌<◌, ◌-◌}
 use native.Mathlib.Omega.{arith}
-use mathlib.Core.Logic.{⊎_elim}
-use mathlib.Core.Path.{◌≡◌, sym, ◌∙◌}
-use lib.ListN.{length, get_or}
-use borrow.Author.Tests.{not-true, not-false}
-use borrow.Author.Rules.{rules}
-use Rattle.placing.specs.method.Limits.{motors_in}
+use mathlib.Core.Path.{sym, ◌∙◌}
+use lib.ListN.{get_or}
 use Rattle.placing.proofs.HeadRecord.{place_lt}
 use Rattle.placing.proofs.check.table.Counted.{tally_le}
-use Rattle.placing.proofs.check.table.FrameWalk.{fits_below, Passed, Walked, passed_none, slot_begun, walked_skip, walked_more, slot_done, cell_unfit, number_twice, no_motor_left, no_fault}
+use Rattle.placing.proofs.check.table.FrameWalk.{fits_below, passed_none, slot_begun, walked_skip, walked_more, slot_done, cell_unfit, number_twice, no_motor_left, no_fault}
 use Rattle.placing.proofs.check.table.scan.Goals as goal
 use Rattle.placing.proofs.check.table.scan.Goals.{else-v-ge-MANDATORY, then-v-ge-MANDATORY+else-fed-held+else-last-n}
 
@@ -37,15 +33,15 @@ loop-b-init c = let a = c.args in
     )
 
 pub offset_bounds-table-at : goal.offset_bounds-table-at
-offset_bounds-table-at c = 
+offset_bounds-table-at c =
     let below_end : c.loop-b.at < 512 =
-        omega (arith, c.loop-b.invariant.5.place, place_lt c.frame.s c.loop-b.b c.args.head.bridges 512 (omega arith) (omega arith) (omega arith) (omega arith)) in
+    omega (arith, c.loop-b.invariant.5.place, place_lt c.frame.s c.loop-b.b c.args.head.bridges 512 (omega arith) (omega arith) (omega arith) (omega arith)) in
     omega (arith, below_end)
 
 pub bounds-table-at : goal.bounds-table-at
-bounds-table-at c = 
+bounds-table-at c =
     let below_end : c.loop-b.at < 512 =
-        omega (arith, c.loop-b.invariant.5.place, place_lt c.frame.s c.loop-b.b c.args.head.bridges 512 (omega arith) (omega arith) (omega arith) (omega arith)) in
+    omega (arith, c.loop-b.invariant.5.place, place_lt c.frame.s c.loop-b.b c.args.head.bridges 512 (omega arith) (omega arith) (omega arith) (omega arith)) in
     omega (arith, below_end)
 
 pub offset_bounds-busy-b : goal.offset_bounds-busy-b
@@ -67,27 +63,27 @@ pub bounds-last-n-then-v-ge-MANDATORY : goal.bounds-last-n-then-v-ge-MANDATORY
 bounds-last-n-then-v-ge-MANDATORY c = omega arith
 
 pub overflow_cast-place : goal.overflow_cast-place
-overflow_cast-place c = 
+overflow_cast-place c =
     let below : get_or c.args.table.now c.loop-b.at 0 < 1280 =
-        fits_below _ _ _ _ (sym c.cell_fits.ensures ∙ c.if-not-cell_fits.false) in
+    fits_below _ _ _ _ (sym c.cell_fits.ensures ∙ c.if-not-cell_fits.false) in
     omega (arith, below)
 
 pub offset_bounds-counts-place : goal.offset_bounds-counts-place
-offset_bounds-counts-place c = 
+offset_bounds-counts-place c =
     let below : get_or c.args.table.now c.loop-b.at 0 < 1280 =
-        fits_below _ _ _ _ (sym c.cell_fits.ensures ∙ c.if-not-cell_fits.false) in
+    fits_below _ _ _ _ (sym c.cell_fits.ensures ∙ c.if-not-cell_fits.false) in
     omega (arith, below)
 
 pub bounds-counts-place : goal.bounds-counts-place
-bounds-counts-place c = 
+bounds-counts-place c =
     let below : get_or c.args.table.now c.loop-b.at 0 < 1280 =
-        fits_below _ _ _ _ (sym c.cell_fits.ensures ∙ c.if-not-cell_fits.false) in
+    fits_below _ _ _ _ (sym c.cell_fits.ensures ∙ c.if-not-cell_fits.false) in
     omega (arith, below)
 
 pub overflow_add-counts : goal.overflow_add-counts
-overflow_add-counts c = 
+overflow_add-counts c =
     let below_end : c.loop-b.at < 512 =
-        omega (arith, c.loop-b.invariant.5.place, place_lt c.frame.s c.loop-b.b c.args.head.bridges 512 (omega arith) (omega arith) (omega arith) (omega arith)) in
+    omega (arith, c.loop-b.invariant.5.place, place_lt c.frame.s c.loop-b.b c.args.head.bridges 512 (omega arith) (omega arith) (omega arith) (omega arith)) in
     rw c.loop-b.invariant.5.counted (omega (
       arith,
       tally_le c.args.table.now (get_or c.args.table.now c.loop-b.at 0 - 512) c.loop-b.at,
@@ -95,15 +91,15 @@ overflow_add-counts c =
     ))
 
 pub bounds-counts-place-then-v-ge-MANDATORY : goal.bounds-counts-place-then-v-ge-MANDATORY
-bounds-counts-place-then-v-ge-MANDATORY c = 
+bounds-counts-place-then-v-ge-MANDATORY c =
     let below : get_or c.args.table.now c.loop-b.at 0 < 1280 =
-        fits_below _ _ _ _ (sym c.cell_fits.ensures ∙ c.if-not-cell_fits.false) in
+    fits_below _ _ _ _ (sym c.cell_fits.ensures ∙ c.if-not-cell_fits.false) in
     omega (arith, below)
 
 pub overflow_add-at : goal.overflow_add-at
-overflow_add-at c = 
+overflow_add-at c =
     let below_end : c.loop-b.at < 512 =
-        omega (arith, c.loop-b.invariant.5.place, place_lt c.frame.s c.loop-b.b c.args.head.bridges 512 (omega arith) (omega arith) (omega arith) (omega arith)) in
+    omega (arith, c.loop-b.invariant.5.place, place_lt c.frame.s c.loop-b.b c.args.head.bridges 512 (omega arith) (omega arith) (omega arith) (omega arith)) in
     omega (arith, below_end)
 
 pub overflow_step-b : goal.overflow_step-b
@@ -121,11 +117,14 @@ loop-b-preserved c = let a = c.args in
       l.invariant.2,
       l.invariant.3,
       omega arith,
-      elim c.if-v-ge-MANDATORY.branch [ then-v-ge-MANDATORY+else-fed-held+else-last-n w ↦ rw (w.counts-is, w.last-is, w.held-is, w.number_in-n.ensures.0)
-          (walked_more a.head.bridges c.motors-fed.result a.head.busy a.numbers.now a.table.now
-          c.frame.s l.b l.at l.counts l.last l.held l.invariant.5 (omega arith) fits w.if-v-ge-MANDATORY.true w.if-fed-held.false (rw w.number_in-n.ensures.0 at w.if-last-n.false)) | else-v-ge-MANDATORY w ↦ rw (w.counts-is, w.last-is, w.held-is)
-          (walked_skip a.head.bridges c.motors-fed.result a.head.busy a.numbers.now a.table.now
-          c.frame.s l.b l.at l.counts l.last l.held l.invariant.5 (omega arith) fits w.if-v-ge-MANDATORY.false) ],
+      elim c.if-v-ge-MANDATORY.branch [
+        | then-v-ge-MANDATORY+else-fed-held+else-last-n w ↦ rw (w.counts-is, w.last-is, w.held-is, w.number_in-n.ensures.0)
+            (walked_more a.head.bridges c.motors-fed.result a.head.busy a.numbers.now a.table.now
+            c.frame.s l.b l.at l.counts l.last l.held l.invariant.5 (omega arith) fits w.if-v-ge-MANDATORY.true w.if-fed-held.false (rw w.number_in-n.ensures.0 at w.if-last-n.false))
+        | else-v-ge-MANDATORY w ↦ rw (w.counts-is, w.last-is, w.held-is)
+            (walked_skip a.head.bridges c.motors-fed.result a.head.busy a.numbers.now a.table.now
+            c.frame.s l.b l.at l.counts l.last l.held l.invariant.5 (omega arith) fits w.if-v-ge-MANDATORY.false)
+      ],
     )
 
 pub overflow_step-s : goal.overflow_step-s

@@ -1,16 +1,8 @@
 -- `check::table::scan` meets its contract. The loops' invariants: the cells before the place `at` fit and are counted; before a slot no number has its mark (`Passed`), in
 -- it those have it whose cells were passed, and these are as many as `held` says (`Walked`). Assumes nothing.
-use Prim.Native.Nat.{ℕ, ◌≤◌, ◌<◌, ◌-◌}
-use native.Mathlib.Omega.{arith}
-use mathlib.Core.Logic.{⊎_elim}
-use mathlib.Core.Path.{◌≡◌, sym, ◌∙◌}
-use lib.ListN.{length, get_or}
-use borrow.Author.Tests.{not-true, not-false}
-use borrow.Author.Rules.{rules}
-use Rattle.placing.specs.method.Limits.{motors_in}
-use Rattle.placing.proofs.HeadRecord.{place_lt}
-use Rattle.placing.proofs.check.table.Counted.{tally_le}
-use Rattle.placing.proofs.check.table.FrameWalk.{fits_below, Passed, Walked, passed_none, slot_begun, walked_skip, walked_more, slot_done, cell_unfit, number_twice, no_motor_left, no_fault}
+use Prim.Native.Nat.{◌≤◌, ◌<◌, ◌-◌}
+use lib.ListN.{length}
+use Rattle.placing.proofs.check.table.FrameWalk.{Passed, Walked}
 use Rattle.placing.proofs.check.table.scan.Given as goal
 
 abbrev pub invariant-loop-b : goal.invariant-loop-b

@@ -5,10 +5,8 @@ use native.Mathlib.Omega.{arith}
 use mathlib.Core.List.{List}
 use mathlib.Core.Path.{◌≡◌, sym, ◌∙◌, ap, ap₂, subst}
 use lib.Dec.{leb}
-use borrow.Author.Tests.{not-true, not-false}
-use borrow.Author.Rules.{rules}
 use Rattle.laws.specs.Sums.{every, count}
-use Rattle.station.specs.Head.{Head, Valid}
+use Rattle.station.specs.Head.{Head}
 use Rattle.station.specs.Types.{head_in}
 use Rattle.placing.specs.Table.{preset_count, motors}
 use Rattle.placing.specs.method.Check.{tally, numbered, preset_met, has_call, FirstFault}

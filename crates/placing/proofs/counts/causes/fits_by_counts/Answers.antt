@@ -1,16 +1,14 @@
 -- `counts::causes::fits_by_counts` meets its contract. The invariant: the sums and the total are those of what is unfinished and of the jobs passed. Assumes nothing.
-use Prim.Native.Nat.{ℕ, ◌+◌, ◌*◌, ◌-◌, ◌≤◌, ◌<◌}
+use Prim.Native.Nat.{◌+◌, ◌*◌, ◌<◌}
 use native.Mathlib.Omega.{arith}
-use mathlib.Core.Path.{◌≡◌, refl, sym, ap}
+use mathlib.Core.Path.{refl, sym, ap}
 use mathlib.Core.List.{List}
 use lib.ListN.{length}
-use borrow.Author.Rules.{rules}
-use Rattle.laws.specs.Lists.{at}
 use Rattle.station.specs.Head.{Job}
 use Rattle.placing.specs.Types.{jobs_in}
 use Rattle.placing.specs.method.Jobs.{job_record}
 use Rattle.placing.proofs.grants.Arrays.{raised_low}
-use Rattle.placing.proofs.counts.causes.CallCauses.{jobs_length, job_at_lem, inside_slots, Beside, beside_none, beside_more, beside_fits}
+use Rattle.placing.proofs.counts.causes.CallCauses.{jobs_length, job_at_lem, inside_slots, beside_none, beside_more, beside_fits}
 use Rattle.placing.proofs.counts.causes.fits_by_counts.Goals as goal
 
 pub loop-i-init : goal.loop-i-init
@@ -26,9 +24,9 @@ pub overflow_cast-need : goal.overflow_cast-need
 overflow_cast-need c = omega arith
 
 pub raise_sums-requires : goal.raise_sums-requires
-raise_sums-requires c = 
+raise_sums-requires c =
     let short : c.loop-i.i < c.args.n → (job_record c.args.jobs c.loop-i.i).slots < 256 =
-        λ l. inside_slots c.args.jobs (omega (arith, c)) c.args.n c.requires.0 c.requires.1 c.loop-i.i l in
+    λ l. inside_slots c.args.jobs (omega (arith, c)) c.args.n c.requires.0 c.requires.1 c.loop-i.i l in
     let l = c.loop-i in
     let small = short (omega arith) in
     record { long = l.invariant.2; part = λ q low. omega arith; low = λ q low. omega (arith, l.invariant.3 q low); small = omega (arith, small) }
@@ -43,9 +41,9 @@ pub loop-i-smaller : goal.loop-i-smaller
 loop-i-smaller c = omega arith
 
 pub loop-i-preserved : goal.loop-i-preserved
-loop-i-preserved c = 
+loop-i-preserved c =
     let short : c.loop-i.i < c.args.n → (job_record c.args.jobs c.loop-i.i).slots < 256 =
-        λ l. inside_slots c.args.jobs (omega (arith, c)) c.args.n c.requires.0 c.requires.1 c.loop-i.i l in
+    λ l. inside_slots c.args.jobs (omega (arith, c)) c.args.n c.requires.0 c.requires.1 c.loop-i.i l in
     let a = c.args in
     let l = c.loop-i in
     let small = short (omega arith) in

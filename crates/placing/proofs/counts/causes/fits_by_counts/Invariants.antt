@@ -1,16 +1,10 @@
 -- `counts::causes::fits_by_counts` meets its contract. The invariant: the sums and the total are those of what is unfinished and of the jobs passed. Assumes nothing.
 use Prim.Native.Nat.{ℕ, ◌+◌, ◌*◌, ◌-◌, ◌≤◌, ◌<◌}
-use native.Mathlib.Omega.{arith}
-use mathlib.Core.Path.{◌≡◌, refl, sym, ap}
-use mathlib.Core.List.{List}
+use mathlib.Core.Path.{◌≡◌}
 use lib.ListN.{length}
-use borrow.Author.Rules.{rules}
 use Rattle.laws.specs.Lists.{at}
-use Rattle.station.specs.Head.{Job}
 use Rattle.placing.specs.Types.{jobs_in}
-use Rattle.placing.specs.method.Jobs.{job_record}
-use Rattle.placing.proofs.grants.Arrays.{raised_low}
-use Rattle.placing.proofs.counts.causes.CallCauses.{jobs_length, job_at_lem, inside_slots, Beside, beside_none, beside_more, beside_fits}
+use Rattle.placing.proofs.counts.causes.CallCauses.{Beside}
 use Rattle.placing.proofs.counts.causes.fits_by_counts.Given as goal
 
 abbrev pub invariant-loop-i : goal.invariant-loop-i

@@ -1,14 +1,9 @@
 -- `cause::is_first` meets its contract. The loop's invariant: no job before `j` has the number. Assumes nothing.
-use Prim.Native.Nat.{ℕ, ◌≤◌, ◌<◌, ◌-◌}
-use native.Mathlib.Omega.{arith}
+use Prim.Native.Nat.{◌≤◌, ◌<◌, ◌-◌}
 use mathlib.Core.Bool.{true}
-use mathlib.Core.Path.{◌≡◌, sym, subst}
-use Rattle.laws.proofs.Tests.{not_is_true, not_is_false}
-use Rattle.laws.proofs.Comparisons.{eqb_yes, eqb_no}
-use Rattle.laws.proofs.Every.{every_not}
-use Rattle.laws.proofs.Loops.{every_none, every_more}
+use mathlib.Core.Path.{◌≡◌}
 use Rattle.laws.specs.Sums.{every}
-use Rattle.placing.specs.method.Jobs.{job_number, is_other}
+use Rattle.placing.specs.method.Jobs.{is_other}
 use Rattle.placing.proofs.counts.causes.is_first.Given as goal
 
 abbrev pub invariant-loop-j : goal.invariant-loop-j

@@ -3,7 +3,6 @@ use native.Mathlib.Omega.{arith}
 use Rattle.laws.proofs.Stores.{zeros}
 use Rattle.placing.specs.Types.{jobs_in}
 use Rattle.placing.proofs.counts.causes.CallCauses.{fit_counted, fit_one}
-use borrow.Author.Rules.{rules}
 use Rattle.placing.proofs.counts.causes.jobs_fit.Goals as goal
 
 pub returns-then-n-eq1 : goal.returns-then-n-eq1

@@ -1,10 +1,8 @@
 -- `cause::jobs_outside` meets its contract. The loop's invariant: the jobs before `i` are within their limits. Assumes nothing.
-use Prim.Native.Nat.{ℕ, ◌≤◌, ◌-◌}
+use Prim.Native.Nat.{ℕ}
 use native.Mathlib.Omega.{arith}
 use mathlib.Core.Bool.{true}
 use mathlib.Core.Path.{◌≡◌, sym, ◌∙◌, subst}
-use borrow.Author.Tests.{not-true, not-false}
-use borrow.Author.Rules.{rules}
 use Rattle.laws.proofs.Loops.{every_none, every_more}
 use Rattle.laws.specs.Sums.{every}
 use Rattle.placing.specs.method.Jobs.{within_at}
@@ -35,12 +33,12 @@ loop-i-smaller c = omega arith
 
 pub loop-i-preserved : goal.loop-i-preserved
 loop-i-preserved c = let l = c.loop-i in (
-      omega arith,
-      omega arith,
-      omega arith,
-      every_more l.i (within_at c.args.jobs) l.invariant.3
-          (sym c.job_in_limits.ensures ∙ c.if-not-job_in_limits.false),
-    )
+  omega arith,
+  omega arith,
+  omega arith,
+  every_more l.i (within_at c.args.jobs) l.invariant.3
+      (sym c.job_in_limits.ensures ∙ c.if-not-job_in_limits.false),
+)
 
 pub returns : goal.returns
 returns c = let e : c.loop-i.i ≡ c.args.n = omega arith in

@@ -1,14 +1,9 @@
 -- `cause::jobs_outside` meets its contract. The loop's invariant: the jobs before `i` are within their limits. Assumes nothing.
-use Prim.Native.Nat.{ℕ, ◌≤◌, ◌-◌}
-use native.Mathlib.Omega.{arith}
+use Prim.Native.Nat.{◌≤◌, ◌-◌}
 use mathlib.Core.Bool.{true}
-use mathlib.Core.Path.{◌≡◌, sym, ◌∙◌, subst}
-use borrow.Author.Tests.{not-true, not-false}
-use borrow.Author.Rules.{rules}
-use Rattle.laws.proofs.Loops.{every_none, every_more}
+use mathlib.Core.Path.{◌≡◌}
 use Rattle.laws.specs.Sums.{every}
 use Rattle.placing.specs.method.Jobs.{within_at}
-use Rattle.placing.proofs.counts.causes.CallCauses.{outside_none, outside_one, inside}
 use Rattle.placing.proofs.counts.causes.jobs_outside.Given as goal
 
 abbrev pub invariant-loop-i : goal.invariant-loop-i

@@ -1,18 +1,11 @@
 -- `cause::jobs_used` meets its contract. The loop's invariant: the jobs before `i` have new numbers. Assumes nothing.
-use native.Mathlib.Omega.{arith}
-use Prim.Native.Nat.{ℕ, ◌≤◌, ◌-◌}
+use Prim.Native.Nat.{◌≤◌, ◌-◌}
 use mathlib.Core.Bool.{true, false}
-use mathlib.Core.Path.{◌≡◌, sym, ◌∙◌, subst}
-use borrow.Author.Tests.{not-true, not-false}
-use Rattle.laws.proofs.Tests.{not_is_true, not_is_false}
-use Rattle.laws.proofs.Every.{every_not}
-use Rattle.laws.proofs.Loops.{every_none, every_more}
+use mathlib.Core.Path.{◌≡◌}
 use Rattle.laws.specs.Sums.{every}
 use Rattle.placing.specs.Types.{jobs_in}
 use Rattle.placing.specs.Outcomes.{jobs_outside}
 use Rattle.placing.specs.method.Jobs.{job_new}
-use Rattle.placing.proofs.counts.causes.CallCauses.{new_marked, new_twice, new_job, inside_number}
-use borrow.Author.Rules.{rules}
 use Rattle.placing.proofs.counts.causes.jobs_used.Given as goal
 
 abbrev pub invariant-loop-i : goal.invariant-loop-i

@@ -1,12 +1,9 @@
 -- `counts::needs::job_needs` meets its contract. The loop's invariant: the records before `i` have theirs. Assumes nothing.
 use native.Mathlib.Omega.{arith}
-use Prim.Native.Nat.{◌-◌, ◌%◌, ◌≤◌}
 use mathlib.Core.Path.{◌≡◌}
-use lib.ListN.{length, length-set, replicate}
-use Rattle.laws.proofs.Stores.{Stored, stored_none, stored_more}
-use Rattle.placing.specs.method.Jobs.{job_record}
+use lib.ListN.{length-set, replicate}
+use Rattle.laws.proofs.Stores.{stored_none, stored_more}
 use Rattle.placing.proofs.counts.causes.CallCauses.{lengths_are}
-use borrow.Author.Rules.{rules}
 use Rattle.placing.proofs.counts.needs.job_needs.Goals as goal
 
 pub loop-i-init : goal.loop-i-init

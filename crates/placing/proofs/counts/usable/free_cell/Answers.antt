@@ -1,7 +1,6 @@
 -- `counts::usable::free_cell` meets its contract: a law for each answer. Assumes nothing.
 use native.Mathlib.Omega.{arith}
 use mathlib.Core.Path.{sym, ◌∙◌}
-use borrow.Author.Rules.{rules}
 use Rattle.placing.proofs.counts.usable.UsableCells.{free_empty, free_evictable, free_none}
 use Rattle.placing.proofs.counts.usable.free_cell.Goals as goal
 

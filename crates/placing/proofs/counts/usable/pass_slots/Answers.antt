@@ -1,14 +1,13 @@
 -- `counts::usable::pass_slots` meets its contract. The loop's invariant: where the entries were those of the first clock, they are those of the clock s. Assumes nothing.
 use native.Mathlib.Omega.{arith}
-use Prim.Native.Nat.{ℕ, ◌-◌, ◌≤◌, ◌<◌, min}
+use Prim.Native.Nat.{ℕ, ◌≤◌, ◌<◌, min}
 use mathlib.Core.Path.{◌≡◌, sym, ◌∙◌, subst}
 use lib.ListN.{length}
-use Rattle.laws.proofs.Tests.{clash, false_of_not, true_of_not}
+use Rattle.laws.proofs.Tests.{clash}
 use Rattle.placing.proofs.limits.Within.{limits_of}
 use Rattle.laws.specs.method.Capacities.{AtLeast}
 use Rattle.placing.specs.method.Counts.{slot_free}
 use Rattle.placing.proofs.counts.usable.UsableCells.{eight_le, pass_slot, entries_past}
-use borrow.Author.Rules.{rules}
 use Rattle.placing.proofs.counts.usable.pass_slots.Goals as goal
 
 pub returns-then-not-in_limits : goal.returns-then-not-in_limits
@@ -22,35 +21,35 @@ loop-s-init c = let a = c.args in
     )
 
 pub overflow_mul-s : goal.overflow_mul-s
-overflow_mul-s c = 
+overflow_mul-s c =
     let within : let a = c.args in
     (a.head.slots ≤ 64) × (a.head.bridges ≤ 8) × (0 ≤ 32) × (512 ≤ length a.table.now) =
-        let a = c.args in
+    let a = c.args in
     limits_of a.head.slots a.head.bridges 0 (length a.table.now) (sym c.in_limits.ensures ∙ c.if-not-in_limits.false) in
     let below : c.loop-s.s < 64 =
-        omega (arith, c.loop-s-test.true, c.first_slot-end.ensures, within.0) in
+    omega (arith, c.loop-s-test.true, c.first_slot-end.ensures, within.0) in
     let a = c.args in
     omega (arith, eight_le c.loop-s.s a.head.bridges below within.1)
 
 pub usable_in-free-requires : goal.usable_in-free-requires
-usable_in-free-requires c = 
+usable_in-free-requires c =
     let within : let a = c.args in
     (a.head.slots ≤ 64) × (a.head.bridges ≤ 8) × (0 ≤ 32) × (512 ≤ length a.table.now) =
-        let a = c.args in
+    let a = c.args in
     limits_of a.head.slots a.head.bridges 0 (length a.table.now) (sym c.in_limits.ensures ∙ c.if-not-in_limits.false) in
     let below : c.loop-s.s < 64 =
-        omega (arith, c.loop-s-test.true, c.first_slot-end.ensures, within.0) in
+    omega (arith, c.loop-s-test.true, c.first_slot-end.ensures, within.0) in
     let a = c.args in
     (within.1, omega (arith, eight_le c.loop-s.s a.head.bridges below within.1, within.3))
 
 pub overflow_add-s : goal.overflow_add-s
-overflow_add-s c = 
+overflow_add-s c =
     let within : let a = c.args in
     (a.head.slots ≤ 64) × (a.head.bridges ≤ 8) × (0 ≤ 32) × (512 ≤ length a.table.now) =
-        let a = c.args in
+    let a = c.args in
     limits_of a.head.slots a.head.bridges 0 (length a.table.now) (sym c.in_limits.ensures ∙ c.if-not-in_limits.false) in
     let below : c.loop-s.s < 64 =
-        omega (arith, c.loop-s-test.true, c.first_slot-end.ensures, within.0) in
+    omega (arith, c.loop-s-test.true, c.first_slot-end.ensures, within.0) in
     omega (arith, below)
 
 pub loop-s-smaller : goal.loop-s-smaller

@@ -1,8 +1,6 @@
 -- `counts::usable::staying_cell` meets its contract. Assumes nothing.
 use native.Mathlib.Omega.{arith}
 use mathlib.Core.Path.{sym, ◌∙◌}
-use borrow.Author.Rules.{rules}
-use Rattle.laws.proofs.Tests.{false_of_not, true_of_not}
 use Rattle.placing.proofs.counts.usable.UsableCells.{stays_unheld, stays_evictable, stays_held}
 use Rattle.placing.proofs.counts.usable.staying_cell.Goals as goal
 
@@ -14,6 +12,6 @@ returns-then-is_evictable c = (stays_evictable c.args.v (sym c.is_evictable.ensu
 
 pub returns : goal.returns
 returns c = (
-      stays_held c.args.v (sym c.is_held.ensures ∙ c.if-not-is_held.false) (sym c.is_evictable.ensures ∙ c.if-is_evictable.false),
-      omega arith,
-    )
+  stays_held c.args.v (sym c.is_held.ensures ∙ c.if-not-is_held.false) (sym c.is_evictable.ensures ∙ c.if-is_evictable.false),
+  omega arith,
+)

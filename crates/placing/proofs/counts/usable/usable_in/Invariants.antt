@@ -1,15 +1,11 @@
 -- `counts::usable::usable_in` meets its contract. The loop's invariant: the cells before `b` that are within the slot are counted. Assumes nothing.
-use native.Mathlib.Omega.{arith}
 use Prim.Native.Nat.{ℕ, ◌+◌, ◌-◌, ◌≤◌, min}
-use mathlib.Core.Path.{◌≡◌, ◌∙◌, ap, ap₂}
-use mathlib.Core.Logic.{⊎_elim}
+use mathlib.Core.Path.{◌≡◌}
 use mathlib.Core.Bool.{Bool}
 use mathlib.Core.List.{List}
 use lib.ListN.{get_or}
-use borrow.Author.Rules.{rules}
 use Rattle.laws.specs.Sums.{count}
-use Rattle.laws.proofs.Loops.{sum_none, count_here, count_past}
-use Rattle.placing.specs.method.Counts.{free_cell, staying_cell, usable_in}
+use Rattle.placing.specs.method.Counts.{free_cell, staying_cell}
 use Rattle.placing.proofs.counts.usable.usable_in.Given as goal
 
 -- a test of the cells from a place on

@@ -1,8 +1,6 @@
 -- `grants::free::plan_free` meets its contract. The invariant: the slots passed have their masks. Assumes nothing.
-use Prim.Native.Nat.{◌≤◌, ◌-◌}
 use native.Mathlib.Omega.{arith}
 use mathlib.Core.Path.{◌≡◌, refl}
-use Rattle.placing.specs.method.Grants.{free_mask}
 use Rattle.placing.proofs.grants.Arrays.{filled_more}
 use Rattle.placing.specs.Types.{filled}
 use Rattle.placing.proofs.grants.free.plan_free.Goals as goal

@@ -1,8 +1,8 @@
 -- `grants::free::slot_free` meets its contract. The invariant: the mask is that of the bridges passed, from the last one on. Assumes nothing.
-use Prim.Native.Nat.{◌≤◌, ◌-◌, ◌<◌}
+use Prim.Native.Nat.{◌-◌}
 use native.Mathlib.Omega.{arith}
-use mathlib.Core.Path.{◌≡◌, sym, ◌∙◌}
-use Rattle.placing.proofs.grants.Arrays.{free_number_from, free_none, free_more, free_all, free_fits}
+use mathlib.Core.Path.{sym, ◌∙◌}
+use Rattle.placing.proofs.grants.Arrays.{free_none, free_more, free_all, free_fits}
 use Rattle.placing.proofs.grants.free.slot_free.Goals as goal
 
 pub loop-b-init : goal.loop-b-init

@@ -1,8 +1,7 @@
 -- `grants::free::slot_free` meets its contract. The invariant: the mask is that of the bridges passed, from the last one on. Assumes nothing.
 use Prim.Native.Nat.{◌≤◌, ◌-◌, ◌<◌}
-use native.Mathlib.Omega.{arith}
-use mathlib.Core.Path.{◌≡◌, sym, ◌∙◌}
-use Rattle.placing.proofs.grants.Arrays.{free_number_from, free_none, free_more, free_all, free_fits}
+use mathlib.Core.Path.{◌≡◌}
+use Rattle.placing.proofs.grants.Arrays.{free_number_from}
 use Rattle.placing.proofs.grants.free.slot_free.Given as goal
 
 abbrev pub invariant-loop-b : goal.invariant-loop-b

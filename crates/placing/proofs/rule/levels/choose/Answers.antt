@@ -1,12 +1,11 @@
 -- `choose` meets its contract. The loop's invariant: of all needs that the levels may stand for, those above level l have been served. Assumes nothing.
 use Prim.Native.Nat.{ℕ, ◌≤◌, ◌<◌, ◌-◌}
 use native.Mathlib.Omega.{arith}
-use mathlib.Core.Path.{◌≡◌, sym}
+use mathlib.Core.Path.{sym}
 use mathlib.Core.Logic.{inl, inr}
 use mathlib.Core.List.{List}
-use lib.ListN.{length, set, length-set}
+use lib.ListN.{set, length-set}
 use lib.Bits.{bit_or, bit_xor}
-use borrow.Author.Rules.{rules}
 use Rattle.laws.specs.Lists.{at}
 use Rattle.laws.specs.Placement.{tie_hold}
 use Rattle.station.specs.Head.{has_bit}
@@ -45,14 +44,14 @@ pub bounds-levels-below-in-loop-l : goal.bounds-levels-below-in-loop-l
 bounds-levels-below-in-loop-l c = omega arith
 
 pub returns-then-rest-eq0 : goal.returns-then-rest-eq0
-returns-then-rest-eq0 c = 
+returns-then-rest-eq0 c =
     let gone : let l = c.loop-l in
     let a = c.args in
     let next = c.first_held-first.result.jobs in
     let off = set l.levels l.l (bit_xor (at l.levels l.l) next) in
     (n : ℕ → ℕ) → Levelled a.levels.now n → ((i : ℕ) → i < 64 → n i ≤ a.top)
     → Gone (tie_hold 0 (has_bit a.held)) n a.d (set off (l.l - 1) (bit_or (at off (l.l - 1)) next)) (l.l - 1) c.first_held-first.result.more (bit_or l.served next) =
-        λ n h most. let l = c.loop-l in
+    λ n h most. let l = c.loop-l in
     let a = c.args in
     let gave = c.first_held-first in
     rw (sym gave.ensures.1) at (gone_more (tie_hold 0 (has_bit a.held)) n a.d l.levels l.l l.rest l.served (omega arith) (l.invariant.2 n h most) (omega arith) gave.result.jobs
@@ -78,14 +77,14 @@ pub loop-l-smaller : goal.loop-l-smaller
 loop-l-smaller c = omega (arith, c.highest-l.ensures.0)
 
 pub loop-l-preserved : goal.loop-l-preserved
-loop-l-preserved c = 
+loop-l-preserved c =
     let gone : let l = c.loop-l in
     let a = c.args in
     let next = c.first_held-first.result.jobs in
     let off = set l.levels l.l (bit_xor (at l.levels l.l) next) in
     (n : ℕ → ℕ) → Levelled a.levels.now n → ((i : ℕ) → i < 64 → n i ≤ a.top)
     → Gone (tie_hold 0 (has_bit a.held)) n a.d (set off (l.l - 1) (bit_or (at off (l.l - 1)) next)) (l.l - 1) c.first_held-first.result.more (bit_or l.served next) =
-        λ n h most. let l = c.loop-l in
+    λ n h most. let l = c.loop-l in
     let a = c.args in
     let gave = c.first_held-first in
     rw (sym gave.ensures.1) at (gone_more (tie_hold 0 (has_bit a.held)) n a.d l.levels l.l l.rest l.served (omega arith) (l.invariant.2 n h most) (omega arith) gave.result.jobs

@@ -1,17 +1,11 @@
 -- `choose` meets its contract. The loop's invariant: of all needs that the levels may stand for, those above level l have been served. Assumes nothing.
-use Prim.Native.Nat.{ℕ, ◌≤◌, ◌<◌, ◌-◌}
-use native.Mathlib.Omega.{arith}
-use mathlib.Core.Path.{◌≡◌, sym}
-use mathlib.Core.Logic.{inl, inr}
-use mathlib.Core.List.{List}
-use lib.ListN.{length, set, length-set}
-use lib.Bits.{bit_or, bit_xor}
-use borrow.Author.Rules.{rules}
-use Rattle.laws.specs.Lists.{at}
+use Prim.Native.Nat.{ℕ, ◌≤◌, ◌<◌}
+use mathlib.Core.Path.{◌≡◌}
+use lib.ListN.{length}
 use Rattle.laws.specs.Placement.{tie_hold}
 use Rattle.station.specs.Head.{has_bit}
 use Rattle.placing.specs.method.Rule.{Levelled}
-use Rattle.placing.proofs.rule.levels.LevelsDone.{Gone, gone_none, gone_empty, gone_more, gone_all}
+use Rattle.placing.proofs.rule.levels.LevelsDone.{Gone}
 use Rattle.placing.proofs.rule.levels.choose.Given as goal
 
 abbrev pub invariant-loop-l : goal.invariant-loop-l

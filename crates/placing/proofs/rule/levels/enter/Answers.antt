@@ -1,14 +1,10 @@
 -- `enter` meets its contract. The loop's invariant: the first i jobs stand in their levels, none of them above `top`. Assumes nothing.
-use Prim.Native.Nat.{ℕ, ◌+◌, ◌≤◌, ◌<◌, ◌-◌, ◌*◌, ◌%◌, ◌^◌}
+use Prim.Native.Nat.{ℕ, ◌+◌, ◌≤◌, ◌<◌, ◌*◌, ◌%◌, ◌^◌}
 use native.Mathlib.Omega.{arith}
 use mathlib.Core.Path.{◌≡◌, ◌∙◌, ap}
-use mathlib.Core.Logic.{⊎_elim}
 use mathlib.Core.List.{List}
-use mathlib.Core.Bool.{◌&&◌}
 use lib.ListN.{length, length-set}
-use lib.Dec.{ltb, eqb}
 use lib.Pow.{pow_mono}
-use borrow.Author.Rules.{rules}
 use Rattle.laws.specs.Lists.{at}
 use Rattle.station.specs.Head.{has_bit}
 use Rattle.placing.proofs.rule.levels.ByLevel.{standing_none, standing_more, most_more}
@@ -17,12 +13,12 @@ use Rattle.placing.proofs.rule.levels.enter.Goals.{else-top-l, then-top-l}
 
 pub loop-i-init : goal.loop-i-init
 loop-i-init c = let a = c.args in (
-      omega arith,
-      ap length c.requires.2,
-      λ l j. ap (λ (t : List ℕ). has_bit (at t l) j) c.requires.2 ∙ standing_none a.needs.now l j,
-      omega arith,
-      λ j h. absurd (omega arith),
-    )
+  omega arith,
+  ap length c.requires.2,
+  λ l j. ap (λ (t : List ℕ). has_bit (at t l) j) c.requires.2 ∙ standing_none a.needs.now l j,
+  omega arith,
+  λ j h. absurd (omega arith),
+)
 
 pub level_of-l-requires : goal.level_of-l-requires
 level_of-l-requires c = (omega arith, c.requires.1 c.loop-i.i (omega arith))

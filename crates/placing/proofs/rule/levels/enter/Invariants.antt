@@ -1,17 +1,11 @@
 -- `enter` meets its contract. The loop's invariant: the first i jobs stand in their levels, none of them above `top`. Assumes nothing.
-use Prim.Native.Nat.{ℕ, ◌+◌, ◌≤◌, ◌<◌, ◌-◌, ◌*◌, ◌%◌, ◌^◌}
-use native.Mathlib.Omega.{arith}
-use mathlib.Core.Path.{◌≡◌, ◌∙◌, ap}
-use mathlib.Core.Logic.{⊎_elim}
-use mathlib.Core.List.{List}
+use Prim.Native.Nat.{ℕ, ◌≤◌, ◌<◌, ◌-◌}
+use mathlib.Core.Path.{◌≡◌}
 use mathlib.Core.Bool.{◌&&◌}
-use lib.ListN.{length, length-set}
+use lib.ListN.{length}
 use lib.Dec.{ltb, eqb}
-use lib.Pow.{pow_mono}
-use borrow.Author.Rules.{rules}
 use Rattle.laws.specs.Lists.{at}
 use Rattle.station.specs.Head.{has_bit}
-use Rattle.placing.proofs.rule.levels.ByLevel.{standing_none, standing_more, most_more}
 use Rattle.placing.proofs.rule.levels.enter.Given as goal
 
 abbrev pub invariant-loop-i : goal.invariant-loop-i

@@ -2,7 +2,6 @@
 use Prim.Native.Nat.{ℕ, ◌-◌}
 use mathlib.Core.Path.{◌∙◌, ap, ap₂}
 use mathlib.Core.Bool.{Bool, ◌||◌}
-use borrow.Author.Rules.{rules}
 use Rattle.laws.specs.Sums.{count}
 use Rattle.station.specs.Head.{has_bit}
 use Rattle.placing.specs.method.Rule.{without, first_few}

@@ -1,13 +1,9 @@
 -- `first_of` meets its contract. The loop's invariant: `rest` has the mask's bits but the first ones, one for each turn, and there were so many. Assumes nothing.
-use Prim.Native.Nat.{ℕ, ◌+◌, ◌-◌, ◌≤◌, ◌<◌, ◌^◌}
-use native.Mathlib.Omega.{arith}
-use mathlib.Core.Path.{◌≡◌, ◌∙◌, ap}
-use lib.Bits.{and_le_l}
-use borrow.Author.Rules.{rules}
+use Prim.Native.Nat.{ℕ, ◌-◌, ◌≤◌, ◌<◌, ◌^◌}
+use mathlib.Core.Path.{◌≡◌}
 use Rattle.laws.specs.Sums.{count}
 use Rattle.station.specs.Head.{has_bit}
-use Rattle.placing.proofs.rule.row.RowWritten.{untaken, untaken_none}
-use Rattle.placing.proofs.rule.masks.Sets.{clear_more, clear_some, clear_none, first_all, first_cleared}
+use Rattle.placing.proofs.rule.row.RowWritten.{untaken}
 use Rattle.placing.proofs.rule.levels.first_of.Given as goal
 
 abbrev pub invariant-loop-more : goal.invariant-loop-more

@@ -1,10 +1,8 @@
 -- `highest` meets its contract. The loop's invariant: nobody that is not served stands above l. Assumes nothing.
 use Prim.Native.Nat.{ℕ, ◌≤◌, ◌<◌}
-use native.Mathlib.Omega.{arith}
 use mathlib.Core.Path.{◌≡◌}
 use Rattle.laws.specs.Lists.{at}
 use Rattle.placing.specs.method.Rule.{without}
-use Rattle.placing.proofs.rule.levels.ByLevel.{empty_more}
 use Rattle.placing.proofs.rule.levels.highest.Given as goal
 
 abbrev pub invariant-loop-l : goal.invariant-loop-l

@@ -1,5 +1,4 @@
 -- `next_free` meets its contract: by what `index` ensures. Assumes nothing.
-use borrow.Author.Rules.{rules}
 use Rattle.placing.proofs.rule.masks.next_free.Goals as goal
 
 pub returns : goal.returns

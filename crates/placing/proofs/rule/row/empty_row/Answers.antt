@@ -1,16 +1,14 @@
 -- `empty_row` meets its contract. The loop's invariant: the bridges of the mask but those of `rest` are empty. Assumes nothing.
-use Prim.Native.Nat.{ℕ, ◌-◌, ◌<◌}
+use Prim.Native.Nat.{ℕ, ◌-◌}
 use native.Mathlib.Omega.{arith}
 use mathlib.Core.Path.{◌≡◌, ◌∙◌, ap}
-use mathlib.Core.Logic.{⊎_elim}
 use mathlib.Core.Bool.{true, not, ◌&&◌}
 use lib.Bits.{bit_and, and_le_l, and_le_r}
 use lib.Count.{count_trailing_zeros}
 use lib.Dec.{eqb}
-use borrow.Author.Rules as author
 use Rattle.station.specs.Head.{has_bit}
 use Rattle.placing.proofs.MaskBits.{has_bit_zero, lowest, cleared}
-use Rattle.placing.proofs.rule.row.EmptiedRow.{Emptying, emptying_none, emptying_next, emptying_past, emptying_all}
+use Rattle.placing.proofs.rule.row.EmptiedRow.{emptying_none, emptying_next, emptying_past, emptying_all}
 use Rattle.placing.proofs.rule.row.empty_row.Goals as goal
 use Rattle.placing.proofs.rule.row.empty_row.Goals.{else-b-bridges, then-b-bridges}
 
@@ -41,9 +39,12 @@ loop-rest-preserved c = let l = c.loop-rest in
     let fewer : (b : ℕ) → has_bit (bit_and l.rest (l.rest - 1)) b ≡ (has_bit l.rest b && not (eqb b z)) = rw at-z (cleared 8 l.rest some l.invariant.0) in (
       omega (arith, l.invariant.0, c.without_next-rest.ensures, and_le_l l.rest (l.rest - 1)),
       rw c.without_next-rest.ensures
-          (elim c.if-b-bridges.branch [ then-b-bridges w ↦ rw w.table-is (emptying_next t a.start a.bridges (has_bit a.mask) l.table (has_bit l.rest) (has_bit (bit_and l.rest (l.rest - 1))) z l.invariant.1 here fewer
-          w.if-b-bridges.true (omega arith)) | else-b-bridges w ↦ rw w.table-is (emptying_past t a.start a.bridges (has_bit a.mask) l.table (has_bit l.rest) (has_bit (bit_and l.rest (l.rest - 1))) z l.invariant.1 here fewer
-          w.if-b-bridges.false) ]),
+          (elim c.if-b-bridges.branch [
+            | then-b-bridges w ↦ rw w.table-is (emptying_next t a.start a.bridges (has_bit a.mask) l.table (has_bit l.rest) (has_bit (bit_and l.rest (l.rest - 1))) z l.invariant.1 here fewer
+                w.if-b-bridges.true (omega arith))
+            | else-b-bridges w ↦ rw w.table-is (emptying_past t a.start a.bridges (has_bit a.mask) l.table (has_bit l.rest) (has_bit (bit_and l.rest (l.rest - 1))) z l.invariant.1 here fewer
+                w.if-b-bridges.false)
+          ]),
     )
 
 pub shape_of-table : goal.shape_of-table

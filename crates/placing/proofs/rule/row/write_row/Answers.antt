@@ -3,18 +3,16 @@
 use Prim.Native.Nat.{ℕ, ◌<◌, ◌-◌}
 use native.Mathlib.Omega.{arith}
 use mathlib.Core.Path.{◌≡◌, ◌∙◌}
-use mathlib.Core.Logic.{⊎_elim}
 use lib.Bits.{and_le_l, and_le_r}
 use lib.Count.{count_trailing_zeros}
 use borrow.Author.Rules as author
 use Rattle.laws.specs.Sums.{bit}
 use Rattle.laws.specs.Lists.{at}
-use Rattle.laws.proofs.Tests.{false_of_not}
 use Rattle.station.specs.Head.{has_bit}
 use Rattle.placing.specs.method.Rule.{due_cells}
 use Rattle.placing.proofs.MaskBits.{none_below_lowest}
 use Rattle.placing.proofs.rule.row.RowWritten.{RowFilled, filled_none, filled_all, filled_clean}
-use Rattle.placing.proofs.rule.row.ServedJobs.{Serving, earliest, value_of, serving_none, serving_next, serving_full, serving_all}
+use Rattle.placing.proofs.rule.row.ServedJobs.{earliest, value_of, serving_none, serving_next, serving_full, serving_all}
 use Rattle.placing.proofs.rule.row.write_row.Goals as goal
 use Rattle.placing.proofs.rule.row.write_row.Goals.{else-b-bridges, then-b-bridges}
 
@@ -28,9 +26,9 @@ loop-jobs-init c = let a = c.args in
     )
 
 pub next_cell-value-requires : goal.next_cell-value-requires
-next_cell-value-requires c = 
+next_cell-value-requires c =
     let job : c.next_job-i.result < 64 =
-        let l = c.loop-jobs in
+    let l = c.loop-jobs in
     omega (arith, c.next_job-i.ensures, earliest c.args.chosen l.jobs l.invariant.1.pending c.loop-jobs-test.true) in
     (job, c.loop-jobs.invariant.1.long)
 
@@ -57,28 +55,31 @@ loop-jobs-preserved c = let l = c.loop-jobs in
     let value : c.next_cell-value.result ≡ v (count_trailing_zeros 64 l.jobs) =
     value_of t a.start a.bridges a.chosen (has_bit a.mask) v a.due.now l.table l.free l.jobs l.due l.invariant.1 some
     a.early.now a.late.now c.next_job-i.result here c.next_cell-value.result c.next_cell-value.ensures.0 in
-    elim c.if-b-bridges.branch [ then-b-bridges w ↦ (
-      omega (arith, w.free-is, w.without_next-free.ensures, and_le_l l.free (l.free - 1)),
-      rw (w.table-is, w.free-is, w.without_next-free.ensures, c.without_lowest-jobs.ensures, c.next_cell-value.ensures.1, here)
-          (serving_next t a.start a.bridges a.chosen (has_bit a.mask) v a.due.now l.table l.free l.jobs l.due l.invariant.1 some
-          l.invariant.0 c.next_free-b.result c.next_free-b.ensures w.if-b-bridges.true (omega arith) (omega arith) c.next_cell-value.result value),
-    ) | else-b-bridges w ↦ (
-      omega (arith, w.free-is),
-      rw (w.table-is, w.free-is, c.without_lowest-jobs.ensures, c.next_cell-value.ensures.1, here)
-          (serving_full t a.start a.bridges a.chosen (has_bit a.mask) v a.due.now l.table l.free l.jobs l.due l.invariant.1 some
-          (λ b h. none_below_lowest 8 l.free l.invariant.0 b (let over = w.if-b-bridges.false in omega (arith, h, over, c.next_free-b.ensures)))),
-    ) ]
+    elim c.if-b-bridges.branch [
+      | then-b-bridges w ↦ (
+        omega (arith, w.free-is, w.without_next-free.ensures, and_le_l l.free (l.free - 1)),
+        rw (w.table-is, w.free-is, w.without_next-free.ensures, c.without_lowest-jobs.ensures, c.next_cell-value.ensures.1, here)
+            (serving_next t a.start a.bridges a.chosen (has_bit a.mask) v a.due.now l.table l.free l.jobs l.due l.invariant.1 some
+            l.invariant.0 c.next_free-b.result c.next_free-b.ensures w.if-b-bridges.true (omega arith) (omega arith) c.next_cell-value.result value),
+      )
+      | else-b-bridges w ↦ (
+        omega (arith, w.free-is),
+        rw (w.table-is, w.free-is, c.without_lowest-jobs.ensures, c.next_cell-value.ensures.1, here)
+            (serving_full t a.start a.bridges a.chosen (has_bit a.mask) v a.due.now l.table l.free l.jobs l.due l.invariant.1 some
+            (λ b h. none_below_lowest 8 l.free l.invariant.0 b (let over = w.if-b-bridges.false in omega (arith, h, over, c.next_free-b.ensures)))),
+      )
+    ]
 
 pub shape_of-table-then-not-empties : goal.shape_of-table-then-not-empties
 shape_of-table-then-not-empties c = c.loop-jobs.invariant.1.row.row.long
 
 pub returns-then-not-empties : goal.returns-then-not-empties
-returns-then-not-empties c = 
+returns-then-not-empties c =
     let served : let l = c.loop-jobs in
     let a = c.args in
     RowFilled a.table.now a.start a.bridges (has_bit a.chosen) (has_bit a.mask) (due_cells a.due.now a.early.now a.late.now) l.table (has_bit l.free) 64
     × ((i : ℕ) → at l.due i ≡ at a.due.now i - bit (has_bit a.chosen i)) =
-        let l = c.loop-jobs in
+    let l = c.loop-jobs in
     let a = c.args in
     let end : l.jobs ≡ 0 = omega arith in
     serving_all a.table.now a.start a.bridges a.chosen (has_bit a.mask) (due_cells a.due.now a.early.now a.late.now) a.due.now l.table l.free
@@ -101,12 +102,12 @@ pub shape_of-table : goal.shape_of-table
 shape_of-table c = c.empty_row.ensures.long ∙ c.loop-jobs.invariant.1.row.row.long
 
 pub returns : goal.returns
-returns c = 
+returns c =
     let served : let l = c.loop-jobs in
     let a = c.args in
     RowFilled a.table.now a.start a.bridges (has_bit a.chosen) (has_bit a.mask) (due_cells a.due.now a.early.now a.late.now) l.table (has_bit l.free) 64
     × ((i : ℕ) → at l.due i ≡ at a.due.now i - bit (has_bit a.chosen i)) =
-        let l = c.loop-jobs in
+    let l = c.loop-jobs in
     let a = c.args in
     let end : l.jobs ≡ 0 = omega arith in
     serving_all a.table.now a.start a.bridges a.chosen (has_bit a.mask) (due_cells a.due.now a.early.now a.late.now) a.due.now l.table l.free

@@ -1,20 +1,9 @@
 -- `write_row` meets its contract. The loop's invariant: the jobs before those in `jobs` have written their cells and have one less due, and `free` has the
 -- bridges that are left. Assumes nothing.
-use Prim.Native.Nat.{ℕ, ◌<◌, ◌-◌}
-use native.Mathlib.Omega.{arith}
-use mathlib.Core.Path.{◌≡◌, ◌∙◌}
-use mathlib.Core.Logic.{⊎_elim}
-use lib.Bits.{and_le_l, and_le_r}
-use lib.Count.{count_trailing_zeros}
-use borrow.Author.Rules as author
-use Rattle.laws.specs.Sums.{bit}
-use Rattle.laws.specs.Lists.{at}
-use Rattle.laws.proofs.Tests.{false_of_not}
+use Prim.Native.Nat.{◌<◌}
 use Rattle.station.specs.Head.{has_bit}
 use Rattle.placing.specs.method.Rule.{due_cells}
-use Rattle.placing.proofs.MaskBits.{none_below_lowest}
-use Rattle.placing.proofs.rule.row.RowWritten.{RowFilled, filled_none, filled_all, filled_clean}
-use Rattle.placing.proofs.rule.row.ServedJobs.{Serving, earliest, value_of, serving_none, serving_next, serving_full, serving_all}
+use Rattle.placing.proofs.rule.row.ServedJobs.{Serving}
 use Rattle.placing.proofs.rule.row.write_row.Given as goal
 
 abbrev pub invariant-loop-jobs : goal.invariant-loop-jobs

@@ -2,7 +2,6 @@
 use Prim.Native.Nat.{ℕ, ◌%◌, ◌^◌}
 use native.Mathlib.Omega.{arith}
 use mathlib.Core.Path.{◌≡◌, sym, ◌∙◌, ap}
-use lib.Pow.{pow_pos}
 use Rattle.placing.proofs.search.empty.first_bridges.Goals as goal
 
 pub returns-then-bridges-eq-MOST_BRIDGES : goal.returns-then-bridges-eq-MOST_BRIDGES

@@ -1,14 +1,7 @@
 -- `search::empty::found_in` meets its contract: the mask is that of the cells passed, and of the first bridges in the end; of these the held ones are counted. Assumes nothing.
-use Prim.Native.Nat.{ℕ, ◌+◌, ◌-◌, ◌%◌, ◌^◌, ◌≤◌, min}
-use native.Mathlib.Omega.{arith}
-use mathlib.Core.Path.{◌≡◌, sym, ◌∙◌, ap}
-use mathlib.Core.Logic.{⊎_elim}
-use lib.ListN.{get_or}
-use borrow.Author.Rules.{rules}
-use borrow.Author.Tests.{eq-eqb, ne_eqb}
-use Rattle.laws.specs.Sums.{only}
+use Prim.Native.Nat.{◌-◌, ◌≤◌, min}
+use mathlib.Core.Path.{◌≡◌}
 use Rattle.placing.specs.method.Search.{empty_mask, held_from}
-use Rattle.placing.proofs.search.Parts.{mask_none, mask_more, mask_fits, mask_low, held_none, held_here, held_past}
 use Rattle.placing.proofs.search.empty.found_in.Given as goal
 
 abbrev pub invariant-loop-b : goal.invariant-loop-b

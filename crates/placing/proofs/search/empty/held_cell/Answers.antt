@@ -1,7 +1,6 @@
 -- `search::empty::held_cell` meets its contract. Assumes nothing.
 use native.Mathlib.Omega.{arith}
 use mathlib.Core.Path.{sym, ◌∙◌, ap}
-use borrow.Author.Rules.{rules}
 use Rattle.laws.specs.Sums.{bit}
 use Rattle.placing.proofs.search.empty.held_cell.Goals as goal
 

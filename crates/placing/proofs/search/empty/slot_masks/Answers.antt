@@ -1,29 +1,28 @@
 -- `search::empty::slot_masks` meets its contract: the slots passed are filled in, and those up to the clock have nothing. Assumes nothing.
-use Prim.Native.Nat.{ℕ, ◌*◌, ◌-◌, ◌≤◌, ◌<◌, min}
+use Prim.Native.Nat.{ℕ, ◌*◌, ◌-◌, ◌≤◌, min}
 use native.Mathlib.Omega.{arith}
 use mathlib.Core.Path.{◌≡◌, refl, sym, ◌∙◌, ap}
-use lib.ListN.{length, length-set, replicate}
+use lib.ListN.{length-set}
 use lib.Dec.{ltb}
-use borrow.Author.Rules.{rules}
 use Rattle.laws.specs.Sums.{only}
-use Rattle.laws.proofs.Stores.{Stored, stored_none, stored_more, stored_zeros, zeros}
+use Rattle.laws.proofs.Stores.{stored_none, stored_more, stored_zeros, zeros}
 use Rattle.placing.specs.method.Search.{first_slot, held_from, slot_mask}
 use Rattle.placing.proofs.search.Parts.{row_inside, slot_mask_before, slot_mask_from}
 use Rattle.placing.proofs.search.empty.slot_masks.Goals as goal
 
 pub loop-s-init : goal.loop-s-init
 loop-s-init c = let a = c.args in (
-      omega (arith, c.first_slot-s.ensures),
-      (λ l. omega (arith, c.first_slot-s.ensures)),
-      omega arith,
-      record {
-        done = λ q low l. zeros 64 q ∙ sym (slot_mask_before a.table.now a.bridges a.clock q (omega (arith, c.first_slot-s.ensures)));
-        under = λ q l. refl;
-        rest = λ q l. refl;
-      },
-      c.requires.3,
-      rw c.first_slot-s.ensures (stored_none a.spare.now (λ q. a.motors - held_from a.table.now (q * a.bridges) a.bridges) (min (first_slot a.clock) a.slots)),
-    )
+  omega (arith, c.first_slot-s.ensures),
+  (λ l. omega (arith, c.first_slot-s.ensures)),
+  omega arith,
+  record {
+    done = λ q low l. zeros 64 q ∙ sym (slot_mask_before a.table.now a.bridges a.clock q (omega (arith, c.first_slot-s.ensures)));
+    under = λ q l. refl;
+    rest = λ q l. refl;
+  },
+  c.requires.3,
+  rw c.first_slot-s.ensures (stored_none a.spare.now (λ q. a.motors - held_from a.table.now (q * a.bridges) a.bridges) (min (first_slot a.clock) a.slots)),
+)
 
 pub overflow_mul-s : goal.overflow_mul-s
 overflow_mul-s c = let a = c.args in omega (arith, row_inside c.loop-s.s a.bridges (omega arith) (omega arith))

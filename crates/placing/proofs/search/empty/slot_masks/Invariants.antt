@@ -1,14 +1,9 @@
 -- `search::empty::slot_masks` meets its contract: the slots passed are filled in, and those up to the clock have nothing. Assumes nothing.
-use Prim.Native.Nat.{ℕ, ◌*◌, ◌-◌, ◌≤◌, ◌<◌, min}
-use native.Mathlib.Omega.{arith}
-use mathlib.Core.Path.{◌≡◌, refl, sym, ◌∙◌, ap}
-use lib.ListN.{length, length-set, replicate}
-use lib.Dec.{ltb}
-use borrow.Author.Rules.{rules}
-use Rattle.laws.specs.Sums.{only}
-use Rattle.laws.proofs.Stores.{Stored, stored_none, stored_more, stored_zeros, zeros}
+use Prim.Native.Nat.{◌*◌, ◌-◌, ◌≤◌, ◌<◌, min}
+use mathlib.Core.Path.{◌≡◌}
+use lib.ListN.{length, replicate}
+use Rattle.laws.proofs.Stores.{Stored}
 use Rattle.placing.specs.method.Search.{first_slot, held_from, slot_mask}
-use Rattle.placing.proofs.search.Parts.{row_inside, slot_mask_before, slot_mask_from}
 use Rattle.placing.proofs.search.empty.slot_masks.Given as goal
 
 abbrev pub invariant-loop-s : goal.invariant-loop-s

@@ -1,10 +1,7 @@
 -- `search::taking::through_chain` meets its contract: what remains of the walk is the rest of the chain. Assumes nothing.
-use Prim.Native.Nat.{◌*◌, ◌-◌, ◌≤◌}
+use Prim.Native.Nat.{◌-◌}
 use native.Mathlib.Omega.{arith}
-use mathlib.Core.List.{List}
-use Rattle.placing.specs.Call.{CellPlace}
-use Rattle.placing.specs.method.Search.{search_of, Stands, Chain}
-use Rattle.placing.proofs.search.links.Chains.{Left, left_all, left_after, left_none, left_done}
+use Rattle.placing.proofs.search.links.Chains.{left_all, left_after, left_none, left_done}
 use Rattle.placing.proofs.search.taking.through_chain.Goals as goal
 
 pub loop-c-init : goal.loop-c-init
@@ -33,10 +30,10 @@ loop-c-smaller c = omega (arith, c.requires.1 (c.loop-c.c - 1))
 
 pub loop-c-preserved : goal.loop-c-preserved
 loop-c-preserved c = (
-      omega (arith, c.requires.1 (c.loop-c.c - 1), c.loop-c.invariant.0),
-      c.try_cell-tried.ensures.stands,
-      λ zs C. left_after (c.loop-c.invariant.2 zs C) (omega arith) c.try_cell-tried.ensures,
-    )
+  omega (arith, c.requires.1 (c.loop-c.c - 1), c.loop-c.invariant.0),
+  c.try_cell-tried.ensures.stands,
+  λ zs C. left_after (c.loop-c.invariant.2 zs C) (omega arith) c.try_cell-tried.ensures,
+)
 
 pub returns : goal.returns
 returns c = let l = c.loop-c in (l.invariant.1, λ zs C. left_none (l.invariant.2 zs C) l.invariant.1 (omega arith))

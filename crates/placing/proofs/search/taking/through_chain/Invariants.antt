@@ -1,10 +1,9 @@
 -- `search::taking::through_chain` meets its contract: what remains of the walk is the rest of the chain. Assumes nothing.
-use Prim.Native.Nat.{◌*◌, ◌-◌, ◌≤◌}
-use native.Mathlib.Omega.{arith}
+use Prim.Native.Nat.{◌*◌, ◌≤◌}
 use mathlib.Core.List.{List}
 use Rattle.placing.specs.Call.{CellPlace}
 use Rattle.placing.specs.method.Search.{search_of, Stands, Chain}
-use Rattle.placing.proofs.search.links.Chains.{Left, left_all, left_after, left_none, left_done}
+use Rattle.placing.proofs.search.links.Chains.{Left}
 use Rattle.placing.proofs.search.taking.through_chain.Given as goal
 
 abbrev pub invariant-loop-c : goal.invariant-loop-c

@@ -1,11 +1,10 @@
 -- `search::taking::through_ranks` meets its contract: what remains of the walk has the outcome of the whole. Assumes nothing.
-use Prim.Native.Nat.{ℕ, ◌-◌, ◌≤◌}
+use Prim.Native.Nat.{ℕ, ◌-◌}
 use native.Mathlib.Omega.{arith}
 use mathlib.Core.Path.{◌≡◌, refl, ◌∙◌, ap}
-use mathlib.Core.List.{List}
-use Rattle.placing.specs.Call.{CellPlace, downward}
-use Rattle.placing.specs.method.Search.{search_of, Stands, Chains}
-use Rattle.placing.proofs.search.taking.CellByCell.{Remains, remains_after, remains_none, remains_done, downward_none, downward_less}
+use Rattle.placing.specs.Call.{downward}
+use Rattle.placing.specs.method.Search.{search_of}
+use Rattle.placing.proofs.search.taking.CellByCell.{remains_after, remains_none, remains_done, downward_none, downward_less}
 use Rattle.placing.proofs.search.taking.through_ranks.Goals as goal
 
 pub loop-r-init : goal.loop-r-init

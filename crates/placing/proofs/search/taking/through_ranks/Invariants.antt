@@ -1,11 +1,9 @@
 -- `search::taking::through_ranks` meets its contract: what remains of the walk has the outcome of the whole. Assumes nothing.
-use Prim.Native.Nat.{ℕ, ◌-◌, ◌≤◌}
-use native.Mathlib.Omega.{arith}
-use mathlib.Core.Path.{◌≡◌, refl, ◌∙◌, ap}
+use Prim.Native.Nat.{ℕ, ◌≤◌}
 use mathlib.Core.List.{List}
 use Rattle.placing.specs.Call.{CellPlace, downward}
 use Rattle.placing.specs.method.Search.{search_of, Stands, Chains}
-use Rattle.placing.proofs.search.taking.CellByCell.{Remains, remains_after, remains_none, remains_done, downward_none, downward_less}
+use Rattle.placing.proofs.search.taking.CellByCell.{Remains}
 use Rattle.placing.proofs.search.taking.through_ranks.Given as goal
 
 abbrev pub invariant-loop-r : goal.invariant-loop-r

@@ -12,29 +12,29 @@ use Rattle.placing.proofs.limits.Within.{limits_of}
 use Rattle.placing.proofs.search.taking.walk.Goals as goal
 
 pub ranks_of-ranks-requires : goal.ranks_of-ranks-requires
-ranks_of-ranks-requires c = 
+ranks_of-ranks-requires c =
     let looked : (c.args.head.slots ≤ 64) × (c.args.head.bridges ≤ 8) × (c.args.head.count ≤ 32) × (512 ≤ length c.args.table.now) =
-        limits_of c.args.head.slots c.args.head.bridges c.args.head.count (length c.args.table.now) c.requires.0 in
+    limits_of c.args.head.slots c.args.head.bridges c.args.head.count (length c.args.table.now) c.requires.0 in
     looked.2
 
 pub link_slots-requires : goal.link_slots-requires
-link_slots-requires c = 
+link_slots-requires c =
     let looked : (c.args.head.slots ≤ 64) × (c.args.head.bridges ≤ 8) × (c.args.head.count ≤ 32) × (512 ≤ length c.args.table.now) =
-        limits_of c.args.head.slots c.args.head.bridges c.args.head.count (length c.args.table.now) c.requires.0 in
+    limits_of c.args.head.slots c.args.head.bridges c.args.head.count (length c.args.table.now) c.requires.0 in
     let l = looked in
     (l.1, c.requires.2.few_slots, l.3, linked_none, chains_none)
 
 pub through_ranks-end-requires : goal.through_ranks-end-requires
-through_ranks-end-requires c = 
+through_ranks-end-requires c =
     let looked : (c.args.head.slots ≤ 64) × (c.args.head.bridges ≤ 8) × (c.args.head.count ≤ 32) × (512 ≤ length c.args.table.now) =
-        limits_of c.args.head.slots c.args.head.bridges c.args.head.count (length c.args.table.now) c.requires.0 in
+    limits_of c.args.head.slots c.args.head.bridges c.args.head.count (length c.args.table.now) c.requires.0 in
     (looked.2, c.link_slots.ensures.0, c.requires.2)
 
 pub returns : goal.returns
 unfolding places_of
-returns c = 
+returns c =
     let looked : (c.args.head.slots ≤ 64) × (c.args.head.bridges ≤ 8) × (c.args.head.count ≤ 32) × (512 ≤ length c.args.table.now) =
-        limits_of c.args.head.slots c.args.head.bridges c.args.head.count (length c.args.table.now) c.requires.0 in
+    limits_of c.args.head.slots c.args.head.bridges c.args.head.count (length c.args.table.now) c.requires.0 in
     let v = c.through_ranks-end.new in
     let a = c.args in
     let h = head_in a.head a.presets in
