@@ -1,4 +1,4 @@
-//! With the feature `archive`: link the proved planner's static library, which `rt staticlib planner` writes. The
+//! With the feature `archive`: link the proved planner's static library, which `bin/build planner` writes. The
 //! environment's PROVED_LIB may name another.
 
 use std::path::PathBuf;
@@ -11,7 +11,7 @@ fn main() {
         return;
     }
     let archive = PathBuf::from(std::env::var_os("PROVED_LIB").unwrap_or_else(|| ARCHIVE.into()));
-    let archive = archive.canonicalize().expect("the static library: rt staticlib planner writes it");
+    let archive = archive.canonicalize().expect("the static library: bin/build planner writes it");
     let stem = archive.file_stem().and_then(|s| s.to_str()).expect("a library's name");
     let name = stem.strip_prefix("lib").expect("a library's name starts with lib");
     println!("cargo:rerun-if-changed={}", archive.display());

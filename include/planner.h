@@ -1,7 +1,7 @@
 /*
  * The bridge planner, for programs in C and C++ (and, by the same names and types, in Rust: examples/rust).
  *
- * x86-64 only, with the calling convention of Linux there. Link target/staticlib/libplanner.a, which `rt staticlib planner` (or bin/build planner) writes.
+ * x86-64 only, with the calling convention of Linux there. Link target/staticlib/libplanner.a, which bin/build planner writes.
  *
  * What is said below of each function, of its answer and of every byte that is handed over, is proved for every input (crates/planner/specs/Exports.antt). Not proved, but seen:
  *
