@@ -28,18 +28,18 @@ returns-then-slot-lt1 c =
     let free : let a = c.args in none ≡ first_of (frame_causes_of a.head a.copied (start_of (head_in a.head a.copied) a.table.now)) =
         sym (ap cause_in c.in_default.is) ∙ c.frame_cause.ensures c.args.head.hold in
     let a = c.args in
-    slot_low a.records a.head a.copied a.table.now a.slot a.out.now c.if-out-lt-LEAST_OUTPUT.false c.if-records-lt-LEAST_RECORDS.false free.if-slot-lt1.true
+    slot_low a.records a.head a.copied a.table.now a.slot a.out.now c.if-out-lt-LEAST_OUTPUT.false c.if-records-lt-LEAST_RECORDS.false free c.if-slot-lt1.true
 
 pub returns-then-slots-slot : goal.returns-then-slots-slot
 returns-then-slots-slot c = 
     let free : let a = c.args in none ≡ first_of (frame_causes_of a.head a.copied (start_of (head_in a.head a.copied) a.table.now)) =
         sym (ap cause_in c.in_default.is) ∙ c.frame_cause.ensures c.args.head.hold in
     let a = c.args in
-    slot_high a.records a.head a.copied a.table.now a.slot a.out.now c.if-out-lt-LEAST_OUTPUT.false c.if-records-lt-LEAST_RECORDS.false free.if-slot-lt1.false c.if-slots-slot.true
+    slot_high a.records a.head a.copied a.table.now a.slot a.out.now c.if-out-lt-LEAST_OUTPUT.false c.if-records-lt-LEAST_RECORDS.false free c.if-slot-lt1.false c.if-slots-slot.true
 
 pub returns : goal.returns
 returns c = 
     let free : let a = c.args in none ≡ first_of (frame_causes_of a.head a.copied (start_of (head_in a.head a.copied) a.table.now)) =
         sym (ap cause_in c.in_default.is) ∙ c.frame_cause.ensures c.args.head.hold in
     let a = c.args in
-    slot_written_lem a.records a.head a.copied a.table.now a.slot a.out.now c.if-out-lt-LEAST_OUTPUT.false c.if-records-lt-LEAST_RECORDS.false free.if-slot-lt1.false c.if-slots-slot.false c.slot_line.ensures
+    slot_written_lem a.records a.head a.copied a.table.now a.slot a.out.now c.if-out-lt-LEAST_OUTPUT.false c.if-records-lt-LEAST_RECORDS.false free c.if-slot-lt1.false c.if-slots-slot.false c.slot_line.ensures

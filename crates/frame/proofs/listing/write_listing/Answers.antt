@@ -6,18 +6,26 @@ use Rattle.frame.proofs.listing.write_listing.Goals as goal
 
 pub returns-then-text-gt-MOST_BYTES : goal.returns-then-text-gt-MOST_BYTES
 returns-then-text-gt-MOST_BYTES c = let a = c.args in
-    listed_refused a.text.now a.table.now a.out.now TextTooLong (cause_long a.text.now a.table.now a.out.now c.if-text-gt-MOST_BYTES.true)
+    let r =
+        listed_refused a.text.now a.table.now a.out.now TextTooLong (cause_long a.text.now a.table.now a.out.now c.if-text-gt-MOST_BYTES.true) in
+    record { done = r.0; whole = r.1 }
 
 pub returns-then-out-lt-LEAST_OUTPUT : goal.returns-then-out-lt-LEAST_OUTPUT
 returns-then-out-lt-LEAST_OUTPUT c = let a = c.args in
-    listed_refused a.text.now a.table.now a.out.now TooShort
-    (cause_short_output a.text.now a.table.now a.out.now c.if-text-gt-MOST_BYTES.false c.if-out-lt-LEAST_OUTPUT.true)
+    let r =
+        listed_refused a.text.now a.table.now a.out.now TooShort
+        (cause_short_output a.text.now a.table.now a.out.now c.if-text-gt-MOST_BYTES.false c.if-out-lt-LEAST_OUTPUT.true) in
+    record { done = r.0; whole = r.1 }
 
 pub returns-then-table-lt-LEAST_CELLS : goal.returns-then-table-lt-LEAST_CELLS
 returns-then-table-lt-LEAST_CELLS c = let a = c.args in
-    listed_refused a.text.now a.table.now a.out.now TooShort
-    (cause_short_table a.text.now a.table.now a.out.now c.if-text-gt-MOST_BYTES.false c.if-out-lt-LEAST_OUTPUT.false c.if-table-lt-LEAST_CELLS.true)
+    let r =
+        listed_refused a.text.now a.table.now a.out.now TooShort
+        (cause_short_table a.text.now a.table.now a.out.now c.if-text-gt-MOST_BYTES.false c.if-out-lt-LEAST_OUTPUT.false c.if-table-lt-LEAST_CELLS.true) in
+    record { done = r.0; whole = r.1 }
 
 pub returns : goal.returns
 returns c = let a = c.args in
-    listed_written a.text.now a.table.now a.out.now c.if-text-gt-MOST_BYTES.false c.if-out-lt-LEAST_OUTPUT.false c.if-table-lt-LEAST_CELLS.false c.list.ensures
+    let r =
+        listed_written a.text.now a.table.now a.out.now c.if-text-gt-MOST_BYTES.false c.if-out-lt-LEAST_OUTPUT.false c.if-table-lt-LEAST_CELLS.false c.list.ensures in
+    record { done = r.0; whole = r.1 }

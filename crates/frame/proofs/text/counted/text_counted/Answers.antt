@@ -14,4 +14,4 @@ returns-then-records-lt-LEAST_RECORDS c = let a = c.args in
 
 pub returns : goal.returns
 returns c = let a = c.args in
-    text_enough a.records a.text.now a.table.now a.out.now a.head a.copied a.clock a.hold c.if-records-lt-LEAST_RECORDS.false c.run_text_by_value.ensures.0
+    text_enough a.records a.text.now a.table.now a.out.now a.head a.copied a.clock a.hold c.if-records-lt-LEAST_RECORDS.false c.run_text_by_value.ensures.done

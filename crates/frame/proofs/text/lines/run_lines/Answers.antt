@@ -18,17 +18,17 @@ overflow_add-n c = let i = c.loop-at.invariant in
 
 pub overflow_add-at : goal.overflow_add-at
 overflow_add-at c = let x = c in
-    let i = x.loop.invariant in
-    omega (arith, line_inside i x.loop-test.true x.line_at.ensures, i.short)
+    let i = x.loop-at.invariant in
+    omega (arith, line_inside i x.loop-at-test.true x.line_at-line.ensures, i.short)
 
 pub loop-at-smaller : goal.loop-at-smaller
 loop-at-smaller c = let x = c in
-    let i = x.loop.invariant in
-    omega (arith, line_bytes i x.loop-test.true x.line_at.ensures, x.loop-test.true)
+    let i = x.loop-at.invariant in
+    omega (arith, line_bytes i x.loop-at-test.true x.line_at-line.ensures, x.loop-at-test.true)
 
 pub loop-at-preserved : goal.loop-at-preserved
 loop-at-preserved c = let x = c in
-    at_next x.loop.invariant x.loop-test.true x.line_at.ensures c.event_by_counts-done.ensures c.answer_line-next.ensures
+    at_next x.loop-at.invariant x.loop-at-test.true x.line_at-line.ensures c.event_by_counts-done.ensures c.answer_line-next.ensures
 
 pub shape_of-table : goal.shape_of-table
 shape_of-table c = c.loop-at.invariant.size
