@@ -1,4 +1,4 @@
-// The planner for firmware in C or Rust: a static library of six functions over numbers and slices alone (`rt staticlib planner`; its header is include/planner.h).
+// The planner for firmware in C or Rust: a static library of six functions over numbers and slices alone (`bin/build planner`; its header is include/planner.h).
 // What each function promises is in specs/Exports.antt, the layout of what is lent in specs/Layout.antt.
 #![tactic(auto)]
 
