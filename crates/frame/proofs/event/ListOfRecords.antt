@@ -1,7 +1,7 @@
 -- An event where the preset records stand in a list, law by law.
 --
 -- In order: fewer than 32 records (`event_few`) and enough of them (`event_enough`); an event on the first 32 records by value is one on the list (`event_list`);
--- a refusal leaves what there was (`meant_refused`, `event_unchanged`), and the frame afterwards (`event_running`); the entries `set_clock` and `event` (`event_entry`).
+-- a refusal leaves what there was (`meant_refused`, `event_unchanged`), and the frame afterwards (`event_running`); the entries `set_clock` and `event` (`event_entry`, `event_entered`).
 -- Assumes nothing.
 use Prim.Native.Nat.{ℕ, ◌≤◌, ◌<◌}
 use mathlib.Core.Path.{◌≡◌, refl, sym, ◌∙◌, ap, subst}
@@ -143,3 +143,10 @@ module _ (head : record-of-head.Head) (ps : List record-of-preset.Preset) (st : 
     event_entry d =
         let done = event_list d in
         record { done = done; unchanged = event_unchanged done; kept = event_running done; claim = demand_3 (head_in head ps) st (e ∷ []) }
+
+    -- from the counted part of an entry, which has so many records and the first 32 of them
+    pub event_entered : {n : ℕ} {copied : List record-of-preset.Preset} → n ≡ length ps → copied ≡ loaded ps → EventOnSlice n head copied st e u r → EventEntry head ps st e u r
+    event_entered {n} {copied} count load d =
+        event_entry
+        (subst (λ (qs : List record-of-preset.Preset). EventOnSlice (length ps) head qs st e u r) load
+        (subst (λ (k : ℕ). EventOnSlice k head copied st e u r) count d))

@@ -2,7 +2,7 @@
 --
 -- In order: a refusal, a law for each cause (`events_long`, `events_few`, `events_short`, `events_stopped`), and no cause: what the loop over the lines starts from (`events_start`) and
 -- leaves (`events_ran`); the frame afterwards, a refusal that changes nothing, and the claim (`events_claim`); a list of 32 records or more (`events_enough`), and the first 32 by
--- value are those of the list (`events_entry`).
+-- value are those of the list (`events_entry`, `events_entered`).
 -- Assumes nothing.
 use Prim.Native.Nat.{ℕ, ◌≤◌, ◌<◌}
 use native.Mathlib.Omega.{arith}
@@ -191,3 +191,11 @@ module _ (head : record-of-head.Head) (ps : List record-of-preset.Preset) (st : 
   events_entry {t₁} {out₁} {r} d =
       let done = subst (λ (o : EventsOutcome). EventsLeft o t₁ out₁ r) meant_list d in
       record { done = done; claim = events_claim (length ps) head ps st text out done }
+
+  -- from the counted part of the entry, which has so many records and the first 32 of them
+  pub events_entered : {n : ℕ} {copied : List record-of-preset.Preset} {t₁ out₁ : List ℕ} {r : result.EventsAnswer} → n ≡ length ps → copied ≡ loaded ps
+      → EventsLeft (events_meant n head copied st text out) t₁ out₁ r → EventsEntry head ps st text out t₁ out₁ r
+  events_entered {n} {copied} {t₁} {out₁} {r} count load d =
+      events_entry
+      (subst (λ (qs : List record-of-preset.Preset). EventsLeft (events_meant (length ps) head qs st text out) t₁ out₁ r) load
+      (subst (λ (k : ℕ). EventsLeft (events_meant k head copied st text out) t₁ out₁ r) count d))

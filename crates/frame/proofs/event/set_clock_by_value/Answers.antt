@@ -1,6 +1,5 @@
 -- `event::set_clock_by_value` meets its contract: a law for each answer, the frame afterwards by `done_running`, and the claim by `demand_3`. Assumes nothing.
 use mathlib.Core.List.{[], ◌∷◌}
-use borrow.Author.Rules.{rules}
 use Rattle.station.specs.Types.{head_in}
 use Rattle.placing.specs.State.{state_of}
 use Rattle.frame.specs.Event.{Event}
@@ -13,7 +12,7 @@ returns-in-Met c = let a = c.args in
     let st = state_of a.table.now a.clock a.hold in
     let e = Event.clock a.t in
     let done = frame_refused a.head a.presets st e c.in-Met.r (c.frame_cause.ensures a.hold) c.in-Met.is in
-    (done, (done_running a.head a.presets st e done, demand_3 (head_in a.head a.presets) st (e ∷ [])))
+    record { done = done; kept = done_running a.head a.presets st e done; claim = demand_3 (head_in a.head a.presets) st (e ∷ []) }
 
 pub returns : goal.returns
 returns c = let a = c.args in
@@ -21,4 +20,4 @@ returns c = let a = c.args in
     let e = Event.clock a.t in
     let free = frame_free a.head a.presets st (c.frame_cause.ensures a.hold) c.in_default.is in
     let done = event_done a.head a.presets st e free (clock_done a.head a.presets st free a.t c.asked_clock.ensures) in
-    (done, (done_running a.head a.presets st e done, demand_3 (head_in a.head a.presets) st (e ∷ [])))
+    record { done = done; kept = done_running a.head a.presets st e done; claim = demand_3 (head_in a.head a.presets) st (e ∷ []) }

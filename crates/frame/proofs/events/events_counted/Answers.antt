@@ -1,5 +1,4 @@
 -- `events::events_counted` meets its contract: a text that is too long and fewer than 32 records are refused, else the events are run. Assumes nothing.
-use borrow.Author.Rules.{rules}
 use Rattle.placing.specs.State.{state_of}
 use Rattle.frame.proofs.events.EventsRun.{events_long, events_few, events_enough}
 use Rattle.frame.proofs.events.events_counted.Goals as goal
@@ -14,4 +13,4 @@ returns-then-records-lt-LEAST_RECORDS c = let a = c.args in
 
 pub returns : goal.returns
 returns c = let a = c.args in
-    events_enough a.records a.head a.copied (state_of a.table.now a.clock a.hold) a.text.now a.out.now c.if-records-lt-LEAST_RECORDS.false c.run_events_by_value.ensures.0
+    events_enough a.records a.head a.copied (state_of a.table.now a.clock a.hold) a.text.now a.out.now c.if-records-lt-LEAST_RECORDS.false c.run_events_by_value.ensures.done

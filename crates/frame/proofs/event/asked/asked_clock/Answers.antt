@@ -1,7 +1,5 @@
 -- `event::asked::asked_clock` meets its contract: a law for each answer. Assumes nothing.
 use mathlib.Core.Path.{sym, ◌∙◌}
-use Rattle.laws.proofs.Tests.{false_of_not, true_of_not}
-use borrow.Author.Rules.{rules}
 use Rattle.frame.proofs.event.EventAnswers.{clock_out, clock_below, clock_set_lem}
 use Rattle.frame.proofs.event.asked.asked_clock.Goals as goal
 

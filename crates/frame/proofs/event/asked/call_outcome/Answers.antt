@@ -1,6 +1,5 @@
 -- `event::asked::call_outcome` meets its contract: the answer stands for the call's. Assumes nothing.
 use mathlib.Core.Path.{refl, sym, ap}
-use borrow.Author.Rules.{rules}
 use Rattle.placing.specs.CallDone.{call_answer_in}
 use Rattle.placing.specs.declared.call.CallAnswer as reply
 use Rattle.frame.specs.Event.{answer_of}

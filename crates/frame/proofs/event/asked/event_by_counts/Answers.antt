@@ -1,7 +1,6 @@
 -- `event::asked::event_by_counts` meets its contract: a law for what each line asks. Assumes nothing.
 use Rattle.placing.specs.State.{state_of}
 use Rattle.frame.proofs.event.EventAnswers.{line_clock, line_place, line_tie, line_fault, clock_counts}
-use borrow.Author.Rules.{rules}
 use Rattle.frame.proofs.event.asked.event_by_counts.Goals as goal
 
 pub returns-in-SetClock : goal.returns-in-SetClock
