@@ -4,6 +4,7 @@ ghost use Rattle.placing.specs.Table.{is_optional};
 
 use crate::output::{around, number, put};
 use placing::cells::{Cell, is_optional, kind_of, number_in};
+use std::io;
 
 // The kinds of cells, as document 01 counts them. Whatever is of no other kind is drawn as a call's.
 const EMPTY: u16 = 0;
@@ -38,81 +39,97 @@ fn colour(kind: u16) -> u64
 }
 
 // Writes a rectangle's fill, and its end.
-fn fill(kind: u16) {
-    put(b"\" fill=\"#");
-    io::print_hex(1, colour(kind), 6);
-    put(b"\"/>");
+fn fill(rt: &impl Print, kind: u16) -> io::Result<()> {
+    put(rt, b"\" fill=\"#")?;
+    print!(rt; "{:06x}", colour(kind))?;
+    put(rt, b"\"/>")
 }
 
 // Writes the hatching of a kind: of mandatory cells a thick border inside, of optional ones slanted lines, of a call's level lines; of busy and empty ones none.
-fn hatching(kind: u16) {
+fn hatching(rt: &impl Print, kind: u16) -> io::Result<()> {
     match kind {
-        EMPTY | BUSY => {}
+        EMPTY | BUSY => Ok(()),
         MANDATORY => put(
+            rt,
             b"<path d=\"M3 3h38v26h-38z\" fill=\"none\" stroke=\"#1d4f91\" stroke-width=\"3\"/>",
         ),
         OPTIONAL => put(
+            rt,
             b"<path d=\"M0 8l8-8M0 16l16-16M0 24l24-24M0 32l32-32M8 32l32-32M16 32l28-28M24 32l20-20M32 32l12-12M40 32l4-4\" stroke=\"#8f6b00\"/>",
         ),
         _ => put(
+            rt,
             b"<path d=\"M0 4h44M0 8h44M0 12h44M0 16h44M0 20h44M0 24h44M0 28h44\" stroke=\"#b04a00\"/>",
         ),
     }
 }
 
 // Writes a cell's number, unless it is 0, which no preset and no job has.
-fn number_of(cell: Cell) {
+fn number_of(rt: &impl Print, cell: Cell) -> io::Result<()> {
     let n = number_in(cell);
     if n != 0 {
-        number(n);
+        number(rt, n)?;
     }
+    Ok(())
 }
 
 // Writes what stands in a cell: `-` where it is busy, else the kind's letter and the number; nothing where it is empty.
-fn label(cell: Cell) {
+fn label(rt: &impl Print, cell: Cell) -> io::Result<()> {
     match kind_of(cell) {
         EMPTY => {}
-        BUSY => put(b"<tspan font-weight=\"bold\">-</tspan>"),
-        MANDATORY => put(b"m"),
-        OPTIONAL => put(b"o"),
-        _ => put(b"c"),
+        BUSY => put(rt, b"<tspan font-weight=\"bold\">-</tspan>")?,
+        MANDATORY => put(rt, b"m")?,
+        OPTIONAL => put(rt, b"o")?,
+        _ => put(rt, b"c")?,
     }
-    number_of(cell);
+    number_of(rt, cell)
 }
 
 // Writes a cell's label, on a plate of the kind's colour with this upper edge; the label stands on the line `base`.
-fn labelled(cell: Cell, plate: usize, base: usize) {
+fn labelled(rt: &impl Print, cell: Cell, plate: usize, base: usize) -> io::Result<()> {
     if kind_of(cell) == EMPTY {
-        return;
+        return Ok(());
     }
-    around(b"<rect x=\"6\" y=\"", plate, b"\" width=\"32\" height=\"16");
-    fill(kind_of(cell));
-    around(b"<text x=\"22\" y=\"", base, b"\">");
-    label(cell);
-    put(b"</text>");
+    around(
+        rt,
+        b"<rect x=\"6\" y=\"",
+        plate,
+        b"\" width=\"32\" height=\"16",
+    )?;
+    fill(rt, kind_of(cell))?;
+    around(rt, b"<text x=\"22\" y=\"", base, b"\">")?;
+    label(rt, cell)?;
+    put(rt, b"</text>")
 }
 
 // Writes the mark of a lost cell: a broken border, and in a corner what stood there, struck out.
-fn lost_mark(was: Cell) {
+fn lost_mark(rt: &impl Print, was: Cell) -> io::Result<()> {
     put(
+        rt,
         b"<path d=\"M2 2h40v28h-40z\" fill=\"none\" stroke=\"#000\" stroke-width=\"3\" stroke-dasharray=\"6 3\"/>",
-    );
-    put(b"<path d=\"M15 0h29v13h-29z\" fill=\"#fff\" stroke=\"#000\"/>");
-    put(b"<text x=\"29.5\" y=\"10\" font-size=\"10\">");
-    label(was);
-    put(b"</text><path d=\"M17 6.5h25\" stroke=\"#000\"/>");
+    )?;
+    put(
+        rt,
+        b"<path d=\"M15 0h29v13h-29z\" fill=\"#fff\" stroke=\"#000\"/>",
+    )?;
+    put(rt, b"<text x=\"29.5\" y=\"10\" font-size=\"10\">")?;
+    label(rt, was)?;
+    put(rt, b"</text><path d=\"M17 6.5h25\" stroke=\"#000\"/>")
 }
 
 // Writes a cell with its upper left corner at the origin, marked where it is lost, by what it was before.
-pub fn cell_at_origin(was: Cell, cell: Cell) {
-    put(b"<rect width=\"44\" height=\"32");
-    fill(kind_of(cell));
-    hatching(kind_of(cell));
+pub fn cell_at_origin(rt: &impl Print, was: Cell, cell: Cell) -> io::Result<()> {
+    put(rt, b"<rect width=\"44\" height=\"32")?;
+    fill(rt, kind_of(cell))?;
+    hatching(rt, kind_of(cell))?;
     if is_lost(was, cell) {
-        labelled(cell, 13, 25);
-        lost_mark(was);
+        labelled(rt, cell, 13, 25)?;
+        lost_mark(rt, was)?;
     } else {
-        labelled(cell, 8, 20);
+        labelled(rt, cell, 8, 20)?;
     }
-    put(b"<path d=\"M0 0h44v32h-44z\" fill=\"none\" stroke=\"#222\"/>");
+    put(
+        rt,
+        b"<path d=\"M0 0h44v32h-44z\" fill=\"none\" stroke=\"#222\"/>",
+    )
 }

@@ -15,11 +15,14 @@ use frame::text::{Ended, run_text_by_value};
 use lines::last_event;
 use pictures::{both_frames, plan_frame, refused_text};
 use placing::cells::Cell;
+use reading::read_full;
 use station::heads::{ReadAnswer, read_head_by_value};
 use station::types::{Head, NO_HEAD, NO_PRESETS, Preset};
+use std::io;
 
 // Draws a frame as the lines before the last event left it, with the clock and the order of ties, and as this event leaves it. No event is one of no bytes: then it is the plan.
 fn draw_frame(
+    rt: &impl Print,
     head: Head,
     presets: [Preset; 32],
     before: [Cell; 512],
@@ -27,23 +30,22 @@ fn draw_frame(
     hold: bool,
     event: &[u8],
     line: usize,
-) {
+) -> io::Result<()> {
     let slots = head.slots;
     let bridges = head.bridges;
     if event.len() == 0 {
-        plan_frame(slots, bridges, before, clock);
-        return;
+        return plan_frame(rt, slots, bridges, before, clock);
     }
     let mut after = before;
     let done = event_by_value(head, presets, &mut after, clock, hold, event);
     let answer = done.answer;
     both_frames(
-        slots, bridges, before, clock, event, line, answer, after, done.clock,
-    );
+        rt, slots, bridges, before, clock, event, line, answer, after, done.clock,
+    )
 }
 
 // Runs the text before its last event, and draws the frame. The event is line `line` of the whole text; it has no bytes where there is none.
-fn draw_text(text: &[u8], event: &[u8], line: usize) {
+fn draw_text(rt: &impl Print, text: &[u8], event: &[u8], line: usize) -> io::Result<()> {
     let mut table = [0u16; 512];
     // the least output that is taken; the listing in it is not used
     let mut listing = [0u8; 8192];
@@ -60,29 +62,29 @@ fn draw_text(text: &[u8], event: &[u8], line: usize) {
     let head = run.head;
     let presets = run.presets;
     match ended {
-        Ended::Ran(_) => draw_frame(head, presets, table, run.clock, run.hold, event, line),
-        Ended::Refused(n, cause) => refused_text(n, cause),
+        Ended::Ran(_) => draw_frame(rt, head, presets, table, run.clock, run.hold, event, line),
+        Ended::Refused(n, cause) => refused_text(rt, n, cause),
     }
 }
 
 // Draws a text. What its head is refused for, and its plan, is said in the picture.
-fn draw(text: &[u8]) {
+fn draw(rt: &impl Print, text: &[u8]) -> io::Result<()> {
     let read = read_head_by_value(text, NO_HEAD, NO_PRESETS);
     let answer = read.answer;
     match answer {
         ReadAnswer::Accepted(_, bytes) => {
             let last = last_event(text, bytes);
             let start = last.start;
-            draw_text(&text[0..start], &text[start..], last.line);
+            draw_text(rt, &text[0..start], &text[start..], last.line)
         }
-        ReadAnswer::Refused(n, cause) => refused_text(n, cause),
+        ReadAnswer::Refused(n, cause) => refused_text(rt, n, cause),
     }
 }
 
-fn main() {
+fn main(rt: HostRuntime) -> io::Result<()> {
     // one byte more than a text may have, so that a longer one is seen to be too long
     let mut input = [0u8; 32769];
-    let n = io::read_full(0, &mut input);
+    let n = read_full(&mut rt.stdin(), &mut input)?;
     let text = &input[0..n];
-    draw(text);
+    draw(&rt, text)
 }

@@ -1,53 +1,56 @@
-// Bytes and numbers to standard output. A write that fails is not reported.
+// Bytes and numbers to standard output. Each function stops at the first write that fails, and reports it.
 ghost use Rattle.std.specs.Prelude.{◌≤◌, length};
 
 use crate::lines::{content, plain, shown};
+use std::io;
 
 // Writes bytes.
-pub fn put(bytes: &[u8]) {
-    io::write_all(1, bytes);
+pub fn put(rt: &impl Print, bytes: &[u8]) -> io::Result<()> {
+    rt.write_all(bytes)
 }
 
 // Writes a number.
-pub fn number(n: usize) {
-    io::print_decimal(1, n as u64);
+pub fn number(rt: &impl Print, n: usize) -> io::Result<()> {
+    print!(rt; "{n}")
 }
 
 // Writes a number after and before some bytes.
-pub fn around(first: &[u8], n: usize, last: &[u8]) {
-    put(first);
-    number(n);
-    put(last);
+pub fn around(rt: &impl Print, first: &[u8], n: usize, last: &[u8]) -> io::Result<()> {
+    put(rt, first)?;
+    number(rt, n)?;
+    put(rt, last)
 }
 
 // Writes the start of a group of elements whose origin is moved.
-pub fn moved(x: usize, y: usize) {
-    around(b"<g transform=\"translate(", x, b" ");
-    around(b"", y, b")\">");
+pub fn moved(rt: &impl Print, x: usize, y: usize) -> io::Result<()> {
+    around(rt, b"<g transform=\"translate(", x, b" ")?;
+    around(rt, b"", y, b")\">")
 }
 
 // Writes one byte.
-fn byte(b: u8) {
+fn byte(rt: &impl Print, b: u8) -> io::Result<()> {
     let one = [b];
-    put(&one);
+    put(rt, &one)
 }
 
 // Writes the first n bytes of a line, as they are shown.
-fn first_bytes(line: &[u8], n: usize)
+fn first_bytes(rt: &impl Print, line: &[u8], n: usize) -> io::Result<()>
     requires { n ≤ length line.now }
 {
     let mut i = 0;
     while i < n {
-        byte(plain(line[i]));
+        byte(rt, plain(line[i]))?;
         i += 1;
     }
+    Ok(())
 }
 
 // Writes what is shown of a line, and two dots where that is not all.
-pub fn shown_line(line: &[u8]) {
+pub fn shown_line(rt: &impl Print, line: &[u8]) -> io::Result<()> {
     let n = shown(line);
-    first_bytes(line, n);
+    first_bytes(rt, line, n)?;
     if n < content(line) {
-        put(b"..");
+        put(rt, b"..")?;
     }
+    Ok(())
 }

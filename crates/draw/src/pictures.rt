@@ -6,87 +6,115 @@ use frame::types::Answer;
 use placing::cells::Cell;
 use station::causes::cause_number;
 use station::types::Refusal;
+use std::io;
 
 // Writes the rest of an `svg` element's start: its size.
-fn sized(w: usize, h: usize) {
-    around(b" width=\"", w, b"\"");
-    around(b" height=\"", h, b"\" viewBox=\"0 0 ");
-    around(b"", w, b" ");
-    around(b"", h, b"\"");
+fn sized(rt: &impl Print, w: usize, h: usize) -> io::Result<()> {
+    around(rt, b" width=\"", w, b"\"")?;
+    around(rt, b" height=\"", h, b"\" viewBox=\"0 0 ")?;
+    around(rt, b"", w, b" ")?;
+    around(rt, b"", h, b"\"")
 }
 
 // Writes the start of the whole picture.
-fn begin(w: usize, h: usize) {
-    put(b"<svg xmlns=\"http://www.w3.org/2000/svg\"");
-    sized(w, h);
-    put(b">\n");
+fn begin(rt: &impl Print, w: usize, h: usize) -> io::Result<()> {
+    put(rt, b"<svg xmlns=\"http://www.w3.org/2000/svg\"")?;
+    sized(rt, w, h)?;
+    put(rt, b">\n")
 }
 
 // Writes the start of the picture of one frame, `y` below the top.
-fn begin_frame(name: &[u8], y: usize, w: usize, h: usize) {
-    put(b"<svg xmlns=\"http://www.w3.org/2000/svg\" id=\"");
-    put(name);
-    around(b"\" y=\"", y, b"\"");
-    sized(w, h);
-    put(b" font-family=\"Helvetica, Arial, sans-serif\" font-size=\"12\">\n");
-    put(b"<rect width=\"100%\" height=\"100%\" fill=\"#fff\"/>\n");
-    put(b"<text x=\"12\" y=\"22\" font-size=\"14\"><tspan font-weight=\"bold\">");
-    put(name);
-    put(b"</tspan>");
+fn begin_frame(rt: &impl Print, name: &[u8], y: usize, w: usize, h: usize) -> io::Result<()> {
+    put(rt, b"<svg xmlns=\"http://www.w3.org/2000/svg\" id=\"")?;
+    put(rt, name)?;
+    around(rt, b"\" y=\"", y, b"\"")?;
+    sized(rt, w, h)?;
+    put(
+        rt,
+        b" font-family=\"Helvetica, Arial, sans-serif\" font-size=\"12\">\n",
+    )?;
+    put(
+        rt,
+        b"<rect width=\"100%\" height=\"100%\" fill=\"#fff\"/>\n",
+    )?;
+    put(
+        rt,
+        b"<text x=\"12\" y=\"22\" font-size=\"14\"><tspan font-weight=\"bold\">",
+    )?;
+    put(rt, name)?;
+    put(rt, b"</tspan>")
 }
 
 // Writes `(refused N C)`.
-fn refused(n: usize, cause: Refusal) {
-    around(b"(refused ", n, b" ");
-    around(b"", cause_number(cause) as usize, b")");
+fn refused(rt: &impl Print, n: usize, cause: Refusal) -> io::Result<()> {
+    around(rt, b"(refused ", n, b" ")?;
+    around(rt, b"", cause_number(cause) as usize, b")")
 }
 
 // Writes what an event comes to, behind its line. An accepted clock or order of ties is that line.
-fn outcome(answer: Answer, n: usize) {
+fn outcome(rt: &impl Print, answer: Answer, n: usize) -> io::Result<()> {
     match answer {
-        Answer::Now(_) => {}
-        Answer::Tie(_) => {}
-        Answer::Taken(lost) => around(b": ", lost, b" lost"),
+        Answer::Now(_) => Ok(()),
+        Answer::Tie(_) => Ok(()),
+        Answer::Taken(lost) => around(rt, b": ", lost, b" lost"),
         Answer::Refused(_, cause) => {
-            put(b": <tspan font-family=\"monospace\" font-size=\"12\">");
-            refused(n, cause);
-            put(b"</tspan>");
+            put(rt, b": <tspan font-family=\"monospace\" font-size=\"12\">")?;
+            refused(rt, n, cause)?;
+            put(rt, b"</tspan>")
         }
     }
 }
 
 // Writes the event in a caption.
-fn event_caption(event: &[u8]) {
-    put(b" <tspan font-family=\"monospace\" font-size=\"12\">");
-    shown_line(event);
-    put(b"</tspan>");
+fn event_caption(rt: &impl Print, event: &[u8]) -> io::Result<()> {
+    put(rt, b" <tspan font-family=\"monospace\" font-size=\"12\">")?;
+    shown_line(rt, event)?;
+    put(rt, b"</tspan>")
 }
 
 // Writes the rest of a frame's picture, after its caption: the frame as it is, with what was there before.
-fn frame(slots: usize, bridges: usize, was: &[Cell], is: &[Cell], clock: usize, with_lost: bool) {
-    put(b"</text>\n<text x=\"68\" y=\"62\" text-anchor=\"end\">slot</text>\n");
-    put(b"<g text-anchor=\"end\">\n");
-    bridge_labels(bridges);
-    put(b"</g>\n<g text-anchor=\"middle\">\n");
-    slots_and_cells(was, is, slots, bridges);
-    put(b"</g>\n");
-    clock_mark(clock, slots, bridges);
-    legend(bridges, with_lost);
-    put(b"</svg>\n");
+fn frame(
+    rt: &impl Print,
+    slots: usize,
+    bridges: usize,
+    was: &[Cell],
+    is: &[Cell],
+    clock: usize,
+    with_lost: bool,
+) -> io::Result<()> {
+    put(
+        rt,
+        b"</text>\n<text x=\"68\" y=\"62\" text-anchor=\"end\">slot</text>\n",
+    )?;
+    put(rt, b"<g text-anchor=\"end\">\n")?;
+    bridge_labels(rt, bridges)?;
+    put(rt, b"</g>\n<g text-anchor=\"middle\">\n")?;
+    slots_and_cells(rt, was, is, slots, bridges)?;
+    put(rt, b"</g>\n")?;
+    clock_mark(rt, clock, slots, bridges)?;
+    legend(rt, bridges, with_lost)?;
+    put(rt, b"</svg>\n")
 }
 
 // Writes the picture of a plan.
-pub fn plan_frame(slots: usize, bridges: usize, table: [Cell; 512], clock: usize) {
+pub fn plan_frame(
+    rt: &impl Print,
+    slots: usize,
+    bridges: usize,
+    table: [Cell; 512],
+    clock: usize,
+) -> io::Result<()> {
     let w = width(slots, b"");
     let h = height(bridges);
-    begin(w, h);
-    begin_frame(b"plan", 0, w, h);
-    frame(slots, bridges, &table, &table, clock, false);
-    put(b"</svg>\n");
+    begin(rt, w, h)?;
+    begin_frame(rt, b"plan", 0, w, h)?;
+    frame(rt, slots, bridges, &table, &table, clock, false)?;
+    put(rt, b"</svg>\n")
 }
 
 // Writes the picture of a frame before an event, which is line n, and after it.
 pub fn both_frames(
+    rt: &impl Print,
     slots: usize,
     bridges: usize,
     before: [Cell; 512],
@@ -96,25 +124,31 @@ pub fn both_frames(
     answer: Answer,
     after: [Cell; 512],
     next: usize,
-) {
+) -> io::Result<()> {
     let w = width(slots, event);
     let h = height(bridges);
-    begin(w, 2 * h);
-    begin_frame(b"before", 0, w, h);
-    event_caption(event);
-    frame(slots, bridges, &before, &before, clock, false);
-    begin_frame(b"after", h, w, h);
-    event_caption(event);
-    outcome(answer, n);
-    frame(slots, bridges, &before, &after, next, true);
-    put(b"</svg>\n");
+    begin(rt, w, 2 * h)?;
+    begin_frame(rt, b"before", 0, w, h)?;
+    event_caption(rt, event)?;
+    frame(rt, slots, bridges, &before, &before, clock, false)?;
+    begin_frame(rt, b"after", h, w, h)?;
+    event_caption(rt, event)?;
+    outcome(rt, answer, n)?;
+    frame(rt, slots, bridges, &before, &after, next, true)?;
+    put(rt, b"</svg>\n")
 }
 
 // Writes the picture of a refused text: its one refused line.
-pub fn refused_text(n: usize, cause: Refusal) {
-    begin(380, 64);
-    put(b"<rect width=\"100%\" height=\"100%\" fill=\"#fff\"/>\n");
-    put(b"<text x=\"12\" y=\"38\" font-family=\"monospace\" font-size=\"16\">");
-    refused(n, cause);
-    put(b"</text>\n</svg>\n");
+pub fn refused_text(rt: &impl Print, n: usize, cause: Refusal) -> io::Result<()> {
+    begin(rt, 380, 64)?;
+    put(
+        rt,
+        b"<rect width=\"100%\" height=\"100%\" fill=\"#fff\"/>\n",
+    )?;
+    put(
+        rt,
+        b"<text x=\"12\" y=\"38\" font-family=\"monospace\" font-size=\"16\">",
+    )?;
+    refused(rt, n, cause)?;
+    put(rt, b"</text>\n</svg>\n")
 }

@@ -2,13 +2,16 @@
 // output. What the listing is, is decided in the library.
 #![tactic(auto)]
 
-ghost use Rattle.std.specs.Prelude.{◌≤◌, ◌≡◌, length, take};
+ghost use Rattle.std.specs.Prelude.{◌≤◌, ◌≡◌, length, take, IfOk, IfSome};
 ghost use Rattle.frame.specs.Text.{whole_of};
 ghost use Rattle.frame.specs.Listing.{listing_of};
 
 use frame::listing::{write_answer, write_listing};
 use frame::types::Answer;
+use reading::read_full;
 use station::write::Writing;
+use std::io;
+use std::io::Read;
 
 // Writes what the program prints of a text into an output with room for every listing: the listing,
 // or where the text is too long to be taken, the one line of this refusal. Answers how many bytes
@@ -32,24 +35,32 @@ fn listing(text: &[u8], table: &mut [u16], out: &mut [u8]) -> usize
     }
 }
 
-// Reads standard input into a buffer, as far as that has room, and answers how many bytes it is.
+// Reads an input into a buffer, as far as that has room, and answers how many bytes it is.
 // The buffer takes one byte more than a text may have: a longer text is then seen to be too long,
 // and none is cut to one that is not.
-fn read_text(buffer: &mut [u8]) -> usize
+fn read_text<R: Read>(reader: &mut R, buffer: &mut [u8]) -> io::Result<usize>
     requires { 32769 ≤ length buffer.old }
-    ensures { result ≤ length buffer.new }
+    ensures inside { IfOk result (λ n. n ≤ length buffer.new) }
+    ensures bytes { IfOk result (λ n. IfSome (R.remaining reader.old)
+        (λ left. take n buffer.new ≡ take (length buffer.new) left)) }
 {
-    io::read_full(0, buffer)
+    read_full(reader, buffer)
 }
 
-fn main() {
+// Room for a listing: no text has a longer one.
+fn listing_room() -> [u8; 655360]
+    ensures { length result ≡ 655360 }
+{
+    [0; 655360]
+}
+
+fn main(rt: HostRuntime) -> io::Result<()> {
     let mut input = [0u8; 32769];
     let mut table = [0u16; 512];
-    // no text has a longer listing
-    let mut output = [0u8; 655360];
-    let n = read_text(&mut input);
+    let mut output = listing_room();
+    let n = read_text(&mut rt.stdin(), &mut input)?;
     let text = &input[0..n];
     let k = listing(text, &mut table, &mut output);
     let printed = &output[0..k];
-    io::write_all(1, printed);
+    rt.write_all(printed)
 }

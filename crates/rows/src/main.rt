@@ -3,7 +3,7 @@
 // empty line it writes the head's rows. How texts are read and written is decided in the library.
 #![tactic(auto)]
 
-ghost use Rattle.std.specs.Prelude.{◌≤◌, ◌≡◌, true, length, take};
+ghost use Rattle.std.specs.Prelude.{◌≤◌, ◌≡◌, true, length, take, IfOk, IfSome};
 ghost use Rattle.station.specs.Text.{lines};
 ghost use Rattle.station.specs.Writing.{text_of};
 ghost use Rattle.station.specs.Row.{rows_text};
@@ -14,6 +14,7 @@ ghost use Rattle.rows.specs.method.Parts.{parted_at, Printed, length_in};
 
 use frame::listing::write_answer;
 use frame::types::Answer;
+use reading::read_full;
 use station::heads::{ReadAnswer, read_head_by_value};
 use station::limits::MOST_PRESETS;
 use station::lines::line_at;
@@ -21,6 +22,8 @@ use station::rows::text::write_rows_by_value;
 use station::rows::{RowsAnswer, read_rows_by_value};
 use station::types::{Head, NO_HEAD, NO_PRESETS, Preset, Refusal};
 use station::write::{Writing, write_head_by_value};
+use std::io;
+use std::io::Read;
 
 // Where the first empty line of an input begins; its end where there is none.
 fn empty_line(input: &[u8]) -> usize
@@ -115,23 +118,25 @@ fn printed(input: &[u8], out: &mut [u8]) -> usize
     head_rows(head, presets, out)
 }
 
-// Reads standard input into a buffer, as far as that has room, and answers how many bytes it is. A
+// Reads an input into a buffer, as far as that has room, and answers how many bytes it is. A
 // head's text and the rows may have 32,768 bytes each, with the empty line between them. The buffer
 // takes one byte more, so that a longer input is seen to be too long.
-fn read_input(buffer: &mut [u8]) -> usize
+fn read_input<R: Read>(reader: &mut R, buffer: &mut [u8]) -> io::Result<usize>
     requires { 65538 ≤ length buffer.old }
-    ensures { result ≤ length buffer.new }
+    ensures inside { IfOk result (λ n. n ≤ length buffer.new) }
+    ensures bytes { IfOk result (λ n. IfSome (R.remaining reader.old)
+        (λ left. take n buffer.new ≡ take (length buffer.new) left)) }
 {
-    io::read_full(0, buffer)
+    read_full(reader, buffer)
 }
 
-fn main() {
+fn main(rt: HostRuntime) -> io::Result<()> {
     let mut buffer = [0u8; 65538];
     // room for the text of every head, and so for its rows and for a refused line
     let mut output = [0u8; 8192];
-    let n = read_input(&mut buffer);
+    let n = read_input(&mut rt.stdin(), &mut buffer)?;
     let input = &buffer[0..n];
     let k = printed(input, &mut output);
     let bytes = &output[0..k];
-    io::write_all(1, bytes);
+    rt.write_all(bytes)
 }

@@ -3,7 +3,6 @@ use crate::heads::{count, priority, supply};
 use crate::packed::{bit, field, has, masked, members, size, with_field};
 use crate::placements::{feasible, order, place};
 use crate::tables::{cells_of, is_fed};
-use std::num::{wrapping_add_usize, wrapping_sub_usize};
 
 // The names in the call cells, which are 128 + name.
 fn names_in(table: usize) -> usize {
@@ -30,7 +29,7 @@ fn is_used(head: usize, table: usize, call: usize) -> bool {
     if size(jobs) < 3 {
         return true;
     }
-    jobs & (names_in(table) | wrapping_sub_usize(bit(count(head)), 1)) != 0
+    jobs & (names_in(table) | bit(count(head)).wrapping_sub(1)) != 0
 }
 
 // Document 02, 2026-05: "A call uses slots above the clock". These slots, the first of them in
@@ -67,12 +66,12 @@ fn bit_of(head: usize, table: usize, cell: usize) -> usize {
 // whose list in the eviction order comes first. That order is worst rank first and for one preset
 // the latest slot first, so a cell that comes earlier takes off a higher bit.
 fn cost(head: usize, table: usize, set: usize) -> usize {
-    let mut sum = 0;
+    let mut sum = 0usize;
     let mut cell = 0;
     while cell < 6 {
         if has(set, cell) {
-            sum = wrapping_add_usize(sum, 0x100000000);
-            sum = wrapping_sub_usize(sum, bit_of(head, table, cell));
+            sum = sum.wrapping_add(0x100000000);
+            sum = sum.wrapping_sub(bit_of(head, table, cell));
         }
         cell += 1;
     }

@@ -7,8 +7,6 @@
 // slot, the set of its cells that are not busy.
 ghost use Rattle.std.specs.Prelude.{◌<◌};
 
-use std::num::wrapping_sub_usize;
-
 // Field i, below 8.
 pub fn field(packed: usize, i: usize) -> usize
     ensures { result < 256 }
@@ -26,7 +24,7 @@ pub fn with_field(packed: usize, i: usize, value: usize) -> usize {
 
 // The number with field i less by one. Nobody asks where that is 0.
 pub fn one_less(packed: usize, i: usize) -> usize {
-    wrapping_sub_usize(packed, bit(i % 8 * 8))
+    packed.wrapping_sub(bit(i % 8 * 8))
 }
 
 // The smaller.
@@ -61,11 +59,7 @@ pub fn first_of(set: usize) -> usize {
 
 // The sets without the first member of field i.
 pub fn without_first(sets: usize, i: usize) -> usize {
-    with_field(
-        sets,
-        i,
-        field(sets, i) & wrapping_sub_usize(field(sets, i), 1),
-    )
+    with_field(sets, i, field(sets, i) & field(sets, i).wrapping_sub(1))
 }
 
 // The sets with only those members that a set of cells has too.
@@ -81,7 +75,7 @@ pub fn members(sets: usize) -> usize {
 
 // The first n fields.
 pub fn first_fields(packed: usize, n: usize) -> usize {
-    packed & wrapping_sub_usize(bit(n % 8 * 8), 1)
+    packed & bit(n % 8 * 8).wrapping_sub(1)
 }
 
 // Whether none of the first three fields is above another number's.

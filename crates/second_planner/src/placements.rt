@@ -6,7 +6,6 @@
 ghost use Rattle.std.specs.Prelude.{◌<◌};
 
 use crate::packed::{at_most, field, first_of, one_less, size, with_field, without_first};
-use std::num::{wrapping_add_usize, wrapping_sub_usize};
 
 // Whether one more cell of a slot may be filled. Document 02, 2026-03: a supply of k feeds k motors
 // in a slot, so that presets and calls hold no more cells of it; 0 is no supply line, and then
@@ -68,11 +67,7 @@ pub fn order(values: usize, i: usize) -> usize
 // order". A field for each of the three, 1 for those: what they had left to get before that slot's
 // choice is more by one than after it. Under `(tie place)` all are 0.
 fn held_of(hold: bool, before: usize, left: usize) -> usize {
-    if hold {
-        wrapping_sub_usize(before, left)
-    } else {
-        0
-    }
+    if hold { before.wrapping_sub(left) } else { 0 }
 }
 
 // Document 02, 2026-03: "the free number becomes the smaller of the empty cells and k less the
@@ -124,7 +119,7 @@ pub fn place(
 ) -> usize {
     let mut after = table;
     let mut unfilled = free;
-    let mut left = wrapping_add_usize(mandatory, optional);
+    let mut left = mandatory.wrapping_add(optional);
     let mut before = left;
     let mut held = 0;
     let mut n = 0;

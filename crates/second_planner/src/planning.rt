@@ -4,12 +4,11 @@ ghost use Rattle.std.specs.Prelude.{◌<◌};
 use crate::heads::{mandatory, optional, priority, supply};
 use crate::packed::{bit, field, within};
 use crate::placements::{feasible, order, place};
-use std::num::wrapping_add_usize;
 
 // Whether the mandatory slots and these optional ones fit. Every cell that is not busy is free: a
 // plan is over the table with nothing placed.
 fn is_feasible(sets: usize, head: usize, grants: usize) -> bool {
-    let needs = wrapping_add_usize(mandatory(head), grants);
+    let needs = mandatory(head).wrapping_add(grants);
     feasible(sets, sets, supply(head), needs, 0)
 }
 
@@ -24,11 +23,11 @@ fn wants(head: usize, line: usize, p: usize, n: usize) -> bool {
 // Document 01, "Grants: in rank order": priority by priority, in each line by line, slot by slot up
 // to o, one more wherever all still fits. (Priorities here are 0 and 8; three lines; o below 4.)
 fn grants_of(sets: usize, head: usize) -> usize {
-    let mut grants = 0;
+    let mut grants = 0usize;
     let mut k = 0;
     while k < 24 {
         let line = k / 4 % 3;
-        let more = wrapping_add_usize(grants, bit(8 * line));
+        let more = grants.wrapping_add(bit(8 * line));
         if wants(head, line, k / 12 * 8, k % 4) {
             if is_feasible(sets, head, more) {
                 grants = more;

@@ -6,7 +6,6 @@
 use crate::frames::sets_of;
 use crate::heads::{mandatory, optional};
 use crate::packed::{bit, field, has, masked, one_less, size, with_field, within};
-use std::num::wrapping_add_usize;
 
 // What is no table.
 pub const NO_TABLE: usize = 0xffffffffffffffff;
@@ -44,7 +43,7 @@ fn preset_cell(left: usize, head: usize, line: usize) -> usize {
 // where a preset has a busy cell, two cells of a slot, or fewer than its mandatory or more than all
 // its slots.
 pub fn table_of(frame: usize, head: usize, code: usize) -> usize {
-    let mut left = wrapping_add_usize(mandatory(head), optional(head));
+    let mut left = mandatory(head).wrapping_add(optional(head));
     let mut table = 0;
     let mut own = 0;
     let mut cell = 0;

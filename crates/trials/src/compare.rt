@@ -4,24 +4,33 @@ use crate::texts::write_order;
 use second_planner::frames::sets_of;
 use second_planner::packed::with_field;
 use second_planner::{answer, is_optimal};
+use std::io;
 
 // Writes a blank and a packed number, whose bytes are its fields.
-fn write_packed(n: usize) {
-    io::write_all(1, b" ");
-    io::print_hex(1, n as u64, 1);
+fn write_packed(rt: &impl Print, n: usize) -> io::Result<()> {
+    rt.write_all(b" ")?;
+    print!(rt; "{n:x}")
 }
 
 // Writes a line for what differs. A case is told by the order of ties, by its frame, with the busy cells, and its presets, with the supply, by the table before, and by the call,
 // 0 for a plan; last stands what the second planner answers. crates/second_planner/src says what the fields of each are.
-fn report(frame: usize, head: usize, table: usize, hold: bool, call: usize, right: usize) {
-    io::write_all(1, b"(differs ");
-    write_order(hold);
-    write_packed(frame);
-    write_packed(head);
-    write_packed(table);
-    write_packed(call);
-    write_packed(right);
-    io::write_all(1, b")\n");
+fn report(
+    rt: &impl Print,
+    frame: usize,
+    head: usize,
+    table: usize,
+    hold: bool,
+    call: usize,
+    right: usize,
+) -> io::Result<()> {
+    rt.write_all(b"(differs ")?;
+    write_order(rt, hold)?;
+    write_packed(rt, frame)?;
+    write_packed(rt, head)?;
+    write_packed(rt, table)?;
+    write_packed(rt, call)?;
+    write_packed(rt, right)?;
+    rt.write_all(b")\n")
 }
 
 // Whether the library answers the same, and no valid placement is better.
@@ -40,11 +49,18 @@ fn is_right(
 }
 
 // A call, or the plan, by both planners under an order of ties. Answers what the second one does, with cause 1 where they differ.
-pub fn compare(frame: usize, head: usize, table: usize, hold: bool, call: usize) -> usize {
+pub fn compare(
+    rt: &impl Print,
+    frame: usize,
+    head: usize,
+    table: usize,
+    hold: bool,
+    call: usize,
+) -> io::Result<usize> {
     let right = answer(sets_of(frame), head, table, hold, call);
     if is_right(frame, head, table, hold, call, right) {
-        return right;
+        return Ok(right);
     }
-    report(frame, head, table, hold, call, right);
-    with_field(right, 6, 1)
+    report(rt, frame, head, table, hold, call, right)?;
+    Ok(with_field(right, 6, 1))
 }

@@ -10,7 +10,7 @@ use second_planner::frames::{frame_of, sets_of};
 use second_planner::heads::{head_of, supply, with_supply};
 use second_planner::packed::{bit, field, first_of, with_field};
 use second_planner::tables::{NO_TABLE, cells_of, is_fed, table_of};
-use std::num::wrapping_add_usize;
+use std::io;
 
 // The tally of one at a place.
 fn one(place: usize) -> usize {
@@ -130,18 +130,25 @@ fn tally_of(
 }
 
 // A list of three calls on one table under an order of ties, each on what the one before left.
-fn try_list(frame: usize, head: usize, table: usize, hold: bool, list: usize) -> usize {
+fn try_list(
+    rt: &impl Print,
+    frame: usize,
+    head: usize,
+    table: usize,
+    hold: bool,
+    list: usize,
+) -> io::Result<usize> {
     let mut tally = one(10);
     let mut left = table;
     let mut step = 0;
     while step < 3 {
         let call = call_in(list, frame, step);
         let before = left & 0xffffffffffff;
-        left = compare(frame, head, before, hold, call);
-        tally = wrapping_add_usize(tally, tally_of(frame, head, before, hold, call, left));
+        left = compare(rt, frame, head, before, hold, call)?;
+        tally = tally.wrapping_add(tally_of(frame, head, before, hold, call, left));
         step += 1;
     }
-    tally
+    Ok(tally)
 }
 
 // The table with one optional cell made empty: the first from a cell on, if there is one.
@@ -151,25 +158,35 @@ fn one_less(table: usize, from: usize) -> usize {
 }
 
 // Two lists of calls, one on a plan and one on the plan with an optional cell less.
-fn try_lists(frame: usize, head: usize, table: usize, hold: bool, list: usize) -> usize {
-    let first = try_list(frame, head, table, hold, list);
-    wrapping_add_usize(
-        first,
-        try_list(frame, head, one_less(table, list), hold, list),
-    )
+fn try_lists(
+    rt: &impl Print,
+    frame: usize,
+    head: usize,
+    table: usize,
+    hold: bool,
+    list: usize,
+) -> io::Result<usize> {
+    let first = try_list(rt, frame, head, table, hold, list)?;
+    let second = try_list(rt, frame, head, one_less(table, list), hold, list)?;
+    Ok(first.wrapping_add(second))
 }
 
 // A head's plan under an order of ties, and the lists on it.
-fn try_plan(frame: usize, head: usize, hold: bool, list: usize) -> usize {
-    let plan = compare(frame, head, 0, hold, 0);
+fn try_plan(
+    rt: &impl Print,
+    frame: usize,
+    head: usize,
+    hold: bool,
+    list: usize,
+) -> io::Result<usize> {
+    let plan = compare(rt, frame, head, 0, hold, 0)?;
     let tally = changed(frame, head, 0, hold, 0, plan);
     if field(plan, 6) != 0 {
-        return tally | one(field(plan, 6));
+        return Ok(tally | one(field(plan, 6)));
     }
-    wrapping_add_usize(
-        tally | one(6),
-        try_lists(frame, head, plan & 0xffffffffffff, hold, list),
-    )
+    let granted = tally | one(6);
+    let lists = try_lists(rt, frame, head, plan & 0xffffffffffff, hold, list)?;
+    Ok(granted.wrapping_add(lists))
 }
 
 // Whether a code is tried on a frame with a supply: each without one, and each where it feeds fewer motors than there are bridges; else one code in 16, since the supply must
@@ -182,35 +199,55 @@ fn is_tried(frame: usize, k: usize, code: usize) -> bool {
 }
 
 // The head of a code below 42,944, with a supply: each of eleven frames with each set of busy cells, and 61 heads with that.
-fn try_head(code: usize, k: usize, hold: bool) -> usize {
+fn try_head(rt: &impl Print, code: usize, k: usize, hold: bool) -> io::Result<usize> {
     let frame = frame_of(code / 3904, code / 61 % 64);
     if frame == 0 {
-        return 0;
+        return Ok(0);
     }
     if !is_tried(frame, k, code) {
-        return 0;
+        return Ok(0);
     }
-    try_plan(frame, with_supply(head_of(code_of(code)), k), hold, code)
+    try_plan(
+        rt,
+        frame,
+        with_supply(head_of(code_of(code)), k),
+        hold,
+        code,
+    )
 }
 
 // One call on a table that does not obey the supply.
-fn try_above(frame: usize, head: usize, table: usize, hold: bool, list: usize) -> usize {
+fn try_above(
+    rt: &impl Print,
+    frame: usize,
+    head: usize,
+    table: usize,
+    hold: bool,
+    list: usize,
+) -> io::Result<usize> {
     let call = call_in(list, frame, 0);
-    let after = compare(frame, head, table, hold, call);
-    tally_of(frame, head, table, hold, call, after)
+    let after = compare(rt, frame, head, table, hold, call)?;
+    Ok(tally_of(frame, head, table, hold, call, after))
 }
 
 // A list of calls on a table, or one call where it does not obey the supply.
-fn try_calls(frame: usize, head: usize, table: usize, hold: bool, list: usize) -> usize {
+fn try_calls(
+    rt: &impl Print,
+    frame: usize,
+    head: usize,
+    table: usize,
+    hold: bool,
+    list: usize,
+) -> io::Result<usize> {
     if is_fed(sets_of(frame), table, supply(head)) {
-        return try_list(frame, head, table, hold, list);
+        return try_list(rt, frame, head, table, hold, list);
     }
-    try_above(frame, head, table, hold, list)
+    try_above(rt, frame, head, table, hold, list)
 }
 
 // The table of a code below 90,112, with a supply: each frame, nothing busy, with two heads, and for each every table without call cells that is well-formed but perhaps for
 // the supply. The calls on it.
-fn try_table(code: usize, k: usize, hold: bool) -> usize {
+fn try_table(rt: &impl Print, code: usize, k: usize, hold: bool) -> io::Result<usize> {
     let frame = frame_of(code / 8192, 0);
     let head = if code / 4096 % 2 == 0 {
         0x03048d09
@@ -218,19 +255,19 @@ fn try_table(code: usize, k: usize, hold: bool) -> usize {
         0x03850c05
     };
     if !is_tried(frame, k, code) {
-        return 0;
+        return Ok(0);
     }
     let table = table_of(frame, head, code % 4096);
     if table == NO_TABLE {
-        return 0;
+        return Ok(0);
     }
-    try_calls(frame, with_supply(head, k), table, hold, code)
+    try_calls(rt, frame, with_supply(head, k), table, hold, code)
 }
 
 // The tally of a code below 133,056 with a supply, 0 for none, under an order of ties: the heads, then the tables.
-pub fn try_code(code: usize, k: usize, hold: bool) -> usize {
+pub fn try_code(rt: &impl Print, code: usize, k: usize, hold: bool) -> io::Result<usize> {
     if code < 42944 {
-        return try_head(code, k, hold);
+        return try_head(rt, code, k, hold);
     }
-    try_table(code - 42944, k, hold)
+    try_table(rt, code - 42944, k, hold)
 }

@@ -20,20 +20,22 @@ mod counts; // counts.rt: what is counted of them
 
 use counts::compare_all;
 use lists::try_lists;
+use reading::read_full;
 use rows::try_rows;
+use std::io;
 use supplies::try_supplies;
 use texts::{try_long_texts, try_texts};
 use ties::try_ties;
 
-fn main() {
-    try_long_texts();
+fn main(rt: HostRuntime) -> io::Result<()> {
+    try_long_texts(&rt)?;
     let mut input = [0u8; 8192];
-    let n = io::read_full(0, &mut input);
+    let n = read_full(&mut rt.stdin(), &mut input)?;
     let texts = &input[0..n];
-    try_texts(texts);
-    try_lists();
-    try_ties();
-    try_supplies();
-    try_rows();
-    compare_all();
+    try_texts(&rt, texts)?;
+    try_lists(&rt)?;
+    try_ties(&rt)?;
+    try_supplies(&rt)?;
+    try_rows(&rt)?;
+    compare_all(&rt)
 }

@@ -10,6 +10,7 @@ use crate::lists::{
 };
 use placing::cells::Cell;
 use station::types::{Head, Job, NO_HEAD, NO_PRESETS, Preset};
+use std::io;
 
 // The job of the call, of one slot.
 fn jobs() -> [Job; 8] {
@@ -32,28 +33,46 @@ fn table_with(first: Cell, a: Cell, b: Cell) -> [Cell; 512] {
 }
 
 // The plan of a head, and its cells.
-fn try_plan(head: Head, records: [Preset; 32]) {
+fn try_plan(rt: &impl Print, head: Head, records: [Preset; 32]) -> io::Result<()> {
     let mut table = [0u16; 512];
-    show_planned(lent_plan(head, records, &mut table));
-    show_cells(&table);
+    show_planned(rt, lent_plan(head, records, &mut table))?;
+    show_cells(rt, &table)
 }
 
 // A call on a table at the clock before the last slot, which it may use then and no other.
-fn try_call(head: Head, records: [Preset; 32], cells: [Cell; 512]) {
+fn try_call(
+    rt: &impl Print,
+    head: Head,
+    records: [Preset; 32],
+    cells: [Cell; 512],
+) -> io::Result<()> {
     let mut table = cells;
-    show_called(lent_call(head, records, &mut table, 3, true, jobs(), 1));
-    show_cells(&table);
+    show_called(rt, lent_call(head, records, &mut table, 3, true, jobs(), 1))?;
+    show_cells(rt, &table)
 }
 
 // The call as an event line.
-fn try_line(head: Head, records: [Preset; 32], cells: [Cell; 512]) {
+fn try_line(
+    rt: &impl Print,
+    head: Head,
+    records: [Preset; 32],
+    cells: [Cell; 512],
+) -> io::Result<()> {
     let mut table = cells;
-    show_outcome(lent_event(head, records, &mut table, 3, true, b"(call (9 1))\n"));
-    show_cells(&table);
+    show_outcome(
+        rt,
+        lent_event(head, records, &mut table, 3, true, b"(call (9 1))\n"),
+    )?;
+    show_cells(rt, &table)
 }
 
 // The call and another one as a text without a head.
-fn try_lines(head: Head, records: [Preset; 32], cells: [Cell; 512]) {
+fn try_lines(
+    rt: &impl Print,
+    head: Head,
+    records: [Preset; 32],
+    cells: [Cell; 512],
+) -> io::Result<()> {
     let mut table = cells;
     let mut out = [0u8; 8192];
     let run = lent_run_events(
@@ -66,70 +85,81 @@ fn try_lines(head: Head, records: [Preset; 32], cells: [Cell; 512]) {
         &mut out,
     );
     let ended = run.ended;
-    show_run(ended, &out);
-    show_cells(&table);
+    show_run(rt, ended, &out)?;
+    show_cells(rt, &table)
 }
 
 // The next clock on a table, and the line of its last slot.
-fn try_clock(head: Head, records: [Preset; 32], cells: [Cell; 512]) {
+fn try_clock(
+    rt: &impl Print,
+    head: Head,
+    records: [Preset; 32],
+    cells: [Cell; 512],
+) -> io::Result<()> {
     let mut out = [0u8; 8192];
-    show_outcome(lent_set_clock(head, records, &cells, 3, true, 4));
+    show_outcome(rt, lent_set_clock(head, records, &cells, 3, true, 4))?;
     let written = lent_write_slot(head, records, &cells, 4, &mut out);
-    show_written(written, &out);
+    show_written(rt, written, &out)
 }
 
 // A table through the entries on a running frame.
-fn try_table(head: Head, records: [Preset; 32], cells: [Cell; 512]) {
-    try_call(head, records, cells);
-    try_line(head, records, cells);
-    try_lines(head, records, cells);
-    try_clock(head, records, cells);
+fn try_table(
+    rt: &impl Print,
+    head: Head,
+    records: [Preset; 32],
+    cells: [Cell; 512],
+) -> io::Result<()> {
+    try_call(rt, head, records, cells)?;
+    try_line(rt, head, records, cells)?;
+    try_lines(rt, head, records, cells)?;
+    try_clock(rt, head, records, cells)
 }
 
 // A whole text.
-fn try_text(text: &[u8]) {
+fn try_text(rt: &impl Print, text: &[u8]) -> io::Result<()> {
     let mut table = [0u16; 512];
     let mut out = [0u8; 8192];
     let run = lent_run_text(text, NO_HEAD, NO_PRESETS, &mut table, 0, false, &mut out);
     let ended = run.ended;
-    show_run(ended, &out);
+    show_run(rt, ended, &out)
 }
 
 // The head with a supply that no text yields, through the entries that take a head.
-fn try_nine(head: Head, records: [Preset; 32]) {
+fn try_nine(rt: &impl Print, head: Head, records: [Preset; 32]) -> io::Result<()> {
     let mut out = [0u8; 8192];
     let mut nine = head;
     nine.supply = 9;
     let written = lent_write_head(nine, records, &mut out);
-    show_written(written, &out);
-    try_plan(nine, records);
-    try_table(nine, records, table_with(0, 0, 769));
+    show_written(rt, written, &out)?;
+    try_plan(rt, nine, records)?;
+    try_table(rt, nine, records, table_with(0, 0, 769))
 }
 
 // The head of a text: its plan, a table whose optional cell is evicted and left empty, one with a cell too many in the last slot and one in the first, which is past; then the
 // last of these with a supply that feeds it, and with one of 9.
-fn try_tables(head: Head, records: [Preset; 32]) {
-    try_plan(head, records);
-    try_table(head, records, table_with(0, 0, 769));
-    try_table(head, records, table_with(0, 1033, 769));
-    try_table(head, records, table_with(1035, 0, 769));
+fn try_tables(rt: &impl Print, head: Head, records: [Preset; 32]) -> io::Result<()> {
+    try_plan(rt, head, records)?;
+    try_table(rt, head, records, table_with(0, 0, 769))?;
+    try_table(rt, head, records, table_with(0, 1033, 769))?;
+    try_table(rt, head, records, table_with(1035, 0, 769))?;
     let mut two = head;
     two.supply = 2;
-    try_table(two, records, table_with(1035, 0, 769));
-    try_nine(head, records);
+    try_table(rt, two, records, table_with(1035, 0, 769))?;
+    try_nine(rt, head, records)
 }
 
 // All of it. The second text has a busy cell beside the optional one, which draws nothing.
-pub fn try_supplies() {
+pub fn try_supplies(rt: &impl Print) -> io::Result<()> {
     let text =
         b"(frame 4 2)\n(supply 1)\n(tie hold)\n(preset 1 0 1 1)\n(preset 2 1 1 1)\n(clock 3)\n(call (9 1))\n(call (10 1))\n";
-    io::write_all(1, b"(supplies)\n");
-    try_head(text);
+    rt.write_all(b"(supplies)\n")?;
+    try_head(rt, text)?;
     let read = lent_read_head(text, NO_HEAD, NO_PRESETS);
-    try_tables(read.head, lent_records(text, NO_HEAD, NO_PRESETS));
-    try_text(text);
+    try_tables(rt, read.head, lent_records(text, NO_HEAD, NO_PRESETS))?;
+    try_text(rt, text)?;
     try_text(
+        rt,
         b"(frame 2 2)\n(supply 1)\n(busy 1 (2 2))\n(preset 1 0 0 2)\n(clock 1)\n(call (9 1))\n",
-    );
-    try_text(b"(frame 1 1)\n(supply 9)\n");
+    )?;
+    try_text(rt, b"(frame 1 1)\n(supply 9)\n")
 }
