@@ -1,0 +1,14 @@
+-- `numbers::save_masks` meets its contract. The invariant: the masks that are left, written to their places, make what is to be written in all. Assumes nothing.
+use Prim.Native.Nat.{◌≤◌, ◌-◌, ◌+◌}
+use native.Mathlib.Omega.{arith}
+use mathlib.Core.Path.{◌≡◌, refl, ◌∙◌, ap}
+use lib.ListN.{length, drop, length-set}
+use lib.Seq.{sets}
+use Rattle.planner.proofs.Steps.{number_more, numbers_all}
+use Rattle.planner.proofs.numbers.save_masks.Given as goal
+
+abbrev pub invariant-loop-b : goal.invariant-loop-b
+invariant-loop-b l = (l.b ≤ 8) × (length l.frame ≡ length l.initial.frame) × (sets l.frame (4 + l.b) (drop l.b l.busy) ≡ sets l.initial.frame 4 l.busy)
+
+abbrev pub decreases-loop-b : goal.decreases-loop-b
+decreases-loop-b l = 8 - l.b

@@ -1,0 +1,7 @@
+-- `presets::preset_at` meets its contract: each byte is read at its place. Assumes nothing.
+use borrow.Author.Rules.{rules}
+use mathlib.Core.Path.{refl}
+use Rattle.planner.proofs.presets.preset_at.Goals as goal
+
+pub returns : goal.returns
+returns c = rw (c.byte_at.ensures, c.byte_at-2.ensures, c.byte_at-3.ensures, c.byte_at-4.ensures) refl
