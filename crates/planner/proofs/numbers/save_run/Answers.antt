@@ -9,4 +9,4 @@ returns-in-Ran c = let a = c.args in
 
 pub returns-in-Refused : goal.returns-in-Refused
 returns-in-Refused c = let a = c.args in
-    refused_written a.ended a.head a.clock a.hold a.frame.now c.save_head.ensures c.in-Refused.is c.set_goal.ensures
+    refused_written a.ended a.head a.clock a.hold a.frame.now c.save_head.ensures c.in-Refused.is c.set_tie.ensures
