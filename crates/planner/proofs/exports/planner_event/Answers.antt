@@ -1,5 +1,4 @@
 -- `exports::planner_event` meets its contract: a law for each cause tried here, and one for a line that is handed on. Assumes nothing.
-use borrow.Author.Rules.{rules}
 use Rattle.planner.proofs.EventLine.{event_short_frame, event_short_presets, event_handed}
 use Rattle.planner.proofs.exports.planner_event.Goals as goal
 

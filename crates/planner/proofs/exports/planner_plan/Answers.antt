@@ -1,5 +1,4 @@
 -- `exports::planner_plan` meets its contract: a law for each cause tried here, one for a plan that is refused and one for a plan that is made. Assumes nothing.
-use borrow.Author.Rules.{rules}
 use Rattle.planner.proofs.PlanFrame.{plan_short_frame, plan_short_presets, plan_short_grants, refused_handed, made_handed}
 use Rattle.planner.proofs.exports.planner_plan.Goals as goal
 

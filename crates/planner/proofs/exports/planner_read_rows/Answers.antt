@@ -1,5 +1,4 @@
 -- `exports::planner_read_rows` meets its contract: a law for each cause tried here, and one for rows that are handed on. Assumes nothing.
-use borrow.Author.Rules.{rules}
 use Rattle.planner.proofs.RowsRead.{rows_long, rows_short_frame, rows_short_presets, rows_handed}
 use Rattle.planner.proofs.exports.planner_read_rows.Goals as goal
 

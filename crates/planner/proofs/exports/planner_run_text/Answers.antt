@@ -1,5 +1,4 @@
 -- `exports::planner_run_text` meets its contract: a law for each cause tried here, and one for a text that is run. Assumes nothing.
-use borrow.Author.Rules.{rules}
 use Rattle.planner.proofs.RunText.{text_long, text_short_frame, text_short_presets, text_handed}
 use Rattle.planner.proofs.exports.planner_run_text.Goals as goal
 

@@ -1,5 +1,4 @@
 -- `exports::planner_write_rows` meets its contract: a law for each cause tried here, and one for rows that are handed on. Assumes nothing.
-use borrow.Author.Rules.{rules}
 use Rattle.planner.proofs.RowsWritten.{write_short_frame, write_short_presets, write_handed}
 use Rattle.planner.proofs.exports.planner_write_rows.Goals as goal
 

@@ -1,10 +1,8 @@
 -- `grants::save_grants` meets its contract. The invariant: the grants that are left, written to their places, make what is to be written in all. Assumes nothing.
-use Prim.Native.Nat.{◌≤◌, ◌-◌, ◌+◌}
-use native.Mathlib.Omega.{arith}
-use mathlib.Core.Path.{◌≡◌, refl, ◌∙◌, ap}
-use lib.ListN.{length, drop, length-set}
+use Prim.Native.Nat.{◌≤◌, ◌-◌}
+use mathlib.Core.Path.{◌≡◌}
+use lib.ListN.{length, drop}
 use lib.Seq.{sets}
-use Rattle.planner.proofs.Steps.{number_more, numbers_all}
 use Rattle.planner.proofs.grants.save_grants.Given as goal
 
 abbrev pub invariant-loop-i : goal.invariant-loop-i

@@ -1,5 +1,4 @@
 -- `numbers::head_of` meets its contract: each number is read at its place. Assumes nothing.
-use borrow.Author.Rules.{rules}
 use mathlib.Core.Path.{refl}
 use Rattle.laws.specs.Lists.{tabulate}
 use Rattle.planner.proofs.numbers.head_of.Goals as goal

@@ -1,5 +1,4 @@
 -- `numbers::hold_of` meets its contract: the number at its place says the order. Assumes nothing.
-use borrow.Author.Rules.{rules}
 use mathlib.Core.Path.{◌∙◌, ap}
 use Rattle.planner.specs.Layout.{says_hold}
 use Rattle.planner.proofs.numbers.hold_of.Goals as goal

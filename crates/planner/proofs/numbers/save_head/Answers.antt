@@ -1,5 +1,4 @@
 -- `numbers::save_head` meets its contract: each number goes to its place. Assumes nothing.
-use borrow.Author.Rules.{rules}
 use Rattle.planner.proofs.Steps.{head_written}
 use Rattle.planner.proofs.numbers.save_head.Goals as goal
 

@@ -1,9 +1,8 @@
 -- `numbers::save_masks` meets its contract. The invariant: the masks that are left, written to their places, make what is to be written in all. Assumes nothing.
-use Prim.Native.Nat.{◌≤◌, ◌-◌, ◌+◌}
+use Prim.Native.Nat.{◌+◌}
 use native.Mathlib.Omega.{arith}
-use mathlib.Core.Path.{◌≡◌, refl, ◌∙◌, ap}
-use lib.ListN.{length, drop, length-set}
-use lib.Seq.{sets}
+use mathlib.Core.Path.{refl, ◌∙◌, ap}
+use lib.ListN.{length, length-set}
 use Rattle.planner.proofs.Steps.{number_more, numbers_all}
 use Rattle.planner.proofs.numbers.save_masks.Goals as goal
 
@@ -29,12 +28,11 @@ pub loop-b-smaller : goal.loop-b-smaller
 loop-b-smaller c = omega arith
 
 pub loop-b-preserved : goal.loop-b-preserved
-loop-b-preserved c = let l = c.loop-b in
-    (
-      omega arith,
-      ap length c.set_number.ensures ∙ length-set l.frame (4 + l.b) _ ∙ l.invariant.1,
-      number_more c.args.busy l.frame l.b (4 + l.b) (4 + (l.b + 1)) (omega arith) (omega (arith, c.well_formed.0)) c.set_number.ensures ∙ l.invariant.2,
-    )
+loop-b-preserved c = let l = c.loop-b in (
+  omega arith,
+  ap length c.set_number.ensures ∙ length-set l.frame (4 + l.b) _ ∙ l.invariant.1,
+  number_more c.args.busy l.frame l.b (4 + l.b) (4 + (l.b + 1)) (omega arith) (omega (arith, c.well_formed.0)) c.set_number.ensures ∙ l.invariant.2,
+)
 
 pub shape_of-frame : goal.shape_of-frame
 shape_of-frame c = c.loop-b.invariant.1

@@ -1,5 +1,4 @@
 -- `numbers::save_orders` meets its contract: each number goes to its place. Assumes nothing.
-use borrow.Author.Rules.{rules}
 use Rattle.planner.proofs.Steps.{orders_written}
 use Rattle.planner.proofs.numbers.save_orders.Goals as goal
 

@@ -1,5 +1,4 @@
 -- `numbers::save_run` meets its contract: a law for a text that ran, and one for a refusal. Assumes nothing.
-use borrow.Author.Rules.{rules}
 use Rattle.planner.proofs.Steps.{ran_written, refused_written}
 use Rattle.planner.proofs.numbers.save_run.Goals as goal
 

@@ -1,5 +1,4 @@
 -- `numbers::set_number` meets its contract: past the end `set` changes nothing. Assumes nothing.
-use borrow.Author.Rules.{rules}
 use mathlib.Core.Path.{sym}
 use lib.Seq.{set_out}
 use Rattle.planner.proofs.numbers.set_number.Goals as goal

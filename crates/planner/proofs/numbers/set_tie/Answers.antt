@@ -1,5 +1,4 @@
 -- `numbers::set_tie` meets its contract: an order that stands already is left, and another is written. Assumes nothing.
-use borrow.Author.Rules.{rules}
 use Rattle.planner.proofs.Steps.{tie_stands, tie_written}
 use Rattle.planner.proofs.numbers.set_tie.Goals as goal
 

@@ -1,10 +1,8 @@
 -- `presets::load_presets` meets its contract. The invariant: the records passed are those read, and there are 32. Assumes nothing.
-use Prim.Native.Nat.{◌≤◌, ◌-◌}
 use native.Mathlib.Omega.{arith}
-use mathlib.Core.Path.{◌≡◌, refl, ◌∙◌}
-use Rattle.planner.specs.Layout.{records_in}
+use mathlib.Core.Path.{refl, ◌∙◌}
 use Rattle.planner.proofs.Steps.{read_more, read_all}
-use lib.ListN.{length, take, length-set}
+use lib.ListN.{length-set}
 use Rattle.planner.proofs.presets.load_presets.Goals as goal
 
 pub loop-i-init : goal.loop-i-init

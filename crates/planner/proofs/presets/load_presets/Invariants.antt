@@ -1,10 +1,8 @@
 -- `presets::load_presets` meets its contract. The invariant: the records passed are those read, and there are 32. Assumes nothing.
 use Prim.Native.Nat.{◌≤◌, ◌-◌}
-use native.Mathlib.Omega.{arith}
-use mathlib.Core.Path.{◌≡◌, refl, ◌∙◌}
+use mathlib.Core.Path.{◌≡◌}
 use Rattle.planner.specs.Layout.{records_in}
-use Rattle.planner.proofs.Steps.{read_more, read_all}
-use lib.ListN.{length, take, length-set}
+use lib.ListN.{length, take}
 use Rattle.planner.proofs.presets.load_presets.Given as goal
 
 abbrev pub invariant-loop-i : goal.invariant-loop-i

@@ -1,5 +1,4 @@
 -- `presets::preset_at` meets its contract: each byte is read at its place. Assumes nothing.
-use borrow.Author.Rules.{rules}
 use mathlib.Core.Path.{refl}
 use Rattle.planner.proofs.presets.preset_at.Goals as goal
 

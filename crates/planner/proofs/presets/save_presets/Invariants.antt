@@ -1,13 +1,9 @@
 -- `presets::save_presets` meets its contract. The invariant: the records that are left, written over the bytes, make what is to be written in all. Assumes nothing.
 use Prim.Native.Nat.{◌≤◌, ◌-◌, ◌*◌}
-use native.Mathlib.Omega.{arith}
-use mathlib.Core.Path.{◌≡◌, refl, ◌∙◌, ap}
-use mathlib.Core.List.{[], ◌∷◌}
-use lib.ListN.{length, drop, get_or}
-use Rattle.station.specs.Types.{no_record}
+use mathlib.Core.Path.{◌≡◌}
+use lib.ListN.{length, drop}
 use Rattle.planner.specs.Layout.{bytes_of, bytes_over}
-use Rattle.planner.proofs.Steps.{write_more, written_all}
-use lib.Seq.{sets, length-sets}
+use lib.Seq.{sets}
 use Rattle.planner.proofs.presets.save_presets.Given as goal
 
 abbrev pub invariant-loop-i : goal.invariant-loop-i

@@ -1,5 +1,4 @@
 -- `presets::set_byte` meets its contract: past the end `set` changes nothing. Assumes nothing.
-use borrow.Author.Rules.{rules}
 use mathlib.Core.Path.{sym}
 use lib.Seq.{set_out}
 use Rattle.planner.proofs.presets.set_byte.Goals as goal

@@ -1,5 +1,4 @@
 -- `presets::set_preset` meets its contract: each byte goes to its place. Assumes nothing.
-use borrow.Author.Rules.{rules}
 use Prim.Native.Nat.{◌*◌}
 use Rattle.planner.proofs.Steps.{record_written}
 use Rattle.planner.proofs.presets.set_preset.Goals as goal
