@@ -1,2 +1,0 @@
--- Steps for the walks by hand of lent.rt.
-pub mod Lending
