@@ -10,7 +10,7 @@ pub loop-at-init : goal.loop-at-init
 loop-at-init c = at_start c.args.input.now
 
 pub returns-then-input-at-eq10 : goal.returns-then-input-at-eq10
-returns-then-input-at-eq10 c = let i = c.loop-at.invariant in (i.inside, out_empty i c.loop-at-test.true c.if-input-at-eq10.true)
+returns-then-input-at-eq10 c = let i = c.loop-at.invariant in record { inside = i.inside; parts = out_empty i c.loop-at-test.true c.if-input-at-eq10.true }
 
 pub overflow_add-at : goal.overflow_add-at
 overflow_add-at c = omega (arith, line_inside c.loop-at.invariant c.loop-at-test.true c.line_at-line.ensures)
@@ -22,4 +22,4 @@ pub loop-at-preserved : goal.loop-at-preserved
 loop-at-preserved c = at_next c.loop-at.invariant c.loop-at-test.true c.line_at-line.ensures c.if-input-at-eq10.false
 
 pub returns : goal.returns
-returns c = let i = c.loop-at.invariant in (i.inside, out_end i c.loop-at-test.false)
+returns c = let i = c.loop-at.invariant in record { inside = i.inside; parts = out_end i c.loop-at-test.false }
