@@ -33,7 +33,7 @@ use Rattle.placing.specs.Call.{lengths}
 use Rattle.placing.specs.Outcomes.{written, PlanAnswer, plan_of}
 use Rattle.placing.specs.Uncapped.{Uncapped, free_count, plan_count, plan_fits_uncapped, needs_uncapped, grants_uncapped, planned_uncapped, plan_uncapped, call_free_uncapped, called_uncapped, cost_uncapped, frame_causes_uncapped}
 use Rattle.placing.proofs.Theorems.{no_line_uncapped, plan_uncapped_lem}
-use Rattle.frame.specs.Event.{Event, line, Asked, set_clock, set_tie, place_jobs, fault, asked_by_form, asked, taken, refused, Outcome, event_of}
+use Rattle.frame.specs.Event.{Event, line, Asked, set_clock, set_tie, place_jobs, fault, asked_by_form, asked, taken, Outcome, event_of}
 use Rattle.frame.specs.Event.{more as oneMore, run_of}
 use Rattle.frame.specs.Text.{ran, start_of, events_of, whole_of}
 use Rattle.frame.specs.Demands.{EventIs, stopped, clock_set, tie_set, placed}

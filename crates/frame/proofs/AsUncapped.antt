@@ -18,7 +18,7 @@ use Rattle.placing.specs.State.{State}
 use Rattle.placing.specs.Outcomes.{Cost, PlanAnswer, PlanOutcome, plan_of}
 use Rattle.placing.specs.Uncapped.{Uncapped, plan_uncapped}
 use Rattle.placing.proofs.Theorems.{no_line_uncapped, plan_uncapped_lem, cost_call, state_call, frame_causes_lem, call_causes_lem, fed_uncapped, frame_eight, causes_eight, cost_eight, state_eight}
-use Rattle.frame.specs.Event.{Event, Asked, set_clock, set_tie, place_jobs, fault, asked, taken, refused, Outcome, own_causes, carried_out, comes_to, event_of, more, run_of}
+use Rattle.frame.specs.Event.{Event, Asked, set_clock, set_tie, place_jobs, fault, asked, taken, Outcome, own_causes, carried_out, comes_to, event_of, more, run_of}
 use Rattle.frame.specs.Text.{Whole, not_read, ran, start_of, events_of, whole_with_plan, whole_with_head, whole_of}
 use Rattle.frame.specs.Uncapped.{decided, run_by, with_plan_by, with_head_by, whole_by, own_uncapped, carried_uncapped, event_uncapped, run_uncapped, whole_uncapped}
 

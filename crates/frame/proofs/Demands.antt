@@ -8,7 +8,7 @@ use mathlib.Core.Path.{◌≡◌, refl, sym, ◌∙◌, ap, subst}
 use mathlib.Core.Bool.{Bool}
 use mathlib.Core.List.{List}
 use lib.ListN.{length, take}
-use lib.Dec.{ltb, lit≤}
+use lib.Dec.{ltb}
 use Rattle.laws.proofs.Tests.{Is, is_true, is_false, is}
 use Rattle.laws.proofs.Comparisons.{lt_of, ge_of}
 use Rattle.station.specs.Head.{Head}

@@ -12,7 +12,7 @@ use Rattle.laws.proofs.Comparisons.{ltb_no}
 use Rattle.station.specs.Refusal.{Refusal, first_of}
 use Rattle.station.specs.Types.{refusal_in}
 use Rattle.station.specs.declared.types.Refusal as cause
-use Rattle.station.specs.WriteHead.{Answer, written, refused, answer_of, output_of, answer_in}
+use Rattle.station.specs.WriteHead.{written, refused, answer_of, output_of, answer_in}
 use Rattle.station.specs.declared.write.Writing as writing
 use Rattle.station.specs.declared.write.Writing.TheVariants.{Written, Refused}
 use Rattle.frame.specs.declared.types.Answer.TheVariants as reply

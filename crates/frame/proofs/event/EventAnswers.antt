@@ -14,7 +14,7 @@ use mathlib.Core.List.{List, [], ◌∷◌, ◌++◌}
 use lib.ListN.{length}
 use lib.Dec.{ltb, leb}
 use Rattle.laws.specs.method.Capacities.{AtLeast}
-use Rattle.laws.proofs.Tests.{Is, is, is_true, is_false, clash, both, left_of, right_of, not_is_true, not_is_false, true_of_not}
+use Rattle.laws.proofs.Tests.{Is, is, is_true, is_false, clash, both, left_of, right_of, not_is_true, not_is_false}
 use Rattle.laws.proofs.Comparisons.{gt_of, le_of, ge_of, ltb_yes, ltb_no}
 use Rattle.station.specs.Head.{Head, Job, within}
 use Rattle.station.specs.Refusal.{Refusal, out_of_limits, clock_back, first_of}

@@ -10,7 +10,6 @@ use Rattle.station.specs.Reading.{Reading, head_of}
 use Rattle.station.specs.declared.types.Preset as record-of-preset
 use Rattle.station.specs.declared.types.Head as record-of-head
 use Rattle.station.specs.declared.types.Refusal as cause
-use Rattle.frame.specs.declared.text.Ended as ended
 use Rattle.frame.specs.declared.text.Ended.TheVariants.{Refused}
 use Rattle.frame.specs.declared.text.TextRun as result
 

@@ -1,9 +1,7 @@
 -- `empty_line` meets its contract. The invariant: the lines to the place `at` are the head's. The measure is what is left of the input. Assumes nothing.
 use Prim.Native.Nat.{◌-◌}
-use native.Mathlib.Omega.{arith}
 use lib.ListN.{length}
-use borrow.Author.Rules.{rules}
-use Rattle.rows.proofs.InputParts.{AtLine, at_start, line_inside, line_bytes, at_next, out_empty, out_end}
+use Rattle.rows.proofs.InputParts.{AtLine}
 use Rattle.rows.proofs.empty_line.Given as goal
 
 abbrev pub invariant-loop-at : goal.invariant-loop-at

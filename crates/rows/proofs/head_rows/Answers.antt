@@ -1,5 +1,4 @@
 -- `head_rows` meets its contract: no cause refuses the writing. Assumes nothing.
-use borrow.Author.Rules.{rules}
 use Rattle.rows.proofs.Outputs.{rows_stand}
 use Rattle.rows.proofs.head_rows.Goals as goal
 

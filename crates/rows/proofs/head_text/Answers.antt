@@ -1,5 +1,4 @@
 -- `head_text` meets its contract: no cause refuses the writing. Assumes nothing.
-use borrow.Author.Rules.{rules}
 use Rattle.rows.proofs.Outputs.{text_stands}
 use Rattle.rows.proofs.head_text.Goals as goal
 

@@ -1,6 +1,5 @@
 -- `printed` meets its contract: a law for each of its three ways out, by the place of the empty line and what the reading of the head tells. Assumes nothing.
 use mathlib.Core.Path.{sym, ◌∙◌}
-use borrow.Author.Rules.{rules}
 use lib.Seq.{length-take-le}
 use Rattle.station.proofs.Theorems.{read_accepted, read_refused}
 use Rattle.rows.proofs.Outputs.{read_record, printed_refused, printed_rows, printed_alone}

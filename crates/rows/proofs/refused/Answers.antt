@@ -1,5 +1,4 @@
 -- `refused` meets its contract: an output as long as this has room for the line. Assumes nothing.
-use borrow.Author.Rules.{rules}
 use Rattle.rows.proofs.Outputs.{refusal_stands}
 use Rattle.rows.proofs.refused.Goals as goal
 

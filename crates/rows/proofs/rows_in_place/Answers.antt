@@ -1,5 +1,4 @@
 -- `rows_in_place` meets its contract: by what the reading of the rows tells, for each of its two answers. Assumes nothing.
-use borrow.Author.Rules.{rules}
 use Rattle.rows.proofs.Outputs.{rows_refused_lem, rows_accepted_lem}
 use Rattle.rows.proofs.rows_in_place.Goals as goal
 

@@ -1,5 +1,4 @@
 -- `listing::list` meets its contract: the listing of a text that ran stands there already, and the one line of a refusal is written. Assumes nothing.
-use borrow.Author.Rules.{rules}
 use Rattle.frame.specs.TextDone.{whole_with_output}
 use Rattle.frame.proofs.listing.WholeListing.{lists_ran, lists_refused}
 use Rattle.frame.proofs.listing.list.Goals as goal

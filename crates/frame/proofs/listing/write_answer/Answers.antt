@@ -2,7 +2,6 @@
 use Rattle.frame.specs.Types.{answer_in}
 use Rattle.frame.specs.Listing.{answer_line}
 use Rattle.frame.proofs.listing.OneLine.{small_answer, answer_fits, line_short, line_whole}
-use borrow.Author.Rules.{rules}
 use Rattle.frame.proofs.listing.write_answer.Goals as goal
 
 pub returns-then-out-lt-LEAST_OUTPUT : goal.returns-then-out-lt-LEAST_OUTPUT

@@ -2,7 +2,6 @@
 use native.Mathlib.Omega.{arith}
 use Rattle.frame.specs.Listing.{granted_line}
 use Rattle.frame.proofs.listing.OneLine.{grant_fits, line_short, line_whole}
-use borrow.Author.Rules.{rules}
 use Rattle.frame.proofs.listing.write_grant.Goals as goal
 
 pub returns-then-out-lt-LEAST_OUTPUT : goal.returns-then-out-lt-LEAST_OUTPUT

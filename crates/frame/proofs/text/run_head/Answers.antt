@@ -1,6 +1,5 @@
 -- `text::run_head` meets its contract: the plan is refused, or granted lines, answers and slots make the listing. Assumes nothing.
 use mathlib.Core.Path.{refl}
-use borrow.Author.Rules.{rules}
 use Rattle.frame.proofs.text.WholeText.{run_refused, lines_may_start, run_done}
 use Rattle.frame.proofs.text.run_head.Goals as goal
 

@@ -1,6 +1,5 @@
 -- `text::run_text_by_value` meets its contract: a law for each answer, and the claim by `text_claim`. Assumes nothing.
 use mathlib.Core.Path.{◌∙◌}
-use borrow.Author.Rules.{rules}
 use Rattle.station.specs.declared.types.Refusal.TheVariants.{TooShort, TextTooLong}
 use Rattle.station.proofs.Theorems.{read_accepted, read_refused}
 use Rattle.frame.proofs.text.WholeText.{beside_long, beside_short, beside_whole, whole_short, text_claim, leaves_refused, run_unread, head_start, run_accepted}
@@ -37,16 +36,16 @@ run_head-requires c = let a = c.args in
 
 pub returns-in-Refused : goal.returns-in-Refused
 returns-in-Refused c = let a = c.args in record {
-      done = run_unread
-          (read_refused a.text.now a.head a.presets c.read_head_by_value-read.result _ _ c.read_head_by_value-read.ensures c.in-Refused.is)
-          c.if-text-gt-MOST_BYTES.false c.if-table-lt-LEAST_CELLS.false c.if-out-lt-LEAST_OUTPUT.false c.refused-in-Refused.ensures;
-      claim = text_claim a.text.now a.table.now a.out.now;
-    }
+  done = run_unread
+      (read_refused a.text.now a.head a.presets c.read_head_by_value-read.result _ _ c.read_head_by_value-read.ensures c.in-Refused.is)
+      c.if-text-gt-MOST_BYTES.false c.if-table-lt-LEAST_CELLS.false c.if-out-lt-LEAST_OUTPUT.false c.refused-in-Refused.ensures;
+  claim = text_claim a.text.now a.table.now a.out.now;
+}
 
 pub returns-in-Accepted : goal.returns-in-Accepted
 returns-in-Accepted c = let a = c.args in record {
-      done = run_accepted a.head
-          (read_accepted a.text.now a.head a.presets c.read_head_by_value-read.result _ _ c.read_head_by_value-read.ensures c.in-Accepted.is)
-          c.if-table-lt-LEAST_CELLS.false c.if-out-lt-LEAST_OUTPUT.false c.run_head.ensures;
-      claim = text_claim a.text.now a.table.now a.out.now;
-    }
+  done = run_accepted a.head
+      (read_accepted a.text.now a.head a.presets c.read_head_by_value-read.result _ _ c.read_head_by_value-read.ensures c.in-Accepted.is)
+      c.if-table-lt-LEAST_CELLS.false c.if-out-lt-LEAST_OUTPUT.false c.run_head.ensures;
+  claim = text_claim a.text.now a.table.now a.out.now;
+}

@@ -1,7 +1,6 @@
 -- `listing::bytes::answer_line` meets its contract, by the answer. Assumes nothing.
 use Rattle.station.specs.Text.{bytes}
 use Rattle.frame.specs.Listing.{answer_line}
-use borrow.Author.Rules.{rules}
 use Rattle.frame.proofs.listing.bytes.answer_line.Goals as goal
 
 pub returns-in-Now : goal.returns-in-Now

@@ -1,7 +1,6 @@
 -- `listing::bytes::cell_at` meets its contract. Assumes nothing.
 use mathlib.Core.Path.{sym}
 use lib.ListN.{get_or-eq_default}
-use borrow.Author.Rules.{rules}
 use Rattle.frame.proofs.listing.bytes.cell_at.Goals as goal
 
 pub returns : goal.returns

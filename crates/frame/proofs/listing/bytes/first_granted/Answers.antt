@@ -1,5 +1,5 @@
 -- `listing::bytes::first_granted` meets its contract. The invariant: the lines of the presets from i on are left. Assumes nothing.
-use Prim.Native.Nat.{suc, ◌-◌, ◌≤◌}
+use Prim.Native.Nat.{suc}
 use native.Mathlib.Numerals.{add-one}
 use native.Mathlib.Omega.{arith}
 use mathlib.Core.Path.{◌≡◌}
@@ -8,11 +8,9 @@ use lib.ListN.{length, take, drop, get_or}
 use lib.Seq.{drop-length, length-take-le}
 use Rattle.laws.specs.Lists.{at}
 use Rattle.station.specs.Types.{preset_in, presets_in, no_record}
-use Rattle.station.specs.Wrote.{Left}
 use Rattle.station.proofs.Theorems.{left_all, left_wrote, left_none}
 use Rattle.frame.specs.Listing.{granted_line, granted_lines}
 use Rattle.frame.proofs.listing.bytes.SlotLines.{granted_step}
-use borrow.Author.Rules.{rules}
 use Rattle.frame.proofs.listing.bytes.first_granted.Goals as goal
 
 pub loop-i-init : goal.loop-i-init

@@ -3,12 +3,10 @@ use Prim.Native.Nat.{suc, ◌-◌, ◌≤◌, ◌<◌}
 use native.Mathlib.Numerals.{add-one}
 use native.Mathlib.Omega.{arith}
 use mathlib.Core.Path.{◌≡◌}
-use Rattle.station.specs.Wrote.{Left}
 use Rattle.station.proofs.Theorems.{left_all, left_wrote, left_none}
 use Rattle.frame.specs.Listing.{slot_line, slot_lines}
 use Rattle.frame.specs.method.SlotLines.{of_bridges}
 use Rattle.frame.proofs.listing.bytes.SlotLines.{line_of_slot_lem, slot_lines_step}
-use borrow.Author.Rules.{rules}
 use Rattle.frame.proofs.listing.bytes.first_slots.Goals as goal
 
 pub loop-s-init : goal.loop-s-init

@@ -2,7 +2,6 @@
 use Rattle.station.specs.Text.{bytes}
 use Rattle.station.proofs.Theorems.{wrote_then}
 use Rattle.frame.specs.Listing.{granted_line}
-use borrow.Author.Rules.{rules}
 use Rattle.frame.proofs.listing.bytes.granted_line.Goals as goal
 
 pub returns : goal.returns

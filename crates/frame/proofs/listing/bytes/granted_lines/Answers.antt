@@ -3,7 +3,6 @@ use native.Mathlib.Omega.{arith}
 use mathlib.Core.Path.{◌≡◌}
 use lib.ListN.{length}
 use Rattle.frame.proofs.listing.bytes.SlotLines.{granted_many}
-use borrow.Author.Rules.{rules}
 use Rattle.frame.proofs.listing.bytes.granted_lines.Goals as goal
 
 pub returns-then-count-gt-MOST_PRESETS : goal.returns-then-count-gt-MOST_PRESETS

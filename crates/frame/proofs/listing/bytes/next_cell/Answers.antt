@@ -4,7 +4,6 @@ use Rattle.station.specs.Text.{bytes}
 use Rattle.placing.specs.Table.{kind_of, number_in}
 use Rattle.frame.specs.Listing.{cell_text}
 use Rattle.frame.proofs.listing.bytes.SlotLines.{cell_lettered}
-use borrow.Author.Rules.{rules}
 use Rattle.frame.proofs.listing.bytes.next_cell.Goals as goal
 
 pub returns-then-kind-eq0 : goal.returns-then-kind-eq0

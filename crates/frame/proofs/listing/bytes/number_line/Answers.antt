@@ -1,7 +1,6 @@
 -- `listing::bytes::number_line` meets its contract. Assumes nothing.
 use Rattle.station.specs.Text.{bytes}
 use Rattle.station.proofs.Theorems.{wrote_then}
-use borrow.Author.Rules.{rules}
 use Rattle.frame.proofs.listing.bytes.number_line.Goals as goal
 
 pub returns : goal.returns

@@ -1,18 +1,8 @@
 -- `listing::bytes::slot_cells` meets its contract. The invariant: the cells from bridge b on are left. Assumes nothing.
-use Prim.Native.Nat.{suc, ◌-◌, ◌≤◌}
-use native.Mathlib.Numerals.{add-one}
-use native.Mathlib.Omega.{arith}
-use mathlib.Core.Path.{◌≡◌}
-use mathlib.Core.List.{◌++◌}
-use Rattle.station.specs.Text.{bytes}
+use Prim.Native.Nat.{◌-◌, ◌≤◌}
 use Rattle.station.specs.Wrote.{Left}
-use Rattle.station.proofs.Theorems.{left_all, left_wrote}
-use Rattle.placing.specs.Table.{cell, kind_of, number_in}
-use Rattle.placing.proofs.Theorems.{frame_le}
-use Rattle.frame.specs.Listing.{cell_text, cell_texts}
+use Rattle.frame.specs.Listing.{cell_texts}
 use Rattle.frame.specs.method.SlotLines.{of_bridges}
-use Rattle.frame.proofs.listing.bytes.SlotLines.{cell_texts_step}
-use borrow.Author.Rules.{rules}
 use Rattle.frame.proofs.listing.bytes.slot_cells.Given as goal
 
 abbrev pub invariant-loop-b : goal.invariant-loop-b

@@ -5,7 +5,6 @@ use Rattle.station.proofs.Theorems.{left_then, wrote_none, wrote_then}
 use Rattle.frame.specs.Listing.{slot_line, cell_texts}
 use Rattle.frame.specs.method.SlotLines.{of_bridges}
 use Rattle.frame.proofs.listing.bytes.SlotLines.{line_of_slot_lem, no_slot, no_bridges}
-use borrow.Author.Rules.{rules}
 use Rattle.frame.proofs.listing.bytes.slot_line.Goals as goal
 
 pub returns-then-slot-ge-MOST_SLOTS : goal.returns-then-slot-ge-MOST_SLOTS

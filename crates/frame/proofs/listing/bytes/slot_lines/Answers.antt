@@ -1,7 +1,6 @@
 -- `listing::bytes::slot_lines` meets its contract. Assumes nothing.
 use Rattle.station.proofs.Theorems.{wrote_none}
 use Rattle.frame.proofs.listing.bytes.SlotLines.{lines_of_slots_lem, no_slots, lines_no_bridges}
-use borrow.Author.Rules.{rules}
 use Rattle.frame.proofs.listing.bytes.slot_lines.Goals as goal
 
 pub returns-then-slots-gt-MOST_SLOTS : goal.returns-then-slots-gt-MOST_SLOTS

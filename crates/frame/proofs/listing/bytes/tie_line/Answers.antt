@@ -1,7 +1,6 @@
 -- `listing::bytes::tie_line` meets its contract: a word for each order. Assumes nothing.
 use Rattle.station.specs.Form.{print}
 use Rattle.station.specs.Text.{bytes}
-use borrow.Author.Rules.{rules}
 use Rattle.frame.proofs.listing.bytes.tie_line.Goals as goal
 
 pub returns-then-hold : goal.returns-then-hold

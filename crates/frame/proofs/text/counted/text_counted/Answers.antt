@@ -1,5 +1,4 @@
 -- `counted::text_counted` meets its contract: a text that is too long and fewer than 32 records are refused, else the text is run. Assumes nothing.
-use borrow.Author.Rules.{rules}
 use Rattle.frame.proofs.text.ListOfRecords.{text_long, text_few, text_enough}
 use Rattle.frame.proofs.text.counted.text_counted.Goals as goal
 

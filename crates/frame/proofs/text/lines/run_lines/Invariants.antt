@@ -1,11 +1,9 @@
 -- `text::lines::run_lines` meets its contract. The invariant is `AtEvent`: the lines that are left, run from here on, come to what the whole run comes to, their
 -- answers are what is left to be written, and the counts are those of the table and the clock. The measure is what is left of the text. Assumes nothing.
 use Prim.Native.Nat.{◌-◌}
-use native.Mathlib.Omega.{arith}
 use lib.ListN.{length}
-use borrow.Author.Rules.{rules}
 use Rattle.placing.specs.State.{state_of}
-use Rattle.frame.proofs.text.lines.LineLoop.{AtEvent, at_first, line_inside, line_bytes, at_next, at_end}
+use Rattle.frame.proofs.text.lines.LineLoop.{AtEvent}
 use Rattle.frame.proofs.text.lines.run_lines.Given as goal
 
 abbrev pub invariant-loop-at : goal.invariant-loop-at
