@@ -2,7 +2,7 @@
 // output. What the listing is, is decided in the library.
 #![tactic(auto)]
 
-ghost use Rattle.std.specs.Prelude.{◌≤◌, ◌≡◌, length, take, IfOk, IfSome};
+ghost use Rattle.std.specs.Prelude.{◌≤◌, ◌≡◌, length, take, IfOk, IfSome, OnErr};
 ghost use Rattle.frame.specs.Text.{whole_of};
 ghost use Rattle.frame.specs.Listing.{listing_of};
 
@@ -43,6 +43,7 @@ fn read_text<R: Read>(reader: &mut R, buffer: &mut [u8]) -> io::Result<usize>
     ensures inside { IfOk result (λ n. n ≤ length buffer.new) }
     ensures bytes { IfOk result (λ n. IfSome (R.remaining reader.old)
         (λ left. take n buffer.new ≡ take (length buffer.new) left)) }
+    ensures err { OnErr result (length buffer.new ≡ length buffer.old) }
 {
     read_full(reader, buffer)
 }

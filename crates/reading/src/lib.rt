@@ -1,17 +1,18 @@
 // Reading into a buffer as far as it has room, for the programs: they take standard input whole, or its first bytes where there are more than they take.
 #![tactic(auto)]
 
-ghost use Rattle.std.specs.Prelude.{◌≡◌, ◌≤◌, length, take, IfOk, IfSome};
+ghost use Rattle.std.specs.Prelude.{◌≡◌, ◌≤◌, length, take, IfOk, IfSome, OnErr};
 
 use std::io;
 use std::io::Read;
 
 // Reads until the buffer is full or the input ends, and answers how many bytes it put at the start of the buffer: the first of what the reader had left, as many as the buffer has
-// room for.
+// room for. An error is the reader's own, and leaves the buffer as long as it was: what stands in it then is not said.
 pub fn read_full<R: Read>(reader: &mut R, buffer: &mut [u8]) -> io::Result<usize>
     ensures inside { IfOk result (λ n. n ≤ length buffer.new) }
     ensures bytes { IfOk result (λ n. IfSome (R.remaining reader.old)
         (λ left. take n buffer.new ≡ take (length buffer.new) left)) }
+    ensures err { OnErr result (length buffer.new ≡ length buffer.old) }
 {
     let mut done = 0;
     while done < buffer.len() {

@@ -3,7 +3,7 @@
 // empty line it writes the head's rows. How texts are read and written is decided in the library.
 #![tactic(auto)]
 
-ghost use Rattle.std.specs.Prelude.{◌≤◌, ◌≡◌, true, length, take, IfOk, IfSome};
+ghost use Rattle.std.specs.Prelude.{◌≤◌, ◌≡◌, true, length, take, IfOk, IfSome, OnErr};
 ghost use Rattle.station.specs.Text.{lines};
 ghost use Rattle.station.specs.Writing.{text_of};
 ghost use Rattle.station.specs.Row.{rows_text};
@@ -126,6 +126,7 @@ fn read_input<R: Read>(reader: &mut R, buffer: &mut [u8]) -> io::Result<usize>
     ensures inside { IfOk result (λ n. n ≤ length buffer.new) }
     ensures bytes { IfOk result (λ n. IfSome (R.remaining reader.old)
         (λ left. take n buffer.new ≡ take (length buffer.new) left)) }
+    ensures err { OnErr result (length buffer.new ≡ length buffer.old) }
 {
     read_full(reader, buffer)
 }

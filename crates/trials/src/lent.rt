@@ -1,5 +1,5 @@
 // The entries of the three layers over a lent list of preset records: each function is handed 32 records, lends them for one call of an entry and answers what that does.
-// (A function that lends records is proved by a walk by hand, so that each of these is one call.)
+// Each of these is one call, so that a table or an output that it hands back is the entry's own.
 use frame::event::{event, set_clock};
 use frame::events::{EventsAnswer, run_events};
 use frame::listing::write_slot;
