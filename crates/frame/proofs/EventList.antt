@@ -1,18 +1,18 @@
 -- A list of events, taken apart: what each event gets and answers, in terms of `event_of` alone.
 --
 -- In order: one answer for each event (`answered`); what event j comes to (`outcome_at`, `answer_at_lem`, `state_next`), and the whole list
--- (`state_end`), and its first events (`answers_take`); what each event keeps, of each state (`kept_at`) and of the whole list (`kept_over`); the list from event j on (`run_rest`); what every
--- list does, between any two moments of one (`run_between`, `between`).
+-- (`state_end`), and its first events (`answers_take`); what each event keeps, of each state (`kept_at`) and of the whole list (`kept_over`); two lists one after the other (`run_append`), the list
+-- from event j on (`run_rest`); what every list does, between any two moments of one (`run_between`, `between`).
 -- Assumes nothing.
 use Prim.Native.Nat.{ℕ, zero, suc, ◌≤◌, ◌<◌}
 use native.Mathlib.Nat.{le_of_suc-le-suc, not-suc-le-zero}
 use mathlib.Core.Path.{◌≡◌, refl, sym, ◌∙◌, ap, subst}
-use mathlib.Core.List.{List, [], ◌∷◌}
+use mathlib.Core.List.{List, [], ◌∷◌, ◌++◌}
 use lib.ListN.{length, take, drop}
 use lib.Seq.{take-take}
 use Rattle.station.specs.Head.{Head}
 use Rattle.placing.specs.State.{State}
-use Rattle.frame.specs.Event.{Event, Answer, Outcome, event_of, run_of}
+use Rattle.frame.specs.Event.{Event, Answer, Outcome, event_of, Run, more, run_of}
 use Rattle.frame.specs.Demands.{state_at, event_at, answer_at, Between}
 
 -- every event has one answer
@@ -70,6 +70,15 @@ kept_over h P R none two keep one st [] p = none st p
 kept_over h P R none two keep one st (e ∷ es) p =
     two st (event_of h st e).after (run_of h (event_of h st e).after es).after p (keep st e p) (one st e p)
     (kept_over h P R none two keep one (event_of h st e).after es (keep st e p))
+
+-- Two lists one after the other are one list: the answers of the one and then those of the other, which meets what the first left.
+abbrev pub followed_by : Run → Run → Run
+followed_by r s = record { answers = r.answers ++ s.answers; after = s.after }
+
+pub run_append : (h : Head) (st : State) (es fs : List Event) → run_of h st (es ++ fs) ≡ followed_by (run_of h st es) (run_of h (run_of h st es).after fs)
+unfolding run_of
+run_append h st [] fs = refl
+run_append h st (e ∷ es) fs = ap (more (event_of h st e).answer) (run_append h (event_of h st e).after es fs)
 
 -- the list from event j on leaves what the whole list leaves
 pub run_rest : (h : Head) (st : State) (es : List Event) (j : ℕ) → (run_of h (state_at h st es j) (drop j es)).after ≡ (run_of h st es).after

@@ -2,9 +2,11 @@
 -- and head records are in the station crate's proofs/Examples.antt, sound tables, plans and calls in the placing crate's.)
 --
 -- In order: texts: lines after an event, the limits of a clock and of a call at both edges, the causes of a head and of an event two at a time, the order of
--- loss (`texts_list`); events on a lent table, by the listed order 8, 2, 11, 1, 3, 2, 4, 9, 6, 7 (`events_answered`), and with preset records
+-- loss (`texts_list`), the grants (`granted_by_line`); events on a lent table, by the listed order 8, 2, 11, 1, 3, 2, 4, 9, 6, 7 (`events_answered`), and with preset records
 -- (`records_answered`); the order of ties that is lent, met and left (`orders_met`, `orders_left`); what a list handed over may start from (`starts_pass`); the moments of a list
--- (`between_ends`); the planner before there were ties and a supply (`before_listed`, `five_met`, `asked_met`), and when a call could use the clock's own slot (`own_slot_listed`, `no_clock_met`, `higher_met`), and document 01's own (`document_listed`); a text beside short lent things (`texts_end`), and a text of events (`events_end`); the entries that write lines (`lines_answered`).
+-- (`between_ends`); the planner before there were ties and a supply (`before_listed`, `five_met`, `asked_met`), and when a call could use the clock's own slot (`own_slot_listed`, `no_clock_met`, `higher_met`), and document 01's own (`document_listed`); a text beside short lent things (`texts_end`),
+-- what it leaves of the head, its records and the output (`records_left`, `outputs_left`), and a text of events (`events_end`, `events_left`); the entries that write lines
+-- (`slots_written`, `lines_answered`).
 -- Assumes nothing.
 use Prim.Native.Nat.{ℕ, zero, suc, ◌≤◌}
 use mathlib.Core.Path.{◌≡◌, refl, sym, ap}
@@ -21,6 +23,7 @@ use Rattle.station.specs.Text.{bytes, lines}
 use Rattle.station.specs.Wrote.{moved}
 use Rattle.station.specs.WriteHead as write
 use Rattle.station.specs.declared.types.Head as record-of-head
+use Rattle.station.specs.declared.types.Preset as record-of-preset
 use Rattle.placing.specs.Table.{call_cell}
 use Rattle.placing.proofs.Examples.{job_cells, records_to}
 use Rattle.frame.specs.Event.{Event, line, clock, call, Asked, set_clock, set_tie, place_jobs, fault, asked_by_form, asked, Answer, clock_now, tie_now, taken, refused, event_of}
@@ -29,8 +32,8 @@ use Rattle.frame.specs.EventDone.{event_meant}
 use Rattle.frame.specs.EventEntry.{event_on_slice}
 use Rattle.frame.specs.HandedOver.{LetPass}
 use Rattle.frame.specs.Demands.{event_at, Between}
-use Rattle.frame.specs.Text.{not_read, whole_of}
-use Rattle.frame.specs.TextDone.{whole_with_output, listed, refused_at, hold_after}
+use Rattle.frame.specs.Text.{Whole, not_read, whole_of}
+use Rattle.frame.specs.TextDone.{whole_with_output, listed, refused_at, end_of, head_after, presets_after, hold_after, output_after}
 use Rattle.frame.specs.TextEntry.{whole_on_slice}
 use Rattle.frame.specs.EventsDone.{EventsOutcome, events_meant}
 use Rattle.frame.specs.Listing.{listing_of}
@@ -39,7 +42,7 @@ use Rattle.frame.specs.Before.{read_before, head_before, served_before, left_bef
 use Rattle.frame.specs.OwnSlot.{last_gone, today, document_one, whole_document_one, own_slot_causes, carried_own_slot, event_own_slot, whole_own_slot, higher_asked, OneHigher, NoClockLine}
 use Rattle.frame.specs.Uncapped.{run_by, with_plan_by, with_head_by, whole_by, own_uncapped}
 use Rattle.frame.specs.declared.types.Answer.TheVariants as reply
-use Rattle.frame.specs.WriteListing.{listing_cause, listing_meant}
+use Rattle.frame.specs.WriteListing.{listing_cause, listing_written, listing_meant}
 use Rattle.frame.specs.WroteLine.{line_written, answer_written, grant_written, slot_written}
 use Rattle.frame.proofs.Starred.{Case, shows, blank, lists}
 use Rattle.placing.specs.Outcomes.{cost}
@@ -78,6 +81,14 @@ texts =
 pub texts_list : map (λ c. listing_of (whole_of (bytes c.text) blank)) texts ≡ map (λ c. c.listing) texts
 unfolding lists
 texts_list = refl
+
+-- "Granted: preset number and slots, in file order", and neither by rank nor by number
+abbrev by_line : Case
+by_line = shows "(frame 1 1)\n(preset 2 9 0 1)\n(preset 1 0 0 1)\n" "(granted 2 0)\n(granted 1 1)\n(slot 1 o1)\n"
+
+pub granted_by_line : listing_of (whole_of (bytes by_line.text) blank) ≡ by_line.listing
+unfolding lists
+granted_by_line = refl
 
 -- ---- events on a lent table
 
@@ -348,6 +359,38 @@ pub texts_end : (whole_of (replicate 32769 10) (replicate 511 0) ≡ not_read 0 
 unfolding lists whole_with_output whole_on_slice
 texts_end = (refl, refl, refl, refl, refl, refl, refl, refl, refl, refl, refl)
 
+-- ---- what a text leaves of the head and its records, and of an output that is shorter than its listing
+
+abbrev preset_record : ℕ → ℕ → ℕ → ℕ → record-of-preset.Preset
+preset_record n p m o = record { number = n; priority = p; mandatory = m; optional = o }
+
+abbrev sevens : ℕ → List record-of-preset.Preset
+sevens k = replicate k (preset_record 7 7 7 7)
+
+-- With 5 "the head is the one read": its records in file order, each value in its place, and past the last one what stood there; so it is where the text ran, and any other refusal
+-- leaves all.
+pub records_left : (presets_after (whole_of (bytes "(frame 1 1)\n(preset 20 3 2 9)\n(preset 10 8 0 1)\n") blank) (sevens 4)
+    ≡ preset_record 20 3 2 9 ∷ preset_record 10 8 0 1 ∷ sevens 2)
+    × (head_after (whole_of (bytes "(frame 1 1)\n(preset 20 3 2 9)\n(preset 10 8 0 1)\n") blank) (counting 7) ≡ counting 2)
+    × (presets_after (whole_of (bytes "(frame 1 1)\n(preset 20 3 0 9)\n") blank) (sevens 2) ≡ preset_record 20 3 0 9 ∷ sevens 1)
+    × (presets_after (whole_of (bytes "(frame 1 1)\n(preset 20 10 0 9)\n") blank) (sevens 2) ≡ sevens 2)
+    × (head_after (whole_of (bytes "(frame 1 1)\n(preset 20 10 0 9)\n") blank) (counting 7) ≡ counting 7)
+unfolding lists presets_after head_after
+records_left = (refl, refl, refl, refl, refl)
+
+-- The listing of a frame alone has 11 bytes: an output of 13 has it whole and 2 bytes as they were, one of 4 has its first 4, and that is what is answered.
+abbrev one_slot : Whole
+one_slot = whole_of (bytes "(frame 1 1)\n") blank
+
+pub outputs_left : (output_after one_slot (replicate 13 7) ≡ bytes "(slot 1 0)\n" ++ (7 ∷ 7 ∷ []))
+    × (end_of one_slot (replicate 13 7) ≡ listed 11)
+    × (output_after one_slot (replicate 4 7) ≡ bytes "(slo")
+    × (end_of one_slot (replicate 4 7) ≡ listed 4)
+    × ((listing_written one_slot blank (replicate 4 7)).output ≡ bytes "(slo")
+    × ((listing_written one_slot blank (replicate 4 7)).answer ≡ write.written 4)
+unfolding lists output_after end_of moved
+outputs_left = (refl, refl, refl, refl, refl, refl)
+
 -- ---- a text of events on a lent frame: 10, 8, the head record's 2, 11, then its lines, numbered from 1
 
 pub events_end : ((events_meant 31 (counting 33) [] (state_of [] 3 false) (replicate 32769 10) []).ended ≡ refused_at 0 text_too_long)
@@ -363,7 +406,25 @@ pub events_end : ((events_meant 31 (counting 33) [] (state_of [] 3 false) (repli
 unfolding lists events_meant moved
 events_end = (refl, refl, refl, refl, refl, refl, refl, refl, refl)
 
+-- the answers at the start of the output, every byte past them as it was, and how many bytes they are
+abbrev four_lines : EventsOutcome
+four_lines = events_meant 32 (counting 0) [] (state_of (lent []) 0 false) (bytes "(frame 1 1)\n(call (5 1))\n(clock 2)\n(clock 1)") (replicate 8192 7)
+
+pub events_left : (four_lines.output ≡ bytes "(refused 1 3)\n(taken 0)\n(now 2)\n(refused 4 1)\n" ++ replicate 8146 7) × (four_lines.ended ≡ listed 46)
+unfolding lists events_meant moved
+events_left = (refl, refl)
+
 -- ---- the entries that write lines
+
+-- two slots of two bridges, `c5 0 | 0 c6`
+abbrev two_by_two : record-of-head.Head
+two_by_two = record { slots = 2; bridges = 2; supply = 0; hold = false; busy = replicate 8 0; count = 0 }
+
+-- `write_slot` writes the line of the slot that is asked for, counted from 1.
+pub slots_written : map (λ s. take 15 (slot_written 32 two_by_two [] (lent (call_cell 5 ∷ 0 ∷ 0 ∷ call_cell 6 ∷ [])) s (replicate 8192 7)).output) (1 ∷ 2 ∷ [])
+    ≡ (bytes "(slot 1 c5 0)\n" ++ (7 ∷ [])) ∷ (bytes "(slot 2 0 c6)\n" ++ (7 ∷ [])) ∷ []
+unfolding lists moved line_written
+slots_written = refl
 
 -- `write_listing`: 10, then 8 for the output and for the table; the refused line of an empty text has 14 bytes
 pub lines_answered : ((listing_meant (replicate 32769 10) [] []).answer ≡ write.refused 0 text_too_long)

@@ -1,12 +1,13 @@
 -- Small frames computed and proved: what the definitions of this layer say of them, and of the frame with free 3, 1, 1, 1 what holds of every
 -- placement.
 --
--- In order: what computes; a plan's ties and bridges (`three_planned`); the two orders of ties (`held-..`, `calls_by_order`); the clock: the slots above it, its range, its own slot (`clock-..`); the worst priority is evicted
+-- In order: what computes; a plan's ties and bridges (`three_planned`); rank, line, call and bridge where the numbers do not ascend (`granted_by_rank`, `planned_by_line`,
+-- `called_by_place`); the two orders of ties (`held-..`, `calls_by_order`); the clock: the slots above it, its range, its own slot (`clock-..`); the worst priority is evicted
 -- (`worst_evicted`); what every valid placement of a call that is taken loses (`must_go`, `goes`); free 3, 1, 1, 1: no placement in the empty cells
 -- (`no_empty_placement`), one cell must go and one goes (`one_must_go`, `one_goes`); the room for r at both edges (`capacity_3111`, `capacity_clock`, `longest_first`,
 -- `plan_capacity_lem`, `no_plan_3111`, `plan_3121`). Then what holds the definitions to document 01 from two sides, each a list of cases and one fact: each clause of a sound table broken
--- alone (`sound_broken`); the limits of a call and of the lent table and clock at both edges, and the causes of plan and call two at a time in the listed order (`plans_answered`,
--- `calls_answered`); the records of a head and of a list at their edges (`records_answered`, `plan_list`, `call_list`); the order of loss (`losses`). (The starred frames of document
+-- alone (`sound_broken`, `sound_broken_edges`); the limits of a call and of the lent table and clock at both edges, and the causes of plan and call two at a time in the listed order (`plans_answered`,
+-- `calls_answered`, `calls_answered_edges`); the records of a head and of a list at their edges (`records_answered`, `plan_list`, `call_list`); the order of loss (`losses`). (The starred frames of document
 -- 01, as texts, are in the frame crate's proofs/Starred.antt.)
 -- Assumes nothing.
 use Prim.Native.Nat.{ℕ, zero, suc, ◌+◌, ◌≤◌}
@@ -91,6 +92,40 @@ three_planned = refl
 abbrev planned_by : Ties → Head → List ℕ
 planned_by ties h = written h (planned ties h) []
 
+-- ---- rank, line, call and bridge, of numbers that do not ascend: 20, 10, 255
+
+-- "Rank: better priority first, then the earlier line": one cell, for which three presets compete. The best priority has it in the last line; of one priority the first line has it, and
+-- neither the smallest number nor the greatest.
+abbrev competing : ℕ → ℕ → ℕ → Head
+competing p q r = head_of 1 1 no_busy (preset 20 p 0 1 ∷ preset 10 q 0 1 ∷ preset 255 r 0 1 ∷ [])
+
+pub granted_by_rank : map (λ h. (plan_of h (replicate 512 0)).answer) (competing 9 5 0 ∷ competing 5 5 5 ∷ [])
+    ≡ PlanAnswer.granted (0 ∷ 0 ∷ 1 ∷ []) ∷ PlanAnswer.granted (1 ∷ 0 ∷ 0 ∷ []) ∷ []
+unfolding plans
+granted_by_rank = refl
+
+-- "Equal ones: the earlier line first", by either order of ties where nobody has a cell just before; and "The chosen, in file order, take the free bridges in ascending order", whoever has
+-- the most to get.
+abbrev in_lines : ℕ → ℕ → ℕ → ℕ → Head
+in_lines bridges a b c = head_of 3 bridges no_busy (preset 20 0 a 0 ∷ preset 10 0 b 0 ∷ preset 255 0 c 0 ∷ [])
+
+pub planned_by_line : (map (λ ties. planned_by ties (in_lines 1 1 1 1)) (tie_place ∷ tie_hold ∷ []) ≡ replicate 2 (532 ∷ 522 ∷ 767 ∷ []))
+    × (planned_by tie_place (in_lines 3 1 2 3) ≡ 532 ∷ 522 ∷ 767 ∷ 522 ∷ 767 ∷ 0 ∷ 767 ∷ 0 ∷ 0 ∷ [])
+unfolding plans
+planned_by_line = (refl, refl)
+
+-- The same of a call's jobs, "in the call's order".
+abbrev in_call : ℕ → ℕ → ℕ → ℕ → Bool → List ℕ
+in_call bridges a b c hold =
+    (call_of (head_of 3 bridges no_busy []) (job 20 a ∷ job 10 b ∷ job 255 c ∷ []) (state_of (replicate 512 0) first_clock hold)).after.table
+
+pub called_by_place : (map (λ hold. take 3 (in_call 1 1 1 1 hold)) (false ∷ true ∷ []) ≡ replicate 2 (1044 ∷ 1034 ∷ 1279 ∷ []))
+    × (take 9 (in_call 3 1 2 3 false) ≡ 1044 ∷ 1034 ∷ 1279 ∷ 1034 ∷ 1279 ∷ 0 ∷ 1279 ∷ 0 ∷ 0 ∷ [])
+unfolding calls
+called_by_place = (refl, refl)
+
+-- ---- who holds
+
 -- m 1 in the first line and m 2 in the second
 abbrev one_and_two : List Preset
 one_and_two = preset 1 0 1 0 ∷ preset 2 0 2 0 ∷ []
@@ -121,6 +156,11 @@ held_in_pairs = refl
 pub held_bridges : planned_by tie_hold (head_of 2 2 (0 ∷ 1 ∷ replicate 6 0) one_and_two) ≡ 514 ∷ 256 ∷ 513 ∷ 514 ∷ []
 unfolding plans
 held_bridges = refl
+
+-- a refinement cell holds as a required one does: 10, which has no other cells, stays in slot 2
+pub held_by_refinement : planned_by tie_hold (head_of 3 1 no_busy (preset 20 0 1 0 ∷ preset 10 0 0 2 ∷ [])) ≡ 778 ∷ 778 ∷ 532 ∷ []
+unfolding plans
+held_by_refinement = refl
 
 -- The order that is in force where a call comes: by hold c2 c2 c1, and a later call by place leaves those and places c4 c3 c4.
 abbrev called_by_hold : List ℕ
@@ -363,6 +403,14 @@ pub sound_broken : map (λ t. (call_of four_slots (job 20 1 ∷ []) (state_of (l
 unfolding calls
 sound_broken = refl
 
+-- the kinds past the five at their edges: kind 6 and the last one
+abbrev broken_edges : List (List ℕ)
+broken_edges = ends_in 1536 ∷ ends_in 65535 ∷ []
+
+pub sound_broken_edges : map (λ t. (call_of four_slots (job 20 1 ∷ []) (state_of (lent t) 1 false)).answer) broken_edges ≡ replicate 2 (CallAnswer.refused 0 not_well_formed)
+unfolding calls
+sound_broken_edges = refl
+
 -- ---- a plan: the limits of a head record and of the lent table, and the causes two at a time, in the order 8, 2, 5
 
 record PlanCase : Type 0 where
@@ -482,6 +530,32 @@ call_cases =
 pub calls_answered : map (λ c. (call_of c.head c.jobs (state_of c.table c.clock false)).answer) call_cases ≡ map (λ c. c.said) call_cases
 unfolding calls job_cells jobs_from
 calls_answered = refl
+
+-- a preset with m 2 and o 1, and a slot to spare
+abbrev two_required : Head
+two_required = head_of 4 1 no_busy (preset 20 0 2 1 ∷ [])
+
+abbrev call_edges : List CallCase
+call_edges =
+    -- 255 is one of the job numbers that are counted: 65 of them are not sound, and beside 64 of them a 65th job is 9
+    stops not_well_formed (bare 13 5) first_clock (job 200 1 ∷ []) (lent (1279 ∷ job_cells 64 0))
+    ∷ stops too_many (bare 8 8) first_clock (job 65 1 ∷ []) (lent (1279 ∷ job_cells 63 0))
+    -- 255 is used, and kept apart from presets, as every number is
+    ∷ stops number_used (holds (preset 255 0 0 0 ∷ [])) first_clock (job 255 1 ∷ []) (lent [])
+    ∷ stops number_used (bare 2 1) first_clock (job 255 1 ∷ []) (lent (1279 ∷ []))
+    ∷ stops not_well_formed (holds (preset 255 0 0 0 ∷ [])) first_clock (job 10 1 ∷ []) (lent (1279 ∷ []))
+    -- "exactly m" where m is 0, "at most o" where o is 0: none
+    ∷ takes (holds (preset 20 0 0 0 ∷ [])) first_clock (job 10 1 ∷ []) (lent [])
+    ∷ stops not_well_formed (holds (preset 20 0 0 0 ∷ [])) first_clock (job 10 1 ∷ []) (lent (532 ∷ []))
+    ∷ stops not_well_formed (holds (preset 20 0 0 0 ∷ [])) first_clock (job 10 1 ∷ []) (lent (788 ∷ []))
+    -- "all in slots before its refinement cells": none between two required ones
+    ∷ takes two_required first_clock (job 10 1 ∷ []) (lent (532 ∷ 532 ∷ 788 ∷ []))
+    ∷ stops not_well_formed two_required first_clock (job 10 1 ∷ []) (lent (532 ∷ 788 ∷ 532 ∷ []))
+    ∷ []
+
+pub calls_answered_edges : map (λ c. (call_of c.head c.jobs (state_of c.table c.clock false)).answer) call_edges ≡ map (λ c. c.said) call_edges
+unfolding calls job_cells
+calls_answered_edges = refl
 
 -- ---- the head record and the list: "presets" from 0 to 32, and "preset list below 32 records"
 

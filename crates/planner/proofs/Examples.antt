@@ -1,7 +1,8 @@
 -- The layout of what is lent by worked examples, read and written, and the lengths at both edges. Each is by computing.
 --
--- In order: the bytes of two preset records (`records_laid_out`); the sixteen numbers of a frame (`frame_laid_out`, `ties_laid_out`); 8 for what is too short, and 10 before it
--- (`lengths_tried`); what is returned of a refusal and of what is accepted (`numbers_returned`); the orders of ties after a text and after an event (`texts_tied`, `events_tied`); the supply (`texts_supplied`, `frames_supplied`), the clock (`frames_clocked`);
+-- In order: the bytes of two preset records (`records_laid_out`), the grants (`grants_laid_out`); the sixteen numbers of a frame (`frame_laid_out`, `ties_laid_out`); 8 for what is too short, and 10 before it
+-- (`lengths_tried`); what is returned of a refusal and of what is accepted (`numbers_returned`); the orders of ties after a text and after an event (`texts_tied`, `events_tied`), the records after a text (`texts_recorded`);
+-- the supply (`texts_supplied`, `frames_supplied`), the clock (`frames_clocked`);
 -- rows read into a frame (`rows_tried`), and the causes of writing them (`write_tried`).
 -- Assumes nothing.
 use Prim.Native.Nat.{ℕ}
@@ -26,6 +27,7 @@ use Rattle.station.specs.declared.types.Head.{Head}
 use Rattle.station.specs.declared.types.Preset.{Preset}
 use Rattle.station.proofs.Examples.{reads}
 use Rattle.placing.specs.Outcomes.{cost, PlanAnswer}
+use Rattle.placing.specs.Types.{filled}
 use Rattle.placing.specs.PlanDone.{plan_meant}
 use Rattle.placing.proofs.Examples.{plans, calls}
 use Rattle.frame.specs.Event as event
@@ -34,7 +36,7 @@ use Rattle.frame.specs.EventDone.{event_meant}
 use Rattle.frame.specs.Text.{not_read, whole_with_plan, whole_with_head, whole_of}
 use Rattle.frame.specs.TextDone.{whole_with_output, listed, refused_at}
 use Rattle.planner.specs.Layout.{first_records, records_in, bytes_of, bytes_over, head_tie, tie_in_force, head_of_numbers, clock_of_numbers, hold_of_numbers, head_over, tie_over, numbers_over, clock_over, started, masks_over}
-use Rattle.planner.specs.Exports.{frame_after, end_returned, answer_returned, plan_returned, written_returned, rows_returned, text_on, event_on, plan_on, rows_on, rows_frame, rows_write_causes}
+use Rattle.planner.specs.Exports.{frame_after, records_after, grants_after, end_returned, answer_returned, plan_returned, written_returned, rows_returned, text_on, event_on, plan_on, rows_on, rows_frame, rows_write_causes}
 
 -- preset 7 of priority 3 with 5 mandatory and 9 optional slots, and preset 255 of priority 9 with 64 and 0
 abbrev two : List Preset
@@ -46,6 +48,12 @@ eight = 7 ∷ 3 ∷ 5 ∷ 9 ∷ 255 ∷ 9 ∷ 64 ∷ 0 ∷ []
 pub records_laid_out : (bytes_of two ≡ eight) × (take 2 (records_in eight) ≡ two) × (bytes_over two (replicate 10 1) ≡ eight ++ (1 ∷ 1 ∷ []))
 unfolding bytes_of first_records
 records_laid_out = (refl, refl, refl)
+
+-- the grants, and 0 past the last preset up to 32; a refusal leaves what stood there
+pub grants_laid_out : (grants_after (PlanAnswer.granted (1 ∷ 2 ∷ [])) (replicate 33 7) ≡ 1 ∷ 2 ∷ replicate 30 0 ++ (7 ∷ []))
+    × (grants_after (PlanAnswer.refused 0 too_short) (replicate 33 7) ≡ replicate 33 7)
+unfolding grants_after filled
+grants_laid_out = (refl, refl)
 
 -- 4 slots, 2 bridges, a supply of 3, the second bridge busy in slots 2 and 3, and 2 presets
 abbrev head : Head
@@ -137,6 +145,15 @@ pub texts_tied : (runs "(frame 1 1)\n" ≡ tied 0 0)
     × (runs "(frame 1 1)\n(tie place)\n" ≡ sevens)
 unfolding reads plans calls jobs_of own_causes carried_out comes_to run_of whole_with_plan whole_with_head whole_of whole_with_output text_on frame_after
 texts_tied = (refl, refl, refl, refl, refl, refl)
+
+-- The records of a text that 5 refuses are those read, the others those handed in; any other refusal leaves all.
+abbrev keeps : String → List ℕ
+keeps text = take 9 (records_after (text_on (bytes text) sevens (replicate 128 7) (replicate 512 0) (replicate 8192 0)) (replicate 128 7))
+
+pub texts_recorded : (keeps "(frame 1 1)\n(preset 20 3 2 9)\n(preset 10 8 0 1)\n" ≡ 20 ∷ 3 ∷ 2 ∷ 9 ∷ 10 ∷ 8 ∷ 0 ∷ 1 ∷ 7 ∷ [])
+    × (keeps "(frame 1 1)\n(preset 20 3 2 65)\n" ≡ replicate 9 7)
+unfolding reads plans calls jobs_of own_causes carried_out comes_to run_of whole_with_plan whole_with_head whole_of whole_with_output text_on records_after bytes_of
+texts_recorded = (refl, refl)
 
 -- The supply at 12: that of a text that ran, above B too, and of one refused by 5; 0 where it has none, whatever stood there.
 pub texts_supplied : (runs "(frame 1 1)\n(supply 3)\n" ≡ fed 3 0 0)

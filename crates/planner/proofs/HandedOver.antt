@@ -1,37 +1,42 @@
 -- Lines handed over one by one to `planner_event` come to what the list comes to, so that demand 3 holds of the whole list.
 --
--- In order: one line (`line_meant_lem`, `line_answer`, `line_frame`, `line_state`); the list (`lines_run_lem`), and the claim (`handed_on`); a text that ran leaves such a start (`ran_lets_pass`).
+-- In order: one line (`line_meant_lem`, `line_answer`, `line_frame`, `line_state`); the list (`lines_run_lem`), and the claim (`handed_on`); a text that ran leaves such a start (`ran_lets_pass`),
+-- and so does a plan that was made (`plan_lets_pass_on`); a text and the lines handed over after it are one list (`text_then_lines`).
 -- Assumes nothing.
 use Prim.Native.Nat.{ℕ, zero, suc, ◌≤◌}
 use native.Mathlib.Omega.{arith}
 use mathlib.Core.Path.{◌≡◌, refl, sym, ◌∙◌, ap}
 use mathlib.Core.Bool.{Bool, true}
-use mathlib.Core.List.{List, [], ◌∷◌, map}
+use mathlib.Core.List.{List, [], ◌∷◌, ◌++◌, map}
 use lib.ListN.{length-set, length, get_or}
 use lib.Seq.{sets, length-sets}
 use lib.Dec.{ltb, leb}
 use Rattle.laws.specs.Sums.{bit}
 use Rattle.laws.proofs.Tests.{both}
 use Rattle.laws.proofs.Comparisons.{ge_of, ltb_no, leb_yes}
-use Rattle.station.specs.Head.{valid}
+use Rattle.station.specs.Head.{Head, valid}
 use Rattle.station.specs.Refusal.{too_short}
 use Rattle.station.specs.Types.{head_in, valid_record}
 use Rattle.station.specs.declared.types.Head as record-of-head
 use Rattle.station.specs.ReadHead.{head_record, record_of}
 use Rattle.station.proofs.Theorems.{passed, first_none, of_valid, number_some}
 use Rattle.placing.specs.State.{State, state_of}
+use Rattle.placing.specs.Valid.{first_clock}
+use Rattle.placing.specs.Outcomes.{plan_of}
 use Rattle.placing.specs.Causes.{frame_causes_of}
 use Rattle.placing.proofs.Theorems.{causes_none, frame_running, running_frame}
 use Rattle.frame.specs.Event.{line, Outcome, event_of, Run, run_of}
-use Rattle.frame.specs.Text.{Whole, not_read, not_planned, ran}
+use Rattle.frame.specs.Text.{Whole, not_read, not_planned, ran, start_of, events_of}
 use Rattle.frame.specs.TextDone.{end_of}
-use Rattle.frame.proofs.Theorems.{demand_3, meant_event}
-use Rattle.planner.specs.Layout.{records_in, bytes_of, frame_numbers, clock_place, tie_in_force, says_hold, head_of_numbers, clock_of_numbers, hold_of_numbers, head_over, tie_over, numbers_over, clock_over}
-use Rattle.planner.proofs.RoundTrip.{head_back, run_others, run_length, run_head, run_clock, run_small, run_hold}
+use Rattle.frame.proofs.Demands.{ran_granted}
+use Rattle.frame.proofs.Theorems.{demand_3, planned_running, meant_event, followed_by, run_append, beside_ran}
+use Rattle.planner.specs.Layout.{records_in, bytes_of, frame_numbers, clock_place, head_tie, tie_in_force, says_hold, head_of_numbers, clock_of_numbers, hold_of_numbers, head_over, tie_over, numbers_over, clock_over, started}
+use Rattle.planner.proofs.RoundTrip.{head_back, run_others, run_length, run_head, run_clock, run_small, run_hold, started_head}
+use Rattle.planner.proofs.PlanFrame.{plan_passes}
 use Rattle.planner.proofs.RunText.{on_ran}
 use Rattle.planner.proofs.EventLine.{on_enough}
-use Rattle.planner.specs.Exports.{head_on, state_on, RunningOn, text_on, end_returned, frame_after, records_after, TextLeaves, TextPromise, event_on, EventLeaves}
-use Rattle.planner.specs.HandedOver.{LetPassOn, Answered, answered_by, HandedOn, no_more, by_event, run_on, HandedOnClaim}
+use Rattle.planner.specs.Exports.{head_on, state_on, RunningOn, text_on, end_returned, frame_after, records_after, TextLeaves, TextPromise, event_on, EventLeaves, plan_on, PlanLeaves, PlanPromise}
+use Rattle.planner.specs.HandedOver.{LetPassOn, Answered, answered_by, HandedOn, no_more, by_event, run_on, HandedOnClaim, AfterTextClaim}
 
 module _ (p : List ℕ) (s : 128 ≤ length p) where
   -- what a frame must be for the next line
@@ -171,3 +176,44 @@ ran_lets_pass text f p t out {f₁} {p₁} {t₁} d promise z = go (text_on text
         passed too_short (ltb (length f₁) frame_numbers) _ (ltb_no (length f₁) frame_numbers (omega (arith, size, long.0)))
         ∙ passed too_short (ltb (length p₁) 128) _ (ltb_no (length p₁) 128 (omega (arith, bytes, long.1)))
         ∙ running_frame (head_of_numbers f₁) (records_in p₁) (state_on f₁ t₁) (both (leb (head_of_numbers f₁).count 32) (valid (head_on f₁ p₁)) few (of_valid (head_on f₁ p₁) run.valid)) run
+
+-- and so does a plan that `planner_plan` made, with the first clock and the head's order of ties put in force
+pub plan_lets_pass_on : (f p t g : List ℕ) {t₁ g₁ : List ℕ} {r : ℕ} → PlanLeaves (plan_on f p t g) g t₁ g₁ r → PlanPromise f p t t₁ r → r ≡ 0 → LetPassOn (started f) p t₁
+plan_lets_pass_on f p t g {t₁} d promise z =
+    let passes = plan_passes f p t g (sym d.answer ∙ z) in
+    let size : length (started f) ≡ length f = length-set (clock_over first_clock f) tie_in_force (get_or f head_tie 0) ∙ length-set f clock_place first_clock in
+    passed too_short (ltb (length (started f)) frame_numbers) _ (ltb_no (length (started f)) frame_numbers (omega (arith, size, passes.0)))
+    ∙ passed too_short (ltb (length p) 128) _ (ltb_no (length p) 128 passes.1)
+    ∙ running_frame (head_of_numbers (started f)) (records_in p) (state_on (started f) t₁)
+    (ap (λ (h : record-of-head.Head). valid_record h (records_in p)) (started_head f) ∙ passes.2) (promise.running z)
+
+map_both : {A B : Type 0} (f : A → B) (a b : List A) → map f (a ++ b) ≡ map f a ++ map f b
+map_both f [] b = refl
+map_both f (x ∷ a) b = ap (λ k. f x ∷ k) (map_both f a b)
+
+-- A text that `planner_run_text` ran, and the lines handed over after it, are one list.
+pub text_then_lines : (text f p t out : List ℕ) {f₁ p₁ t₁ out₁ last end : List ℕ} {n r : ℕ} {ls : List (List ℕ)} {answers : List Answered}
+    → TextLeaves (text_on text f p t out) f p t out f₁ p₁ t₁ out₁ n r → TextPromise text f p t out f₁ p₁ t₁ r
+    → (h : Head) (m : ℕ) (g : List ℕ) (x : Run) → text_on text f p t out ≡ ran h m g x → HandedOn p₁ f₁ t₁ ls answers last end
+    → AfterTextClaim text t h m x ls answers last end
+unfolding end_of
+text_then_lines text f p t out {f₁} {p₁} {t₁} {ls = ls} {answers} d promise h m g x e handed =
+    let long = on_ran text f p t out h m g x e in
+    let whole = sym (promise.long long.0 long.1) ∙ e in
+    let zero-returned = d.answer ∙ ap (λ (w : Whole). (end_returned (end_of w out)).number) e in
+    let left = promise.left h m g x e in
+    let after = handed_on f₁ p₁ t₁ (ran_lets_pass text f p t out d promise zero-returned) handed in
+    let start = start_of h (plan_of h t).table in
+    let its-run = promise.claim.events h m g x whole in
+    let same : run_on f₁ p₁ t₁ ls ≡ run_of h x.after (map line ls) =
+    ap (λ (k : Head). run_of k (state_on f₁ t₁) (map line ls)) left.0 ∙ ap (λ (st : State). run_of h st (map line ls)) left.1 in
+    let all : run_of h start (events_of text m ++ map line ls) ≡ followed_by x (run_of h x.after (map line ls)) =
+    run_append h start (events_of text m) (map line ls) ∙ ap (λ (y : Run). followed_by y (run_of h y.after (map line ls))) (sym its-run) in
+    record {
+      answered =
+          ap (λ (l : List Answered). map answered_by x.answers ++ l) (after.answered ∙ ap (λ (y : Run). map answered_by y.answers) same)
+          ∙ sym (map_both answered_by x.answers (run_of h x.after (map line ls)).answers)
+          ∙ ap (λ (y : Run). map answered_by y.answers) (sym all);
+      left = after.left ∙ ap (λ (y : Run). y.after) same ∙ ap (λ (y : Run). y.after) (sym all);
+      demand3 = demand_3 h start (events_of text m ++ map line ls) (planned_running h t g (ran_granted text t h m g x (beside_ran text t out whole)));
+    }

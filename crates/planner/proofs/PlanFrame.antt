@@ -1,25 +1,28 @@
 -- What `planner_plan` answers and leaves, law by law.
 --
 -- In order: what a plan comes to by the causes 8 of the frame, of the presets and of the grants (`on-..`); a plan that is refused by these (`plan_short_frame`,
--- `plan_short_presets`, `plan_short_grants`); a refusal changes nothing, and what is planned is a running frame (`plan_keeps`, `plan_runs`); a plan that is refused, and
+-- `plan_short_presets`, `plan_short_grants`), and that one that is made met none of them (`plan_passes`); a refusal changes nothing, and what is planned is a running frame (`plan_keeps`, `plan_runs`); a plan that is refused, and
 -- one that is made (`plan_refused`, `plan_made`; `refused_handed`, `made_handed`).
 -- Assumes nothing.
 use Prim.Native.Nat.{ℕ, ◌≤◌, ◌<◌}
 use native.Mathlib.Omega.{arith}
 use mathlib.Core.Path.{◌≡◌, refl, sym, ◌∙◌, ap, subst}
+use mathlib.Core.Bool.{true, not}
 use mathlib.Core.Option.{Option, none, some}
-use mathlib.Core.List.{List}
+use mathlib.Core.List.{List, []}
 use lib.ListN.{length, take}
 use lib.Seq.{sets}
+use lib.Dec.{ltb}
 use Rattle.laws.specs.Lists.{at}
-use Rattle.laws.proofs.Comparisons.{ltb_yes, ltb_no}
+use Rattle.laws.proofs.Tests.{Is, is, is_true, is_false, true_of_not}
+use Rattle.laws.proofs.Comparisons.{lt_of, ge_of, ltb_yes, ltb_no}
 use Rattle.station.specs.Head.{Head}
-use Rattle.station.specs.Refusal.{Refusal, too_short, number_of, first_of}
-use Rattle.station.specs.Types.{head_in, refusal_in}
+use Rattle.station.specs.Refusal.{Refusal, out_of_limits, too_short, number_of, first_of}
+use Rattle.station.specs.Types.{head_in, valid_record, refusal_in}
 use Rattle.station.specs.declared.types.Preset as record-of-preset
 use Rattle.station.specs.declared.types.Head as record-of-head
 use Rattle.station.specs.declared.types.Refusal as cause
-use Rattle.station.proofs.Theorems.{number_some}
+use Rattle.station.proofs.Theorems.{first_none, number_some}
 use Rattle.placing.specs.Valid.{first_clock}
 use Rattle.placing.specs.State.{state_of}
 use Rattle.placing.specs.Claims.{Running}
@@ -67,6 +70,15 @@ module _ (head : record-of-head.Head) (ps : List record-of-preset.Preset) (t : L
       go none q = rw (q, plan_meant) (of_runs (head_in head ps) t (plan_of (head_in head ps) t).answer refl (rw (q, plan_meant) at z))
       go (some r) q = absurd (number_some r (rw (q, plan_meant) at z))
 
+  -- it is made for a head record that some text yields
+  plan_valid : (plan_returned (plan_meant head ps t).answer).number ≡ 0 → valid_record head ps ≡ true
+  unfolding plan_meant
+  plan_valid z = go (first_of (causes_of head ps t)) refl
+    where
+      go : (c : Option Refusal) → first_of (causes_of head ps t) ≡ c → valid_record head ps ≡ true
+      go none q = true_of_not _ (first_none out_of_limits (not (valid_record head ps)) [] (first_none too_short (ltb (length t) 512) _ q).1).0
+      go (some r) q = absurd (number_some r (rw (q, plan_meant) at z))
+
 module _ (f p t g : List ℕ) where
   on_short_frame : length f < frame_numbers → plan_on f p t g ≡ record { answer = PlanAnswer.refused 0 too_short; table = t }
   unfolding plan_on first_of
@@ -83,6 +95,27 @@ module _ (f p t g : List ℕ) where
   on_enough : frame_numbers ≤ length f → 128 ≤ length p → 32 ≤ length g → plan_on f p t g ≡ plan_meant (head_of_numbers f) (records_in p) t
   unfolding plan_on first_of
   on_enough k m s = rw (ltb_no (length f) frame_numbers k, ltb_no (length p) 128 m, ltb_no (length g) 32 s, plan_on) refl
+
+  -- a plan that is made has a frame and presets that pass
+  pub plan_passes : (plan_returned (plan_on f p t g).answer).number ≡ 0 → (frame_numbers ≤ length f) × (128 ≤ length p)
+      × (valid_record (head_of_numbers f) (records_in p) ≡ true)
+  plan_passes z = go (is (ltb (length f) frame_numbers)) (is (ltb (length p) 128)) (is (ltb (length g) 32))
+    where
+      never : plan_on f p t g ≡ record { answer = PlanAnswer.refused 0 too_short; table = t } → ⊥
+      never q = number_some too_short (sym (ap (λ (o : PlanOutcome). (plan_returned o.answer).number) q) ∙ z)
+
+      go : Is (ltb (length f) frame_numbers) → Is (ltb (length p) 128) → Is (ltb (length g) 32)
+          → (frame_numbers ≤ length f) × (128 ≤ length p) × (valid_record (head_of_numbers f) (records_in p) ≡ true)
+      go (is_true a) b c = absurd (never (on_short_frame (lt_of (length f) frame_numbers a)))
+      go (is_false a) (is_true b) c = absurd (never (on_short_presets (ge_of (length f) frame_numbers a) (lt_of (length p) 128 b)))
+      go (is_false a) (is_false b) (is_true c) = absurd (never (on_short_grants (ge_of (length f) frame_numbers a) (ge_of (length p) 128 b) (lt_of (length g) 32 c)))
+      go (is_false a) (is_false b) (is_false c) =
+          let k = ge_of (length f) frame_numbers a in
+          let m = ge_of (length p) 128 b in (
+            k,
+            m,
+            plan_valid (head_of_numbers f) (records_in p) t (sym (ap (λ (o : PlanOutcome). (plan_returned o.answer).number) (on_enough k m (ge_of (length g) 32 c))) ∙ z),
+          )
 
   -- what is answered and left, and what is claimed
   abbrev Done : List ℕ → List ℕ → ℕ → Type 0

@@ -1,14 +1,17 @@
 -- Lines handed over one by one to `planner_event`, the frame as numbers and the presets as bytes. Document 01, "What demand 3 speaks of".
 --
 -- In order: what the list starts from (`LetPassOn`); a line's answer as numbers (`Answered`, `answered_by`); the list, each call by its contract (`HandedOn`); what is claimed of it
--- (`HandedOnClaim`).
+-- (`HandedOnClaim`), and of a text and the lines handed over after it (`AfterTextClaim`).
 -- Assumes nothing.
 use Rattle.std.specs.Prelude.{ℕ, ◌≤◌, ◌≡◌, List, [], ◌∷◌, ◌++◌, map, length, get_or}
 use Rattle.std.proofs.Math.Option.{none}
 use Rattle.laws.specs.Sums.{bit}
+use Rattle.station.specs.Head.{Head}
 use Rattle.station.specs.Refusal.{first_of}
+use Rattle.placing.specs.Outcomes.{plan_of}
 use Rattle.placing.specs.Causes.{frame_causes_of}
 use Rattle.frame.specs.Event.{line, Answer, Run, run_of}
+use Rattle.frame.specs.Text.{start_of, events_of}
 use Rattle.frame.specs.Demands.{Demand3}
 use Rattle.planner.specs.Layout.{records_in, clock_place, tie_in_force, head_of_numbers}
 use Rattle.planner.specs.Exports.{head_on, state_on, short_causes, event_on, answer_returned, value, EventLeaves, EventPromise}
@@ -47,3 +50,10 @@ pub record HandedOnClaim (frame presets t : List ℕ) (ls : List (List ℕ)) (an
   -- where the order in force was 0 or 1, as a text that ran leaves it, it is so afterwards (another number that says hold stays while nothing changes the order)
   pub in_force : get_or frame tie_in_force 0 ≤ 1 → get_or last tie_in_force 0 ≡ bit (run_on frame presets t ls).after.hold
   pub demand3 : Demand3 (head_on frame presets) (state_on frame t) (map line ls)
+
+-- What is claimed of a text that `planner_run_text` ran, with n head lines and the run x, and of lines handed over after it: its lines after the head and these are one list from the
+-- plan's start on. That it holds is `text_then_lines` in proofs/HandedOver.antt.
+pub record AfterTextClaim (text t : List ℕ) (h : Head) (n : ℕ) (x : Run) (ls : List (List ℕ)) (answers : List Answered) (last end : List ℕ) : Type 0 where
+  pub answered : map answered_by x.answers ++ answers ≡ map answered_by (run_of h (start_of h (plan_of h t).table) (events_of text n ++ map line ls)).answers
+  pub left : state_on last end ≡ (run_of h (start_of h (plan_of h t).table) (events_of text n ++ map line ls)).after
+  pub demand3 : Demand3 h (start_of h (plan_of h t).table) (events_of text n ++ map line ls)

@@ -1,7 +1,7 @@
 -- The layout of what a caller in another language lends: preset records as bytes, a frame as numbers. It is defined here and nowhere else; that reading and
 -- writing are inverse is proved in proofs/RoundTrip.antt.
 --
--- In order: the bytes of preset records, read (`records_in`) and written (`bytes_over`); the numbers of a frame, read (`head_of_numbers`, `clock_of_numbers`, `hold_of_numbers`) and
+-- In order: the version (`layout_version`); the bytes of preset records, read (`records_in`) and written (`bytes_over`); the numbers of a frame, read (`head_of_numbers`, `clock_of_numbers`, `hold_of_numbers`) and
 -- written (`head_over`, `tie_over`, `numbers_over`, `clock_over`, `started`, `masks_over`).
 -- Assumes nothing.
 use Rattle.std.specs.Prelude.{ℕ, zero, suc, ◌+◌, ◌*◌, Bool, cond, List, [], ◌∷◌, get_or, set, drop, ltb}
@@ -13,6 +13,10 @@ use Rattle.station.specs.Limits.{most_bridges, most_presets, least_records}
 use Rattle.station.specs.declared.types.Preset.{Preset}
 use Rattle.station.specs.declared.types.Head.{Head}
 use Rattle.placing.specs.Valid.{first_clock}
+
+-- the version of this layout and of what its numbers mean, `PLANNER_VERSION` of include/planner.h
+abbrev pub layout_version : ℕ
+layout_version = 5
 
 -- ---- "Presets stand in a lent list of records, in file order."
 

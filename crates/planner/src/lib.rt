@@ -1,8 +1,9 @@
-// The planner for firmware in C or Rust: a static library of six functions over numbers and slices alone (`bin/build planner`; its header is include/planner.h).
+// The planner for firmware in C or Rust: a static library of eight functions over numbers and slices alone (`bin/build planner`; its header is include/planner.h).
 // What each function promises is in specs/Exports.antt, the layout of what is lent in specs/Layout.antt.
 #![tactic(auto)]
 
 pub mod exports; // exports.rt: the exported functions
+pub mod version; // version.rt: the version of the layout, exported too
 // Parts, private to the library:
 mod sizes; // sizes.rt: how long what is lent has to be
 mod answers; // answers.rt: the numbers of an answer

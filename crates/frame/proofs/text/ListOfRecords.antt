@@ -33,7 +33,7 @@ use Rattle.frame.specs.TextEntry.{whole_on_slice, TextOnSlice, answer_of, text_l
 -- ---- by the causes 10 and 8 of the list
 
 module _ (n : ℕ) (text t out : List ℕ) where
-  listed_long : 32768 < length text → whole_on_slice n text t out ≡ not_read 0 text_too_long
+  pub listed_long : 32768 < length text → whole_on_slice n text t out ≡ not_read 0 text_too_long
   unfolding whole_on_slice first_of
   listed_long l = rw (ltb_yes 32768 (length text) l, whole_on_slice) refl
 

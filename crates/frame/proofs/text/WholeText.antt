@@ -84,7 +84,7 @@ module _ (text t : List ℕ) where
   whole_planned {h} {n} s e = whole_head (read_short text h n e) s ∙ ap (λ (x : Reading). whole_with_head text x t) e
 
 -- a text that ran beside some output ran
-beside_ran : (text t out : List ℕ) {h : Head} {n : ℕ} {g : List ℕ} {r : Run} → whole_with_output text t out ≡ ran h n g r → whole_of text t ≡ ran h n g r
+pub beside_ran : (text t out : List ℕ) {h : Head} {n : ℕ} {g : List ℕ} {r : Run} → whole_with_output text t out ≡ ran h n g r → whole_of text t ≡ ran h n g r
 beside_ran text t out {h} {n} {g} {r} e = go (is (ltb 32768 (length text))) (is (ltb (length out) 8192))
   where
     go : Is (ltb 32768 (length text)) → Is (ltb (length out) 8192) → whole_of text t ≡ ran h n g r
