@@ -1,7 +1,7 @@
 -- Laws of capacities: for a number of jobs, of slots, of free cells, and as code that counts slots by their free cells finds them.
 --
 -- In order: more free cells (`capacity_mono`, `capacity_spread`); more jobs: none, one more, all that a slot has cells for (`capacity_top`), and that each further one adds no more
--- than the one before (`capacity_concave`); no slot and one more; one cell more (`capacity-put..`); the table of how many slots have at least so many free cells: that there is
+-- than the one before (`capacity_concave`); no slot and one more; one cell more (`capacity_put_..`); the table of how many slots have at least so many free cells: that there is
 -- one (`at_least_of`), the capacities from it (`capacity_table`, `capacity_past`), a slot more and a slot less (`at_least_on`, `at_least_off`), a cell more (`trial_table`). The needs that fit a capacity are in Placement and Largest.
 -- Assumes nothing.
 use Prim.Native.Nat.{ℕ, zero, suc, ◌+◌, ◌-◌, ◌*◌, ◌≤◌, ◌<◌, min, max}

@@ -1,6 +1,6 @@
 -- Where an input is parted: the loop that looks for its first empty line.
 --
--- In order: bytes before an input; the line at a place, empty (`empty-here`) or not (`line_further`); between two lines (`AtLine`, `at_start`, `at_next`), and the two ways out
+-- In order: bytes before an input; the line at a place, empty (`empty_first`) or not (`line_first`); between two lines (`AtLine`, `at_start`, `at_next`), and the two ways out
 -- (`out_empty`, `out_end`).
 -- Assumes nothing.
 use Prim.Native.Nat.{ℕ, suc, ◌+◌, ◌≤◌, ◌<◌}

@@ -1,3 +1,3 @@
--- Preset records by value and in a borrowed slice: the loops over them, and what walks by hand need of them.
+-- Preset records by value and in a borrowed slice: the laws of a record, and the loops over them.
 pub mod RecordRow
 pub mod CopiedLoops

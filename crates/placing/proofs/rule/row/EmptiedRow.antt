@@ -1,4 +1,4 @@
--- Laws of a row whose free cells are made empty, one after the other: none is yet, one more, all (`emptying-..`).
+-- Laws of a row whose free cells are made empty, one after the other: none is yet, one more, all (`emptying_..`).
 -- Assumes nothing.
 use Prim.Native.Nat.{ℕ, ◌+◌, ◌≤◌, ◌<◌}
 use native.Mathlib.Omega.{arith}

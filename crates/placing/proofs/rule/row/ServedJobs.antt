@@ -1,7 +1,7 @@
 -- Laws of a row whose chosen jobs are kept as a mask and taken out of it one by one, the earliest first.
 --
 -- In order: a row passes over jobs that are not chosen (`filled_over`); the mask of the jobs that are still to come (`Pending`): all, and all but the
--- earliest; the row, what is still due of the jobs and that mask (`Serving`): none served, one more that takes a cell or finds none, all served (`serving-..`).
+-- earliest; the row, what is still due of the jobs and that mask (`Serving`): none served, one more that takes a cell or finds none, all served (`serving_..`).
 -- Assumes nothing.
 use Prim.Native.Nat.{ℕ, zero, suc, ◌+◌, ◌-◌, ◌^◌, ◌≤◌, ◌<◌}
 use native.Mathlib.Nat.{le_refl}
