@@ -149,17 +149,8 @@ extern "C" {
 /* The library's PLANNER_VERSION. */
 uint32_t planner_version(void);
 
-/* The same. Every function below refers to it, so that a program does not link with a library of another version. */
+/* The same: a program that refers to it does not link with a library of another version. */
 uint32_t planner_layout_5(void);
-
-/* A library function, and one with that reference, which callers get under its name. */
-#define PLANNER_FUNCTION(name, parameters, arguments) \
-    uint32_t name parameters;                         \
-    static inline uint32_t name##_linked parameters   \
-    {                                                 \
-        (void)planner_layout_5();                     \
-        return name arguments;                        \
-    }
 
 /*
  * Runs a whole station text: its head, the plan of it, then every line after the head as an event.
@@ -174,14 +165,12 @@ uint32_t planner_layout_5(void);
  * Else *end is the line at fault, 0 for 10 and 8, and nothing else changes; but 5 (its line is the last of the head) leaves the head, its supply included, in the frame and its
  * records in the presets, and clock, order of ties in force, reserved number, table and output as they were.
  */
-PLANNER_FUNCTION(planner_run_text,
-                 (const uint8_t *text, size_t text_len,
-                  uint64_t *frame, size_t frame_len,
-                  uint8_t *presets, size_t presets_len,
-                  planner_cell *table, size_t table_len,
-                  uint8_t *out, size_t out_len,
-                  uint64_t *end),
-                 (text, text_len, frame, frame_len, presets, presets_len, table, table_len, out, out_len, end))
+uint32_t planner_run_text(const uint8_t *text, size_t text_len,
+                          uint64_t *frame, size_t frame_len,
+                          uint8_t *presets, size_t presets_len,
+                          planner_cell *table, size_t table_len,
+                          uint8_t *out, size_t out_len,
+                          uint64_t *end);
 
 /*
  * One event line, (clock t), (call (n c) ..), (tie hold) or (tie place), its byte 10 included, on the running frame.
@@ -196,13 +185,11 @@ PLANNER_FUNCTION(planner_run_text,
  * the same. (No frame is known where that happens in a table that this library planned and calls then changed; that there is none is not proved.) A running frame stays one, so that 11 is never met after it.
  * Else *number is 0, and nothing else changes.
  */
-PLANNER_FUNCTION(planner_event,
-                 (uint64_t *frame, size_t frame_len,
-                  const uint8_t *presets, size_t presets_len,
-                  planner_cell *table, size_t table_len,
-                  const uint8_t *line, size_t line_len,
-                  uint64_t *number),
-                 (frame, frame_len, presets, presets_len, table, table_len, line, line_len, number))
+uint32_t planner_event(uint64_t *frame, size_t frame_len,
+                       const uint8_t *presets, size_t presets_len,
+                       planner_cell *table, size_t table_len,
+                       const uint8_t *line, size_t line_len,
+                       uint64_t *number);
 
 /*
  * Plans a fresh frame, within the head's supply and by its order of ties. The clock and the order in force are not looked at. With frame[PLANNER_FRAME_CLOCK] = 0 and
@@ -214,12 +201,10 @@ PLANNER_FUNCTION(planner_event,
  * were. The table is the plan. For every k, no other valid plan gives the first k presets by rank more refinement.
  * Else nothing changes.
  */
-PLANNER_FUNCTION(planner_plan,
-                 (const uint64_t *frame, size_t frame_len,
-                  const uint8_t *presets, size_t presets_len,
-                  planner_cell *table, size_t table_len,
-                  uint8_t *grants, size_t grants_len),
-                 (frame, frame_len, presets, presets_len, table, table_len, grants, grants_len))
+uint32_t planner_plan(const uint64_t *frame, size_t frame_len,
+                      const uint8_t *presets, size_t presets_len,
+                      planner_cell *table, size_t table_len,
+                      uint8_t *grants, size_t grants_len);
 
 /*
  * The listing of a whole station text, at the start of the output, as far as it has room for it; bytes past it are as they were. A head or a plan that is
@@ -230,12 +215,10 @@ PLANNER_FUNCTION(planner_plan,
  * 0: *bytes is the smaller of out_len and the number of the listing's bytes, which tells a cut listing as in planner_run_text. The table is the one that the text left.
  * Else *bytes is 0, and nothing else changes.
  */
-PLANNER_FUNCTION(planner_listing,
-                 (const uint8_t *text, size_t text_len,
-                  planner_cell *table, size_t table_len,
-                  uint8_t *out, size_t out_len,
-                  uint64_t *bytes),
-                 (text, text_len, table, table_len, out, out_len, bytes))
+uint32_t planner_listing(const uint8_t *text, size_t text_len,
+                         planner_cell *table, size_t table_len,
+                         uint8_t *out, size_t out_len,
+                         uint64_t *bytes);
 
 /*
  * Puts busy times that stand in rows of comma-separated text in place of the frame's. A row is bridge, first slot, last slot, each bare or in quotes, and ends with CR LF; there is no
@@ -248,12 +231,10 @@ PLANNER_FUNCTION(planner_listing,
  * and set the clock to 0 and the order of ties in force to the head's.
  * Else *row is the row at fault, counted from 1, 0 for 10, 8 and the head's 2, and nothing else changes.
  */
-PLANNER_FUNCTION(planner_read_rows,
-                 (const uint8_t *text, size_t text_len,
-                  uint64_t *frame, size_t frame_len,
-                  const uint8_t *presets, size_t presets_len,
-                  uint64_t *row),
-                 (text, text_len, frame, frame_len, presets, presets_len, row))
+uint32_t planner_read_rows(const uint8_t *text, size_t text_len,
+                           uint64_t *frame, size_t frame_len,
+                           const uint8_t *presets, size_t presets_len,
+                           uint64_t *row);
 
 /*
  * The busy times of the frame as rows, at the start of the output: bare, by bridge and then by slot, one for each run of busy slots; bytes past them are as they were. The
@@ -264,20 +245,10 @@ PLANNER_FUNCTION(planner_read_rows,
  * 0: *bytes is the number of the rows' bytes, at most PLANNER_ROWS_BYTES. planner_read_rows puts the same busy times into any frame of as many slots and bridges.
  * Else *bytes is 0, and nothing else changes.
  */
-PLANNER_FUNCTION(planner_write_rows,
-                 (const uint64_t *frame, size_t frame_len,
-                  const uint8_t *presets, size_t presets_len,
-                  uint8_t *out, size_t out_len,
-                  uint64_t *bytes),
-                 (frame, frame_len, presets, presets_len, out, out_len, bytes))
-
-#undef PLANNER_FUNCTION
-#define planner_run_text planner_run_text_linked
-#define planner_event planner_event_linked
-#define planner_plan planner_plan_linked
-#define planner_listing planner_listing_linked
-#define planner_read_rows planner_read_rows_linked
-#define planner_write_rows planner_write_rows_linked
+uint32_t planner_write_rows(const uint64_t *frame, size_t frame_len,
+                            const uint8_t *presets, size_t presets_len,
+                            uint8_t *out, size_t out_len,
+                            uint64_t *bytes);
 
 #ifdef __cplusplus
 }
