@@ -1,14 +1,14 @@
 -- Laws of the records and answers that the layers share.
 --
--- In order: the first n preset records from one place on: one record and the others (`records_step`), none left (`records_end`); the code's refusals and the
+-- In order: the first n preset records from one place on: one record and the others (`records_step`); the code's refusals and the
 -- definitions' are each other's (`refusal_in_lem`, `refusal_of_lem`), so an equation of causes fixes the answer.
 -- Assumes nothing.
 use Prim.Native.Nat.{ℕ, suc, ◌≤◌, ◌<◌}
 use native.Mathlib.Omega.{arith}
 use mathlib.Core.Path.{◌≡◌, refl, ◌∙◌, ap}
-use mathlib.Core.List.{List, [], ◌∷◌}
+use mathlib.Core.List.{List, ◌∷◌}
 use lib.ListN.{length, take, drop, get_or}
-use lib.Seq.{drop-cons, drop-length, get_or-take, length-take-le}
+use lib.Seq.{drop-cons, get_or-take, length-take-le}
 use Rattle.station.specs.declared.types.Preset.{Preset}
 use Rattle.station.specs.declared.types.Refusal.{Refusal}
 use Rattle.station.specs.declared.types.Refusal.TheVariants.{NoForm, OutOfLimits, OutOfPlace, NumberUsed, MandatoryNotFeasible, ClockBack, CallNotFeasible, TooShort, TooMany, TextTooLong, NotWellFormed, NoRow}
@@ -20,9 +20,6 @@ records_step i n ps h l =
     let m : length (take n ps) ≡ n = length-take-le n ps l in
     let k : i < length (take n ps) = omega arith in
     drop-cons (take n ps) i no_record k ∙ ap (λ (p : Preset). p ∷ drop (suc i) (take n ps)) (get_or-take n ps i no_record h)
-
-pub records_end : (n : ℕ) (ps : List Preset) → n ≤ length ps → drop n (take n ps) ≡ []
-records_end n ps l = rw (length-take-le n ps l) at (drop-length (take n ps))
 
 pub refusal_in_lem : (r : Refusal) → refusal_of (refusal_in r) ≡ r
 refusal_in_lem NoForm = refl

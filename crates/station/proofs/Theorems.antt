@@ -8,6 +8,7 @@ pub use Rattle.station.proofs.Text.{lines_join}
 pub use Rattle.station.proofs.lines.FirstLine.{line_front, lines_first, line_some, line_within, lines_at, lines_past}
 -- the forms: a line that has one is the form printed
 pub use Rattle.station.proofs.Form.{form_had}
+pub use Rattle.station.proofs.heads.LineLoop.{lines_few}
 -- decimals
 pub use Rattle.station.proofs.Decimal.{digits_length}
 -- a head record that some text yields
@@ -27,6 +28,9 @@ pub use Rattle.station.proofs.rows.RowsUnique.{rows_canonical}
 -- preset records, in a list and by value
 pub use Rattle.station.proofs.CodeRecords.{records_step, refusal_of_lem}
 pub use Rattle.station.proofs.records.CopiedLoops.{saved_loaded, saved_over, loaded_whole}
+-- the first 32 records of a list, as an entry takes them
+pub use Rattle.station.proofs.entries.FirstRecords.{few_records, first_records}
+pub use Rattle.station.proofs.entries.ListOfRecords.{head_list}
 -- a head that no cause refuses to write
 pub use Rattle.station.proofs.write.HeadLines.{cause_none}
 -- bytes that are written one run after the other

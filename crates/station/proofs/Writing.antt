@@ -43,7 +43,7 @@ number_append n [] p e q = rw q refl
 number_append n (x ∷ ps) p e q =
     rw (neither_left (eqb n x.number) (has_number n ps) e) (number_append n ps p (neither_right (eqb n x.number) (has_number n ps) e) q)
 
-distinct_append : (ps : List Preset) (p : Preset) → all_distinct ps ≡ true → has_number p.number ps ≡ false → all_distinct (ps ++ (p ∷ [])) ≡ true
+pub distinct_append : (ps : List Preset) (p : Preset) → all_distinct ps ≡ true → has_number p.number ps ≡ false → all_distinct (ps ++ (p ∷ [])) ≡ true
 unfolding all_distinct has_number
 distinct_append [] p e u = refl
 distinct_append (x ∷ ps) p e u =

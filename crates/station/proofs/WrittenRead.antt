@@ -42,7 +42,7 @@ then_reaches {r} {f} e c w =
 
 -- ---- the conditions of presets and of busy lines
 
-distinct_unused : (done : List Preset) (p : Preset) (ps : List Preset) → all_distinct (done ++ (p ∷ ps)) ≡ true → has_number p.number done ≡ false
+pub distinct_unused : (done : List Preset) (p : Preset) (ps : List Preset) → all_distinct (done ++ (p ∷ ps)) ≡ true → has_number p.number done ≡ false
 unfolding all_distinct has_number
 distinct_unused [] p ps e = refl
 distinct_unused (x ∷ done) p ps e =

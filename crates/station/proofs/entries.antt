@@ -1,4 +1,5 @@
--- The entries: from the first 32 records by value to the list; the round trips of demand 2, and of rows.
+-- The entries: from the first 32 records to the list; the round trips of demand 2, and of rows.
+pub mod FirstRecords
 pub mod ListOfRecords
 pub mod EntryRoundTrip
 pub mod RowsRoundTrip

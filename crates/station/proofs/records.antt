@@ -1,2 +1,2 @@
--- Preset records by value and in a borrowed slice: the loops over them.
+-- Preset records by value and in a borrowed slice.
 pub mod CopiedLoops

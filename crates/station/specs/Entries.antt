@@ -3,23 +3,18 @@
 -- tried first, 8 for "preset list below 32 records", but for a text by 10 before that.
 --
 -- In order: writing a head (`entry_causes`, `entry_answer`, `entry_output`, `WroteEntry`); reading a
--- head (`entry_reading`, `entry_read`), and what the entry answers and leaves (`left_by`). Assumes
--- nothing.
-use Rattle.std.specs.Prelude.{ℕ, ◌≡◌, List, [], ◌∷◌, length, ltb}
+-- head (`entry_reading`, `entry_read`). Assumes nothing.
+use Rattle.std.specs.Prelude.{ℕ, ◌≡◌, List, [], ◌∷◌, length, ltb, Result}
 use Rattle.std.proofs.Math.Option.{Option}
 use Rattle.station.specs.Limits.{most_bytes, least_records}
 use Rattle.station.specs.declared.types.Preset.{Preset}
 use Rattle.station.specs.declared.types.Head.{Head}
 use Rattle.station.specs.declared.types.Refusal as code
-use Rattle.station.specs.declared.heads.ReadAnswer.TheVariants.{Refused}
-use Rattle.station.specs.declared.heads.HeadRead.{HeadRead}
-use Rattle.station.specs.declared.write.Writing.{Writing}
-use Rattle.station.specs.declared.entries.HeadAnswer.{HeadAnswer}
 use Rattle.station.specs.Refusal.{Refusal, too_short, text_too_long, try, first_of}
 use Rattle.station.specs.Writing.{text_of}
 use Rattle.station.specs.Reading.{Reading, unless, head_of}
 use Rattle.station.specs.Types.{head_in}
-use Rattle.station.specs.ReadHead.{head_read}
+use Rattle.station.specs.ReadHead.{HeadRead, head_read}
 use Rattle.station.specs.WriteHead.{Answer, answer_in, write_causes, answer_of as writeAnswerOf, output_of}
 
 -- ---- writing
@@ -37,7 +32,7 @@ abbrev pub entry_output : ℕ → Head → List Preset → List ℕ → List ℕ
 entry_output records h ps out = output_of (first_of (entry_causes records h ps out)) (text_of (head_in h ps)) out
 
 -- What the writer promises: its answer r and the output afterwards are the defined ones.
-pub record WroteEntry (records : ℕ) (h : Head) (ps : List Preset) (out : List ℕ) (r : Writing) (after : List ℕ) : Type 0 where
+pub record WroteEntry (records : ℕ) (h : Head) (ps : List Preset) (out : List ℕ) (r : Result ℕ code.Refusal) (after : List ℕ) : Type 0 where
   pub answer : answer_in r ≡ entry_answer records h ps out
   pub output : after ≡ entry_output records h ps out
 
@@ -51,15 +46,3 @@ entry_reading records t = unless (first_of (try text_too_long (ltb most_bytes (l
 -- what reading a head answers and leaves of the head record and of the list
 abbrev pub entry_read : ℕ → List ℕ → Head → List Preset → HeadRead
 entry_read records t head ps = head_read (entry_reading records t) head ps
-
--- a refusal at line 0 leaves what was handed in
-abbrev pub refused_at_start : code.Refusal → Head → List Preset → HeadRead
-refused_at_start c head ps = record { answer = Refused 0 c; head = head; presets = ps }
-
--- the answer and the head of a reading
-abbrev pub answer_of : HeadRead → HeadAnswer
-answer_of r = record { answer = r.answer; head = r.head }
-
--- an answer and the list afterwards, as one reading
-abbrev pub left_by : HeadAnswer → List Preset → HeadRead
-left_by r ps = record { answer = r.answer; head = r.head; presets = ps }

@@ -1,10 +1,10 @@
 // Limits: whether a job, a frame, a supply line's number and a preset are within theirs, and
 // whether a head record is one that some text yields.
-ghost use Rattle.std.specs.Prelude.{◌≤◌, ◌^◌, ◌≡◌, ◌&&◌, length, eqb, ltb};
-ghost use Rattle.station.specs.Limits.{most_bridges, most_motors, most_presets};
-ghost use Rattle.station.specs.Head.{preset_of, within, frame_in_limits, preset_in_limits, all_in_limits, all_distinct, masks_in};
-ghost use Rattle.station.specs.method.MaskTest.{mask_in};
-ghost use Rattle.station.specs.Types.{preset_in, presets_in, job_in, valid_record};
+ghost use Rattle.std.specs.Prelude.{◌^◌, ◌≡◌, ◌&&◌, map, length, eqb, ltb};
+ghost use Rattle.std.specs.List.{list_all};
+ghost use Rattle.station.specs.Limits.{most_bridges, most_motors};
+ghost use Rattle.station.specs.Head.{preset_of, within, frame_in_limits, preset_in_limits, all_distinct, masks_in};
+ghost use Rattle.station.specs.Types.{preset_in, job_in, valid_record};
 ghost use Rattle.station.specs.Jobs.{job_in_limits};
 
 use crate::limits::{
@@ -17,67 +17,61 @@ use crate::types::{Head, Job, Preset};
 pub fn job_in_limits(job: Job) -> bool
     ensures { result ≡ job_in_limits (job_in job) }
 {
-    ((1 <= job.number) & (job.number as u32 <= MOST_NUMBER))
-        & ((1 <= job.slots) & (job.slots <= MOST_LENGTH))
+    (1..=MOST_NUMBER).contains(&u32::from(job.number)) && (1..=MOST_LENGTH).contains(&job.slots)
 }
 
 // A frame's numbers of slots and bridges are within their limits.
 pub(crate) fn frame_in_limits(slots: usize, bridges: usize) -> bool
     ensures { result ≡ frame_in_limits slots bridges }
 {
-    ((1 <= slots) & (slots <= MOST_SLOTS)) & ((1 <= bridges) & (bridges <= MOST_BRIDGES))
+    (1..=MOST_SLOTS).contains(&slots) && (1..=MOST_BRIDGES).contains(&bridges)
 }
 
 // The number of a supply line is within its limits.
 pub(crate) fn supply_in_limits(motors: usize) -> bool
     ensures { result ≡ within 1 most_motors motors }
 {
-    (1 <= motors) & (motors <= MOST_MOTORS)
+    (1..=MOST_MOTORS).contains(&motors)
 }
 
 // The values of a preset, in a record or as they are read, are within their limits.
 pub(crate) fn preset_in_limits(number: u32, priority: u32, mandatory: u32, optional: u32) -> bool
     ensures { result ≡ preset_in_limits (preset_of number priority mandatory optional) }
 {
-    ((1 <= number) & (number <= MOST_NUMBER))
-        & (priority <= WORST_PRIORITY)
-        & (mandatory <= MOST_MANDATORY)
-        & (optional <= MOST_OPTIONAL)
+    (1..=MOST_NUMBER).contains(&number)
+        && priority <= WORST_PRIORITY
+        && mandatory <= MOST_MANDATORY
+        && optional <= MOST_OPTIONAL
 }
 
 // A mask has only slots of a frame of `slots` slots.
 fn mask_below(mask: u64, slots: usize) -> bool
     ensures { result ≡ ltb mask (2 ^ slots) }
 {
-    if MOST_SLOTS <= slots {
-        return true;
-    }
-    mask >> slots == 0
+    MOST_SLOTS <= slots || mask >> slots == 0
 }
 
-// The mask of bridge `bridge`, counted from 0, has only cells of the frame: none at all past the
-// last bridge.
-fn mask_in(mask: u64, bridge: usize, bridges: usize, slots: usize) -> bool
-    ensures { result ≡ mask_in mask bridge bridges slots }
+// The masks have only slots of a frame of `slots` slots.
+fn all_below(masks: &[u64], slots: usize) -> bool
+    ensures { result ≡ list_all (λ m. ltb m (2 ^ slots)) masks.now }
 {
-    if bridge < bridges {
-        return mask_below(mask, slots);
-    }
-    mask == 0
+    masks.iter().all(|mask| mask_below(*mask, slots))
 }
 
-// There are eight masks, and all have only cells of the frame.
-fn masks_in(busy: [u64; MOST_BRIDGES], bridges: usize, slots: usize) -> bool
-    ensures { result ≡ (eqb (length busy) most_bridges && masks_in bridges (2 ^ slots) busy) }
+// The masks have no slot.
+fn all_free(masks: &[u64]) -> bool
+    ensures { result ≡ list_all (λ m. eqb m 0) masks.now }
 {
-    let mut b = 0;
-    while b < MOST_BRIDGES {
-        if !mask_in(busy[b], b, bridges, slots) {
-            return false;
-        }
-        b += 1;
-    }
-    true
+    masks.iter().all(|mask| *mask == 0)
+}
+
+// There are eight masks, and all have only cells of the frame: none at all past the last bridge.
+#[tactic(auto, using(crate::proofs::check::ValidRecord::masks_apart))]
+fn masks_in(busy: &[u64; MOST_BRIDGES], bridges: usize, slots: usize) -> bool
+    ensures { result ≡ (eqb (length busy.now) most_bridges && masks_in bridges (2 ^ slots) busy.now) }
+{
+    let (used, unused) = busy.split_at(bridges.min(MOST_BRIDGES));
+    all_below(used, slots) && all_free(unused)
 }
 
 // The record of a preset within its limits.
@@ -85,72 +79,46 @@ fn record_in_limits(preset: Preset) -> bool
     ensures { result ≡ preset_in_limits (preset_in preset) }
 {
     preset_in_limits(
-        preset.number as u32,
-        preset.priority as u32,
-        preset.mandatory as u32,
-        preset.optional as u32,
+        u32::from(preset.number),
+        u32::from(preset.priority),
+        u32::from(preset.mandatory),
+        u32::from(preset.optional),
     )
 }
 
-// The first `count` presets are within their limits.
-fn all_in_limits(presets: [Preset; MOST_PRESETS], count: usize) -> bool
-    requires { count ≤ most_presets }
-    ensures { result ≡ all_in_limits (presets_in count presets) }
+// The presets are within their limits.
+fn all_in_limits(presets: &[Preset]) -> bool
+    ensures { result ≡ list_all (λ p. preset_in_limits (preset_in p)) presets.now }
 {
-    let mut i = 0;
-    while i < count {
-        let preset = presets[i];
-        if !record_in_limits(preset) {
-            return false;
-        }
-        i += 1;
-    }
-    true
+    presets.iter().all(|preset| record_in_limits(*preset))
 }
 
-// No two of the first `count` presets have one number. They are walked from the last on, and each
-// number met is marked.
-fn all_distinct(presets: [Preset; MOST_PRESETS], count: usize) -> bool
-    requires { count ≤ most_presets }
-    ensures { result ≡ all_distinct (presets_in count presets) }
+// No two of the presets have one number. Each number met is marked.
+fn all_distinct(presets: &[Preset]) -> bool
+    ensures { result ≡ all_distinct (map preset_in presets.now) }
 {
-    let mut marks = [0u8; 256];
-    let mut i = count;
-    while 0 < i {
-        i -= 1;
-        let preset = presets[i];
-        let n = preset.number as usize;
-        if marks[n] == 1 {
+    let mut marked = [false; 256];
+    for preset in presets {
+        let n = usize::from(preset.number);
+        if marked[n] {
             return false;
         }
-        marks[n] = 1;
+        marked[n] = true;
     }
     true
 }
 
 // Some text yields the head record with the first of the preset records.
+#[tactic(auto, using(crate::proofs::check::ValidRecord::valid_as_written, crate::proofs::check::ValidRecord::limits_all))]
 pub fn valid_record(head: Head, presets: [Preset; MOST_PRESETS]) -> bool
     ensures { result ≡ valid_record head presets }
 {
-    let slots = head.slots;
-    let bridges = head.bridges;
-    let supply = head.supply;
-    let busy = head.busy;
-    let count = head.count;
-    if count > MOST_PRESETS {
+    let Some(presets) = presets.get(..head.count) else {
         return false;
-    }
-    if !frame_in_limits(slots, bridges) {
-        return false;
-    }
-    if supply > MOST_MOTORS {
-        return false;
-    }
-    if !masks_in(busy, bridges, slots) {
-        return false;
-    }
-    if !all_in_limits(presets, count) {
-        return false;
-    }
-    all_distinct(presets, count)
+    };
+    frame_in_limits(head.slots, head.bridges)
+        && head.supply <= MOST_MOTORS
+        && masks_in(&head.busy, head.bridges, head.slots)
+        && all_in_limits(presets)
+        && all_distinct(presets)
 }

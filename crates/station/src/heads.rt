@@ -1,57 +1,16 @@
-// Reading a head, its preset records by value: the loop over the lines, and what it answers.
+// Reading a head, its preset records in an array: the loop over the lines, and what it answers.
 mod steps; // steps.rt: one line more
 
 ghost use Rattle.std.specs.Prelude.{◌≡◌, ◌≤◌, length};
 ghost use Rattle.station.specs.Limits.{most_bytes};
 ghost use Rattle.station.specs.Reading.{head_of};
-ghost use Rattle.station.specs.ReadHead.{head_read};
-ghost use Rattle.station.specs.method.HeadStep.{no_state, accepted_read, refused_read};
+ghost use Rattle.station.specs.ReadHead.{left_by, head_read};
+ghost use Rattle.station.specs.method.HeadStep.{no_state};
 
-use crate::heads::steps::{Stage, State, Verdict, has_begun, read_step};
+use crate::heads::steps::{Going, Stage, State, has_begun, read_step};
 use crate::limits::{MOST_BYTES, MOST_PRESETS};
-use crate::lines::line_at;
-use crate::types::{Head, NO_HEAD, Preset, Refusal};
-
-// What reading a head answers: the number of its lines and of its bytes; or the line, counted from
-// 1, and what it is refused for. A text that is too long is refused at line 0.
-#[derive(Clone, Copy)]
-pub enum ReadAnswer {
-    Accepted(usize, usize),
-    Refused(usize, Refusal),
-}
-
-// The answer, and the head with its preset records. Where the text is refused both are those handed
-// in.
-#[derive(Clone, Copy)]
-pub struct HeadRead {
-    pub answer: ReadAnswer,
-    pub head: Head,
-    pub presets: [Preset; MOST_PRESETS],
-}
-
-// The head that was read, with the number of its lines and bytes.
-fn accept(state: State, lines: usize, bytes: usize) -> HeadRead
-    ensures { result ≡ accepted_read state lines bytes }
-{
-    let head = state.head;
-    let presets = state.presets;
-    HeadRead {
-        answer: ReadAnswer::Accepted(lines, bytes),
-        head,
-        presets,
-    }
-}
-
-// A refusal leaves the head and the preset records as they were handed in.
-fn refuse(line: usize, cause: Refusal, head: Head, presets: [Preset; MOST_PRESETS]) -> HeadRead
-    ensures { result ≡ refused_read line cause head presets }
-{
-    HeadRead {
-        answer: ReadAnswer::Refused(line, cause),
-        head,
-        presets,
-    }
-}
+use crate::lines::Lines;
+use crate::types::{Extent, Fault, Head, NO_HEAD, Preset, Refusal};
 
 // The state before line 1.
 fn no_state(presets: [Preset; MOST_PRESETS]) -> State
@@ -65,42 +24,49 @@ fn no_state(presets: [Preset; MOST_PRESETS]) -> State
 }
 
 // The head of a text that is not too long, line by line.
-fn read_lines(text: &[u8], head: Head, presets: [Preset; MOST_PRESETS]) -> HeadRead
+fn read_lines(
+    text: &[u8],
+    head: &mut Head,
+    presets: &mut [Preset; MOST_PRESETS],
+) -> Result<Extent, Fault>
     requires { length text.now ≤ most_bytes }
-    ensures { result ≡ head_read (head_of text.now) head presets }
+    ensures { left_by result head.new presets.new
+        ≡ head_read (head_of text.now) head.old presets.old }
 {
-    let mut state = no_state(presets);
-    let mut at = 0;
-    let mut n = 0;
-    while at < text.len() {
-        let line = line_at(text, at);
-        let step = read_step(state, line);
-        let verdict = step.verdict;
-        let next = step.state;
-        match verdict {
-            Verdict::Goes => {}
-            Verdict::Ends => return accept(next, n, at),
-            Verdict::Fails(cause) => return refuse(n + 1, cause, head, presets),
+    let mut state = no_state(*presets);
+    let mut extent = Extent { lines: 0, bytes: 0 };
+    for line in Lines::new(text) {
+        match read_step(&mut state, line) {
+            Ok(Going::Goes) => {}
+            Ok(Going::Ends) => break,
+            Err(cause) => return Err(cause.at(extent.lines + 1)),
         }
-        state = next;
-        at += line.len();
-        n += 1;
+        extent.lines += 1;
+        extent.bytes += line.len();
     }
-    let stage = state.stage;
-    if has_begun(stage) {
-        return accept(state, n, at);
+    if !has_begun(state.stage) {
+        return Err(Refusal::OutOfPlace.at(1));
     }
-    refuse(1, Refusal::OutOfPlace, head, presets)
+    let records = state.presets;
+    *head = state.head;
+    *presets = records;
+    Ok(extent)
 }
 
 // Reads the head of a text: its lines to the first that has an event's form, or to the text's end.
-// Answers the number of its lines and bytes, the head and its presets, the records past the last
-// being those handed in; or the line at fault, 0 with 10, and what was handed in.
-pub fn read_head_by_value(text: &[u8], head: Head, presets: [Preset; MOST_PRESETS]) -> HeadRead
-    ensures { result ≡ head_read (head_of text.now) head presets }
+// Answers the number of its lines and bytes; the head and its presets are those read, the records
+// past the last stay. Or answers the line at fault, 0 with 10; head and records then stay as they
+// were.
+pub fn read_head_by_value(
+    text: &[u8],
+    head: &mut Head,
+    presets: &mut [Preset; MOST_PRESETS],
+) -> Result<Extent, Fault>
+    ensures { left_by result head.new presets.new
+        ≡ head_read (head_of text.now) head.old presets.old }
 {
     if MOST_BYTES < text.len() {
-        return refuse(0, Refusal::TextTooLong, head, presets);
+        return Err(Refusal::TextTooLong.into());
     }
     read_lines(text, head, presets)
 }

@@ -1,8 +1,8 @@
 // The records and answers that the layers share. What each stands for is in specs/Types.antt.
-use crate::limits::{MOST_BRIDGES, MOST_PRESETS};
+use crate::limits::{MOST_BRIDGES, MOST_JOBS, MOST_PRESETS};
 
 // A preset line as a record.
-#[derive(Clone, Copy)]
+#[derive(Clone, Copy, Debug, PartialEq, Eq, Hash)]
 pub struct Preset {
     pub number: u8,
     pub priority: u8,
@@ -11,7 +11,7 @@ pub struct Preset {
 }
 
 // A job of a call, as read: a number above 65,535 is kept as 65,535.
-#[derive(Clone, Copy)]
+#[derive(Clone, Copy, Debug, PartialEq, Eq, Hash)]
 pub struct Job {
     pub number: u16,
     pub slots: u16,
@@ -30,6 +30,13 @@ pub const NO_JOB: Job = Job {
     slots: 0,
 };
 
+// The jobs of a call: the first `count` of the list.
+#[derive(Clone, Copy, Debug, PartialEq, Eq, Hash)]
+pub struct Call {
+    pub jobs: [Job; MOST_JOBS],
+    pub count: usize,
+}
+
 // The preset records of a head without presets.
 pub const NO_PRESETS: [Preset; MOST_PRESETS] = [NO_RECORD; MOST_PRESETS];
 
@@ -37,7 +44,7 @@ pub const NO_PRESETS: [Preset; MOST_PRESETS] = [NO_RECORD; MOST_PRESETS];
 // them are in use. `supply` is the number of its supply line, 0 where it has none; `hold` is
 // whether `(tie hold)` stands directly after the frame line or its supply line. The busy cells are
 // one mask for each bridge, slot 1 being the lowest bit.
-#[derive(Clone, Copy)]
+#[derive(Clone, Copy, Debug, PartialEq, Eq, Hash)]
 pub struct Head {
     pub slots: usize,
     pub bridges: usize,
@@ -57,8 +64,15 @@ pub const NO_HEAD: Head = Head {
     count: 0,
 };
 
+// A head with its preset records: the first `head.count` of them are in use.
+#[derive(Clone, Copy, Debug, PartialEq, Eq, Hash)]
+pub struct Station {
+    pub head: Head,
+    pub presets: [Preset; MOST_PRESETS],
+}
+
 // The causes, in the order of their numbers, 1 to 12.
-#[derive(Clone, Copy)]
+#[derive(Clone, Copy, Debug, PartialEq, Eq, Hash)]
 pub enum Refusal {
     NoForm,
     OutOfLimits,
@@ -72,4 +86,19 @@ pub enum Refusal {
     TextTooLong,
     NotWellFormed,
     NoRow,
+}
+
+// How much of a text a head is: its lines and its bytes.
+#[derive(Clone, Copy, Debug, PartialEq, Eq, Hash)]
+pub struct Extent {
+    pub lines: usize,
+    pub bytes: usize,
+}
+
+// Where a text is refused: the line at fault, counted from 1, and the cause. Line 0 is none: the text
+// was refused before any line was read.
+#[derive(Clone, Copy, Debug, PartialEq, Eq, Hash)]
+pub struct Fault {
+    pub line: usize,
+    pub cause: Refusal,
 }

@@ -7,12 +7,13 @@
 use Prim.Native.Nat.{ℕ, zero, suc, ◌+◌, ◌≤◌}
 use native.Mathlib.Omega.{arith}
 use mathlib.Core.Path.{◌≡◌, refl, sym, ◌∙◌, ap}
-use mathlib.Core.Bool.{Bool, true, false, ◌&&◌, and-true, and_assoc}
-use mathlib.Core.Option.{Option, none, some}
+use mathlib.Core.Bool.{Bool, true, ◌&&◌, and-true, and_assoc}
+use mathlib.Core.Option as math
+use mathlib.Core.Option.{none, some}
+use Rattle.std.specs.Prelude.{Option, Some, None}
 use mathlib.Core.List.{List, [], ◌∷◌, ◌++◌, append_assoc, append-nil}
 use lib.ListN.{length, drop, set, length-append}
 use lib.Seq.{set_out, set-append_seam}
-use Rattle.laws.proofs.Tests.{clash}
 use Rattle.station.specs.Limits.{most_jobs}
 use Rattle.station.specs.declared.types.Job.{Job}
 use Rattle.station.specs.declared.brackets.Jobs.{Jobs}
@@ -57,12 +58,11 @@ fits_seen : (a b : ℕ) → job_in_limits (record { number = seen a; slots = see
 fits_seen a b = rw (seen_within 1 255 a (omega arith) (omega arith), seen_within 1 64 b (omega arith) (omega arith)) refl
 
 -- what the whole line makes
-abbrev pub counted : ℕ → Bool → List Job → Option CallJobs → Jobs
-counted n f js none = record { found = false; count = 0; fit = false; jobs = no_jobs }
-counted n f js (some p) =
-    record { found = true; count = seen (n + length (jobs_of p)); fit = f && jobs_in_limits (jobs_of p); jobs = stored n js (jobs_of p) }
+abbrev pub counted : ℕ → Bool → List Job → math.Option CallJobs → Option Jobs
+counted n f js none = None
+counted n f js (some p) = Some (record { count = n + length (jobs_of p); fit = f && jobs_in_limits (jobs_of p); jobs = stored n js (jobs_of p) })
 
-pub counted_start : (o : Option CallJobs) → counted 0 true no_jobs o ≡ jobs_read o
+pub counted_start : (o : math.Option CallJobs) → counted 0 true no_jobs o ≡ jobs_read o
 counted_start none = refl
 counted_start (some p) =
     let e : 0 + length (jobs_of p) ≡ length (jobs_of p) = omega arith in
@@ -75,7 +75,7 @@ module _ (n : ℕ) (f : Bool) (js : List Job) (a b : ℕ) where
   abbrev fit : Bool
   fit = f && job_in_limits (record { number = seen a; slots = seen b })
 
-  pub counted_next : (o : Option CallJobs) → counted n f js (also_job (meant.job_of a b) o) ≡ counted (n + 1) fit (set js n job) o
+  pub counted_next : (o : math.Option CallJobs) → counted n f js (also_job (meant.job_of a b) o) ≡ counted (n + 1) fit (set js n job) o
   unfolding jobs_of jobs_in_limits stored
   counted_next none = refl
   counted_next (some p) =
@@ -83,29 +83,41 @@ module _ (n : ℕ) (f : Bool) (js : List Job) (a b : ℕ) where
       let i : suc n ≡ n + 1 = omega arith in
       rw (← i, e, fits_seen a b, and_assoc f (job_in_limits (record { number = a; slots = b })) (jobs_in_limits (jobs_of p))) refl
 
-  pub counted_last : counted n f js (some (last_job (meant.job_of a b))) ≡ record { found = true; count = seen (n + 1); fit = fit; jobs = set js n job }
+  pub counted_last : counted n f js (some (last_job (meant.job_of a b))) ≡ Some (record { count = n + 1; fit = fit; jobs = set js n job })
   unfolding jobs_of jobs_in_limits stored
   counted_last = rw (fits_seen a b, and-true (job_in_limits (record { number = a; slots = b }))) refl
 
 -- ---- by the bracket that was read
 
-module _ (n : ℕ) (f : Bool) (js : List Job) {t : List ℕ} {at : ℕ} {b : Bracket} where
-  pub read_none : BracketAt t at b → b.found ≡ false
-      → record { found = false; count = 0; fit = false; jobs = no_jobs } ≡ counted n f js (read_jobs (drop at t))
-  read_none (no_bracket_lem g e) y = rw (← read_jobs_lem (drop at t), e) refl
-  read_none (last_bracket c d g l x w h i e) y = absurd (clash (sym g ∙ y))
-  read_none (next_bracket c d g l x w h i e) y = absurd (clash (sym g ∙ y))
+module _ (n : ℕ) (f : Bool) (js : List Job) {t : List ℕ} {at : ℕ} where
+  pub read_none : BracketAt t at None → None ≡ counted n f js (read_jobs (drop at t))
+  read_none (no_bracket_lem q e) = rw (← read_jobs_lem (drop at t), e) refl
+  read_none (last_bracket c d q i e) = absurd cc
+  read_none (next_bracket c d k q h i e) = absurd cc
 
-  pub read_last : BracketAt t at b → b.found ≡ true → b.last ≡ true
-      → record { found = true; count = seen (n + 1); fit = f && job_in_limits (record { number = b.first; slots = b.second }); jobs = set js n (record { number = b.first; slots = b.second }) }
-      ≡ counted n f js (read_jobs (drop at t))
-  read_last (no_bracket_lem g e) y z = absurd (clash (sym y ∙ g))
-  read_last (last_bracket c d g l x w h i e) y z = rw (← read_jobs_lem (drop at t), e, x, w) (sym (counted_last n f js c d))
-  read_last (next_bracket c d g l x w h i e) y z = absurd (clash (sym z ∙ l))
+  module _ {b : Bracket} where
+    pub read_last : BracketAt t at (Some b) → b.next ≡ None
+        → Some (record { count = n + 1; fit = f && job_in_limits (record { number = b.first; slots = b.second }); jobs = set js n (record { number = b.first; slots = b.second }) })
+        ≡ counted n f js (read_jobs (drop at t))
+    read_last (no_bracket_lem q e) y = absurd cc
+    read_last (last_bracket c d q i e) y =
+        let same : b ≡ record { first = seen c; second = seen d; next = None } = cc in
+        rw (← read_jobs_lem (drop at t), e, same) (sym (counted_last n f js c d))
+    read_last (next_bracket c d k q h i e) y =
+        let same : b ≡ record { first = seen c; second = seen d; next = Some k } = cc in
+        let off : None ≡ Some k = sym y ∙ ap (λ (x : Bracket). x.next) same in
+        absurd cc
 
-  pub read_next : BracketAt t at b → b.found ≡ true → b.last ≡ false
-      → counted (n + 1) (f && job_in_limits (record { number = b.first; slots = b.second })) (set js n (record { number = b.first; slots = b.second })) (read_jobs (drop b.next t))
-      ≡ counted n f js (read_jobs (drop at t))
-  read_next (no_bracket_lem g e) y z = absurd (clash (sym y ∙ g))
-  read_next (last_bracket c d g l x w h i e) y z = absurd (clash (sym l ∙ z))
-  read_next (next_bracket c d g l x w h i e) y z = rw (← read_jobs_lem (drop at t), e, made_also c d (read_brackets (drop b.next t)), read_jobs_lem (drop b.next t), x, w) (sym (counted_next n f js c d (read_jobs (drop b.next t))))
+    pub read_next : (next : ℕ) → BracketAt t at (Some b) → b.next ≡ Some next
+        → counted (n + 1) (f && job_in_limits (record { number = b.first; slots = b.second })) (set js n (record { number = b.first; slots = b.second })) (read_jobs (drop next t))
+        ≡ counted n f js (read_jobs (drop at t))
+    read_next next (no_bracket_lem q e) y = absurd cc
+    read_next next (last_bracket c d q i e) y =
+        let same : b ≡ record { first = seen c; second = seen d; next = None } = cc in
+        let off : Some next ≡ None = sym y ∙ ap (λ (x : Bracket). x.next) same in
+        absurd cc
+    read_next next (next_bracket c d k q h i e) y =
+        let same : b ≡ record { first = seen c; second = seen d; next = Some k } = cc in
+        let on : Some next ≡ Some k = sym y ∙ ap (λ (x : Bracket). x.next) same in
+        let here : next ≡ k = cc in
+        rw (← read_jobs_lem (drop at t), e, made_also c d (read_brackets (drop k t)), read_jobs_lem (drop k t), same, here) (sym (counted_next n f js c d (read_jobs (drop k t))))

@@ -1,125 +1,137 @@
 -- Laws of one bracket at a place of a text, one for each answer that the code gives (`not_opened`, `no_first`, `no_second`, `is_last`, `not_ended`,
--- `is_next`), and what the answers have in common (`first_small`, `second_small`, `next_inside`).
+-- `is_next`), and what the answers have in common (`first_small`, `second_small`, `inside`, `next_inside`).
 -- Assumes nothing.
 use Prim.Native.Nat.{ℕ, ◌+◌, ◌≤◌, ◌<◌}
 use native.Mathlib.Omega.{arith}
 use mathlib.Core.Path.{◌≡◌, refl, sym, ◌∙◌, ap}
 use mathlib.Core.Bool.{true, false}
-use mathlib.Core.Option.{none}
 use mathlib.Core.List.{List}
-use lib.ListN.{length, drop, length-drop}
-use Rattle.laws.proofs.Tests.{clash}
+use lib.ListN.{length, drop}
+use Rattle.station.specs.Decimal.{digit_count}
 use Rattle.station.specs.declared.numbers.Numeral.{Numeral}
 use Rattle.station.specs.declared.brackets.Bracket.{Bracket}
 use Rattle.station.specs.Text.{bytes}
-use Rattle.station.specs.Decimal.{digit_count, plain}
-use Rattle.station.specs.Form.{last, starts, word, whole, ◌or_else◌, also, read_brackets}
-use Rattle.station.specs.method.Numeral.{front, closes, numeral_at, numeral_then}
-use Rattle.station.specs.method.Bracket.{no_bracket, BracketAt, no_bracket_lem, last_bracket, next_bracket}
+use Rattle.station.specs.Form.{last, word, whole, ◌or_else◌, also, read_brackets}
+use Rattle.station.specs.method.Numeral.{front, word_at, closes, numeral_at, numeral_then}
+use Rattle.std.specs.Prelude.{Some, None}
+use Rattle.station.specs.method.Bracket.{BracketAt, no_bracket_lem, last_bracket, next_bracket}
 use Rattle.station.proofs.Form.{brackets_step}
-use Rattle.station.proofs.numbers.Decimals.{starts_length, plain_inside}
-use Rattle.station.proofs.numbers.Recognised.{word_yes, word_no, number_yes, number_no, ends_yes, ends_no, then_yes, then_no, then_value, then_next}
+use Rattle.station.proofs.numbers.Decimals.{plain_inside, Stands, stands, stands_none}
+use Rattle.station.proofs.numbers.Recognised.{word_end, word_inside, word_read, word_lacks, number_yes, number_no, ends_yes, ends_no, StandsThen, stands_then, then_yes, then_no}
 use Rattle.station.specs.Jobs.{seen}
 
--- a bracket that was not found
-missing : (t : List ℕ) (at : ℕ) (r : Bracket) → r ≡ no_bracket → read_brackets (drop at t) ≡ none → BracketAt t at r
-missing t at r d e = no_bracket_lem (ap (λ (x : Bracket). x.found) d) e
-
--- a word at a place lies in the text
-pub word_inside : (w t : List ℕ) (i : ℕ) → starts w (drop i t) ≡ true → 0 < length w → i + length w ≤ length t
-word_inside w t i e h = omega (arith, starts_length w (drop i t) e, length-drop i t)
-
 module _ (t : List ℕ) (at : ℕ) where
-  pub not_opened : (r : Bracket) → r ≡ no_bracket → starts (bytes "(") (drop at t) ≡ false → BracketAt t at r
-  not_opened r d e = missing t at r d (brackets_step (drop at t) ∙ word_no t (bytes "(") at _ e)
+  pub not_opened : None ≡ word_at (bytes "(") t at → BracketAt t at None
+  not_opened e = no_bracket_lem refl (brackets_step (drop at t) ∙ word_lacks t (bytes "(") at _ e)
 
-  module _ (o : starts (bytes "(") (drop at t) ≡ true) (a : Numeral) (a-is : a ≡ numeral_then (bytes " ") t (at + 1)) where
-    pub no_first : (r : Bracket) → r ≡ no_bracket → a.found ≡ false → BracketAt t at r
-    unfolding bytes
-    no_first r d f =
-        missing t at r d
-        (brackets_step (drop at t) ∙ word_yes t (bytes "(") at (at + 1) _ o refl ∙ then_no t (bytes " ") (at + 1) a a-is f _)
+  module _ (o : ℕ) (o-is : Some o ≡ word_at (bytes "(") t at) where
+    pub no_first : None ≡ numeral_then (bytes " ") t o → BracketAt t at None
+    no_first f =
+        no_bracket_lem refl
+        (brackets_step (drop at t) ∙ word_read t (bytes "(") at _ o o-is ∙ then_no t (bytes " ") o _ f)
 
-    module _ (fa : a.found ≡ true) (b : Numeral) (b-is : b ≡ numeral_at t a.next) where
-      found_b : plain (drop a.next t) ≡ b.found
-      found_b = sym (ap (λ (x : Numeral). x.found) b-is)
+    module _ (a : Numeral) (a-is : Some a ≡ numeral_then (bytes " ") t o) where
+      pub no_second : None ≡ numeral_at t a.next → BracketAt t at None
+      no_second f =
+          no_bracket_lem refl
+          (brackets_step (drop at t) ∙ word_read t (bytes "(") at _ o o-is ∙ then_yes t (bytes " ") o _ a a-is
+          ∙ number_no t a.next _ (stands_none t a.next f))
 
-      value_b : b.value ≡ seen (front (drop a.next t))
-      value_b = ap (λ (x : Numeral). x.value) b-is
-
-      next_b : a.next + digit_count (drop a.next t) ≡ b.next
-      next_b = sym (ap (λ (x : Numeral). x.next) b-is)
-
-      pub no_second : (r : Bracket) → r ≡ no_bracket → b.found ≡ false → BracketAt t at r
-      unfolding bytes
-      no_second r d f =
-          missing t at r d
-          (brackets_step (drop at t) ∙ word_yes t (bytes "(") at (at + 1) _ o refl ∙ then_yes t (bytes " ") (at + 1) a a-is fa _
-          ∙ number_no t a.next _ (found_b ∙ f))
-
-      module _ (fb : b.found ≡ true) where
+      module _ (b : Numeral) (b-is : Some b ≡ numeral_at t a.next) where
         -- the two numbers
         abbrev m : ℕ
-        m = front (drop (at + 1) t)
+        m = front (drop o t)
 
         abbrev n : ℕ
         n = front (drop a.next t)
 
+        first_is : StandsThen t (bytes " ") o a
+        first_is = stands_then t (bytes " ") o a a-is
+
+        second_is : Stands t a.next b
+        second_is = stands t a.next b b-is
+
         read_two :
             read_brackets (drop at t)
             ≡ (word (bytes "))\n") (drop b.next t) (whole (last m n)) or_else word (bytes ") ") (drop b.next t) (λ l₅. also m n (read_brackets l₅)))
-        unfolding bytes
         read_two =
-            brackets_step (drop at t) ∙ word_yes t (bytes "(") at (at + 1) _ o refl ∙ then_yes t (bytes " ") (at + 1) a a-is fa _
-            ∙ number_yes t a.next b.next _ (found_b ∙ fb) next_b
+            brackets_step (drop at t) ∙ word_read t (bytes "(") at _ o o-is ∙ then_yes t (bytes " ") o _ a a-is
+            ∙ number_yes t a.next b.next _ second_is.plain (sym second_is.next)
 
         later : at < b.next
-        later = omega (arith, then_next t (bytes " ") (at + 1) a a-is fa, next_b)
+        unfolding bytes
+        later =
+            omega (
+              arith,
+              word_end t (bytes "(") at o o-is,
+              word_end t (bytes " ") (o + digit_count (drop o t)) a.next first_is.word,
+              second_is.next,
+            )
 
-        inside : b.next ≤ length t
-        inside = omega (arith, next_b, plain_inside t a.next (found_b ∙ fb))
+        inside_two : b.next ≤ length t
+        inside_two = omega (arith, second_is.next, plain_inside t a.next second_is.plain)
 
-        pub is_last : closes (bytes "))\n") t b.next ≡ true
-            → BracketAt t at (record { found = true; last = true; first = a.value; second = b.value; next = b.next })
+        pub is_last : closes (bytes "))\n") t b.next ≡ true → BracketAt t at (Some (record { first = a.value; second = b.value; next = None }))
         is_last e =
-            last_bracket m n refl refl (then_value t (bytes " ") (at + 1) a a-is fa) value_b later inside
+            last_bracket m n (rw (first_is.value, second_is.value) refl) (omega (arith, later, inside_two))
             (read_two ∙ (rw (ends_yes t (bytes "))\n") b.next (last m n) e) refl))
 
         module _ (open-end : closes (bytes "))\n") t b.next ≡ false) where
-          pub not_ended : (r : Bracket) → r ≡ no_bracket → starts (bytes ") ") (drop b.next t) ≡ false → BracketAt t at r
-          not_ended r d e =
-              missing t at r d
+          pub not_ended : None ≡ word_at (bytes ") ") t b.next → BracketAt t at None
+          not_ended e =
+              no_bracket_lem refl
               (read_two
               ∙ (rw (
                 ends_no t (bytes "))\n") b.next (last m n) open-end,
-                word_no t (bytes ") ") b.next (λ l₅. also m n (read_brackets l₅)) e,
+                word_lacks t (bytes ") ") b.next (λ l₅. also m n (read_brackets l₅)) e,
               ) refl))
 
-          pub is_next : starts (bytes ") ") (drop b.next t) ≡ true
-              → BracketAt t at (record { found = true; last = false; first = a.value; second = b.value; next = b.next + 2 })
+          pub is_next : (next : ℕ) → Some next ≡ word_at (bytes ") ") t b.next
+              → BracketAt t at (Some (record { first = a.value; second = b.value; next = Some next }))
           unfolding bytes
-          is_next e =
-              next_bracket m n refl refl (then_value t (bytes " ") (at + 1) a a-is fa) value_b (omega (arith, later))
-              (omega (arith, word_inside (bytes ") ") t b.next e (omega arith)))
+          is_next next e =
+              next_bracket m n next (rw (first_is.value, second_is.value) refl) (omega (arith, later, word_end t (bytes ") ") b.next next e))
+              (word_inside t (bytes ") ") b.next next e (omega arith))
               (read_two
               ∙ (rw (
                 ends_no t (bytes "))\n") b.next (last m n) open-end,
-                word_yes t (bytes ") ") b.next (b.next + 2) (λ l₅. also m n (read_brackets l₅)) e refl,
+                word_read t (bytes ") ") b.next (λ l₅. also m n (read_brackets l₅)) next e,
               ) refl))
 
 -- ---- what the answers have in common
 
-pub first_small : {t : List ℕ} {at : ℕ} {r : Bracket} → BracketAt t at r → r.found ≡ true → r.first ≤ 65535
-first_small (no_bracket_lem f e) y = absurd (clash (sym y ∙ f))
-first_small (last_bracket m n f l a b h i e) y = omega arith
-first_small (next_bracket m n f l a b h i e) y = omega arith
+module _ {t : List ℕ} {at : ℕ} {b : Bracket} where
+  pub first_small : BracketAt t at (Some b) → b.first ≤ 65535
+  first_small (no_bracket_lem q e) = absurd cc
+  first_small (last_bracket c d q i e) =
+      let same : b ≡ record { first = seen c; second = seen d; next = None } = cc in
+      omega (arith, ap (λ (x : Bracket). x.first) same)
+  first_small (next_bracket c d k q h i e) =
+      let same : b ≡ record { first = seen c; second = seen d; next = Some k } = cc in
+      omega (arith, ap (λ (x : Bracket). x.first) same)
 
-pub second_small : {t : List ℕ} {at : ℕ} {r : Bracket} → BracketAt t at r → r.found ≡ true → r.second ≤ 65535
-second_small (no_bracket_lem f e) y = absurd (clash (sym y ∙ f))
-second_small (last_bracket m n f l a b h i e) y = omega arith
-second_small (next_bracket m n f l a b h i e) y = omega arith
+  pub second_small : BracketAt t at (Some b) → b.second ≤ 65535
+  second_small (no_bracket_lem q e) = absurd cc
+  second_small (last_bracket c d q i e) =
+      let same : b ≡ record { first = seen c; second = seen d; next = None } = cc in
+      omega (arith, ap (λ (x : Bracket). x.second) same)
+  second_small (next_bracket c d k q h i e) =
+      let same : b ≡ record { first = seen c; second = seen d; next = Some k } = cc in
+      omega (arith, ap (λ (x : Bracket). x.second) same)
 
-pub next_inside : {t : List ℕ} {at : ℕ} {r : Bracket} → BracketAt t at r → r.found ≡ true → (at < r.next) × (r.next ≤ length t)
-next_inside (no_bracket_lem f e) y = absurd (clash (sym y ∙ f))
-next_inside (last_bracket m n f l a b h i e) y = (h, i)
-next_inside (next_bracket m n f l a b h i e) y = (h, i)
+  pub inside : BracketAt t at (Some b) → at < length t
+  inside (no_bracket_lem q e) = absurd cc
+  inside (last_bracket c d q i e) = i
+  inside (next_bracket c d k q h i e) = omega arith
+
+  pub next_inside : (next : ℕ) → BracketAt t at (Some b) → b.next ≡ Some next → (at < next) × (next ≤ length t)
+  next_inside next (no_bracket_lem q e) y = absurd cc
+  next_inside next (last_bracket c d q i e) y =
+      let same : b ≡ record { first = seen c; second = seen d; next = None } = cc in
+      let off : Some next ≡ None = sym y ∙ ap (λ (x : Bracket). x.next) same in
+      absurd cc
+  next_inside next (next_bracket c d k q h i e) y =
+      let same : b ≡ record { first = seen c; second = seen d; next = Some k } = cc in
+      let on : Some next ≡ Some k = sym y ∙ ap (λ (x : Bracket). x.next) same in
+      let here : next ≡ k = cc in
+      (omega arith, omega arith)

@@ -10,25 +10,25 @@ use mathlib.Core.List.{List, map}
 use lib.ListN.{length, take, drop, length-append, length-drop, length-map}
 use Rattle.station.specs.declared.types.Preset.{Preset}
 use Rattle.station.specs.declared.types.Head.{Head}
-use Rattle.station.specs.declared.heads.ReadAnswer.TheVariants.{Accepted}
-use Rattle.station.specs.declared.heads.HeadRead.{HeadRead}
-use Rattle.station.specs.declared.write.Writing.{Writing}
-use Rattle.station.specs.declared.entries.HeadAnswer.{HeadAnswer}
+use Rattle.station.specs.declared.types.Refusal.{Refusal}
+use Rattle.station.specs.declared.types.Extent.{Extent}
+use Rattle.station.specs.declared.types.Fault.{Fault}
+use Rattle.std.specs.Prelude.{Result, Ok}
 use Rattle.station.specs.Head as meant
 use Rattle.station.specs.Text.{lines, join}
 use Rattle.station.specs.Writing.{forms_of}
 use Rattle.station.specs.Reading.{Reading, accepted, refused, head_of}
 use Rattle.station.specs.Types.{head_in, valid_record}
-use Rattle.station.specs.ReadHead.{record_of, head_read}
+use Rattle.station.specs.ReadHead.{record_of, extent, HeadRead, left_by, head_read}
 use Rattle.station.proofs.heads.RoundTrip as by_value
 use Rattle.station.specs.WriteHead.{written, answer_in}
-use Rattle.station.specs.Entries.{WroteEntry, entry_reading, entry_read, left_by}
+use Rattle.station.specs.Entries.{WroteEntry, entry_reading, entry_read}
 use Rattle.station.proofs.entries.ListOfRecords.{enough_written, reading_enough, entry_accepted}
 
 -- a list of enough records, into which a head was read, has enough records after it too
 left_enough : (x : Reading) (head : Head) (ps : List Preset) {n k : ℕ} → ((h : meant.Head) (m : ℕ) → x ≡ accepted h m → (length h.presets ≤ 32) × (32 ≤ length ps))
-    → (head_read x head ps).answer ≡ Accepted n k → (32 ≤ length ps) × (32 ≤ length (head_read x head ps).presets)
-left_enough (refused m c) head ps fits e = absurd (let z : ◌≡◌ {A = ℕ} 0 1 = cc in omega arith)
+    → (head_read x head ps).answer ≡ Ok (extent n k) → (32 ≤ length ps) × (32 ≤ length (head_read x head ps).presets)
+left_enough (refused m c) head ps fits e = cc
 left_enough (accepted h m) head ps fits e =
     let few = fits h m refl in (
       few.1,
@@ -36,21 +36,21 @@ left_enough (accepted h m) head ps fits e =
     )
 
 -- An accepted head, read into the list and written from it, has the same bytes: those of the text's first n lines.
-pub read_then_written : (text : List ℕ) (head : Head) (before ps : List Preset) (r : HeadAnswer) (n k : ℕ) (out after : List ℕ) (w : Writing)
-    → left_by r ps ≡ entry_read (length before) text head before → r.answer ≡ Accepted n k → 8192 ≤ length out → WroteEntry (length ps) r.head ps out w after
+pub read_then_written : (text : List ℕ) (head : Head) (before ps : List Preset) (r : Result Extent Fault) (g : Head) (n k : ℕ) (out after : List ℕ) (w : Result ℕ Refusal)
+    → left_by r g ps ≡ entry_read (length before) text head before → r ≡ Ok (extent n k) → 8192 ≤ length out → WroteEntry (length ps) g ps out w after
     → (answer_in w ≡ written k) × (take k after ≡ join (take n (lines text)))
-read_then_written text head before ps r n k out after w e a long wrote =
+read_then_written text head before ps r g n k out after w e a long wrote =
     let x = entry_reading (length before) text in
     let enough = left_enough x head before (entry_accepted (length before) text) (sym (ap (λ (q : HeadRead). q.answer) e) ∙ a) in
-    let whole : left_by r ps ≡ head_read (head_of text) head before = e ∙ ap (λ (y : Reading). head_read y head before) (reading_enough (length before) text enough.0) in
+    let whole : left_by r g ps ≡ head_read (head_of text) head before = e ∙ ap (λ (y : Reading). head_read y head before) (reading_enough (length before) text enough.0) in
     let still : 32 ≤ length ps = omega (arith, enough.1, ap (λ (q : HeadRead). length q.presets) e) in
-    by_value.read_then_written text head before (left_by r ps) n k out after w whole a long (enough_written (length ps) r.head ps out still wrote)
+    by_value.read_then_written text head before (left_by r g ps) n k out after w whole a long (enough_written (length ps) g ps out still wrote)
 
 -- A head record that some text yields, written from a list and read into one, is the same head, with as many lines and bytes as its text has.
-pub written_then_read : (h : Head) (ps : List Preset) (out after : List ℕ) (w : Writing) (k : ℕ) (head : Head) (before qs : List Preset) (r : HeadAnswer)
+pub written_then_read : (h : Head) (ps : List Preset) (out after : List ℕ) (w : Result ℕ Refusal) (k : ℕ) (head : Head) (before qs : List Preset) (r : Result Extent Fault) (g : Head)
     → 8192 ≤ length out → 32 ≤ length ps → 32 ≤ length before → valid_record h ps ≡ true → WroteEntry (length ps) h ps out w after → answer_in w ≡ written k
-    → left_by r qs ≡ entry_read (length before) (take k after) head before
-    → (r.answer ≡ Accepted (length (forms_of (head_in h ps))) k) × (head_in r.head qs ≡ head_in h ps)
-written_then_read h ps out after w k head before qs r long enough enough' ok wrote answered e =
-    by_value.written_then_read h ps out after w k head before (left_by r qs) long ok (enough_written (length ps) h ps out enough wrote) answered
+    → left_by r g qs ≡ entry_read (length before) (take k after) head before
+    → (r ≡ Ok (extent (length (forms_of (head_in h ps))) k)) × (head_in g qs ≡ head_in h ps)
+written_then_read h ps out after w k head before qs r g long enough enough' ok wrote answered e =
+    by_value.written_then_read h ps out after w k head before (left_by r g qs) long ok (enough_written (length ps) h ps out enough wrote) answered
     (e ∙ ap (λ (y : Reading). head_read y head before) (reading_enough (length before) (take k after) enough'))

@@ -15,22 +15,22 @@ use lib.Dec.{ltb}
 use Rattle.laws.proofs.Tests.{true_of_not}
 use Rattle.station.specs.declared.types.Preset.{Preset}
 use Rattle.station.specs.declared.types.Head.{Head}
-use Rattle.station.specs.declared.rows.RowsRead.{RowsRead}
-use Rattle.station.specs.declared.write.Writing.{Writing}
+use Rattle.std.specs.Prelude.{Result}
+use Rattle.station.specs.declared.types.Refusal as code
 use Rattle.station.specs.Refusal.{Refusal, out_of_limits, too_short, try, first_of}
 use Rattle.station.specs.Reading.{Reading}
 use Rattle.station.specs.Types.{head_in, valid_record}
 use Rattle.station.specs.WriteHead.{written, refused, answer_in, answer_of, output_of, write_causes}
 use Rattle.station.specs.Entries.{entry_causes}
 use Rattle.station.specs.Row.{mask_rows, rows_text}
-use Rattle.station.specs.RowEntries.{rows_reading, rows_read, rows_accepted, WroteRows}
+use Rattle.station.specs.RowEntries.{RowsRead, rows_reading, rows_read, rows_accepted, WroteRows}
 use Rattle.station.proofs.Refusal.{first_none}
 use Rattle.station.proofs.check.ValidRecord.{valid_head}
 use Rattle.station.proofs.rows.RowCauses.{rows_tried}
 use Rattle.station.proofs.rows.RowsWritten.{rows_fit}
 use Rattle.station.proofs.rows.RowsMeaning.{rows_round}
 
-module _ (h : Head) (ps : List Preset) (out after : List ℕ) (w : Writing) (k : ℕ) (wrote : WroteRows (length ps) h ps out w after) (answered : answer_in w ≡ written k) where
+module _ (h : Head) (ps : List Preset) (out after : List ℕ) (w : Result ℕ code.Refusal) (k : ℕ) (wrote : WroteRows (length ps) h ps out w after) (answered : answer_in w ≡ written k) where
   abbrev cause : Option Refusal
   cause = first_of (entry_causes (length ps) h ps out)
 
@@ -61,7 +61,7 @@ module _ (h : Head) (ps : List Preset) (out after : List ℕ) (w : Writing) (k :
           }
       go (some c) e =
           let same : written k ≡ refused 0 c = sym answered ∙ wrote.answer ∙ ap (λ (d : Option Refusal). answer_of d (length (rows_text h.busy))) e in
-          absurd (let z : ◌≡◌ {A = ℕ} 0 1 = cc in omega arith)
+          cc
 
   -- the rows written, read into a head record of the same frame, are the busy cells of the first; slots, bridges and presets are the second's
   pub rows_written_then_read : (g : Head) (qs : List Preset) (r : RowsRead) → 32 ≤ length qs → valid_record g qs ≡ true → g.slots ≡ h.slots → g.bridges ≡ h.bridges

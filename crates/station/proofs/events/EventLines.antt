@@ -1,28 +1,29 @@
 -- Laws of event lines.
 --
--- In order: a line that begins as a call has no other form (`call_form`), and no other line is a call (`no_call`); the event of what was read is
--- the line's (`call_read_lem`, `line_read`).
+-- In order: a line that begins as a call has no other form (`call_form`); the event of what was read is
+-- the line's (`call_lacks`, `call_has`, `line_lacks`, `line_has`).
 -- Assumes nothing.
-use Prim.Native.Nat.{ℕ, ◌≤◌, ◌<◌}
-use native.Mathlib.Omega.{arith}
+use Prim.Native.Nat.{ℕ}
 use mathlib.Core.Path.{◌≡◌, refl, sym, ◌∙◌, ap}
-use mathlib.Core.Bool.{true, false}
+use mathlib.Core.Bool.{true}
 use mathlib.Core.Option.{Option, none, some}
 use mathlib.Core.List.{List}
-use lib.ListN.{length, drop}
-use lib.Dec.{leb}
-use Rattle.laws.proofs.Tests.{Is, is, is_true, is_false, clash}
-use Rattle.laws.proofs.Comparisons.{le_of, gt_of, leb_no}
-use Rattle.station.specs.Limits.{most_jobs}
+use lib.ListN.{drop}
+use Rattle.std.specs.Prelude as code
+use Rattle.std.specs.Prelude.{Some, Result, Ok, Err, ok_or}
+use Rattle.station.specs.method.Numeral.{word_at}
+use Rattle.station.proofs.numbers.Recognised.{word_stands, word_end}
+use Rattle.station.specs.declared.types.Refusal.{Refusal}
 use Rattle.station.specs.Text.{bytes}
-use Rattle.station.specs.Form.{CallJobs, Form, frame_line, busy_line, preset_line, clock_line, call_line, tie_line, supply_line, jobs_of, starts, word, ◌or_else◌, made, read_jobs, print}
+use Rattle.station.specs.Form.{CallJobs, Form, frame_line, busy_line, preset_line, clock_line, call_line, tie_line, supply_line, starts, word, ◌or_else◌, made, read_jobs}
 use Rattle.station.specs.Form.{frame_in, busy_in, preset_in, supply_in, clock_in, call_in, tie_in, form}
-use Rattle.station.proofs.Form.{word_had, form_had}
+use Rattle.station.proofs.Form.{word_had}
 use Rattle.station.specs.declared.brackets.Jobs.{Jobs}
-use Rattle.station.specs.method.Bracket.{jobs_read}
-use Rattle.station.specs.method.ReadLine.{line_in}
+use Rattle.station.specs.declared.forms.Line.{Line}
+use Rattle.station.specs.declared.types.Refusal.TheVariants.{NoForm}
+use Rattle.station.specs.method.Bracket.{jobs_made, jobs_read}
+use Rattle.station.specs.method.ReadLine.{said, line_in}
 use Rattle.station.specs.Event.{call_event, line_event, event_in}
-use Rattle.station.specs.Jobs.{seen}
 
 -- ---- the first word of a call
 
@@ -35,40 +36,51 @@ pub call_form : (l : List ℕ) → starts (bytes "(call ") l ≡ true → form l
 unfolding form frame_in busy_in preset_in supply_in clock_in call_in tie_in word starts bytes
 call_form l e = word_had (bytes "(call ") l (λ r. some r) (drop 6 l) (rw e refl) (λ r h q. rw h (or_none (made call_line (read_jobs r))))
 
-no_call : (l : List ℕ) (p : CallJobs) → starts (bytes "(call ") l ≡ false → form l ≡ some (call_line p) → ⊥
-unfolding print starts bytes
-no_call l p s e =
-    let t : starts (bytes "(call ") l ≡ true = rw (form_had l (call_line p) e) refl in
-    clash (sym t ∙ s)
-
 -- ---- the event of what was read
 
-pub call_read_lem : (l : List ℕ) (j : Jobs) → starts (bytes "(call ") l ≡ true → j ≡ jobs_read (read_jobs (drop 6 l)) → j.found ≡ true
-    → call_event j ≡ event_in (form l)
-call_read_lem l j s e f = go (read_jobs (drop 6 l)) e ∙ ap event_in (sym (call_form l s))
-  where
-    counted : (p : CallJobs) → Is (leb (length (jobs_of p)) most_jobs) → call_event (jobs_read (some p)) ≡ event_in (some (call_line p))
-    counted p (is_true h) =
-        let n : length (jobs_of p) ≤ most_jobs = le_of (length (jobs_of p)) most_jobs h in
-        let q : seen (length (jobs_of p)) ≡ length (jobs_of p) = omega arith in
-        rw q refl
-    counted p (is_false h) =
-        let n : most_jobs < length (jobs_of p) = gt_of (length (jobs_of p)) most_jobs h in
-        rw (h, leb_no (seen (length (jobs_of p))) most_jobs (omega arith)) refl
+-- the place after a call's first word
+call_start : (l : List ℕ) (at : ℕ) → Some at ≡ word_at (bytes "(call ") l 0 → at ≡ 6
+unfolding bytes
+call_start l at e = word_end l (bytes "(call ") 0 at e
 
-    go : (o : Option CallJobs) → j ≡ jobs_read o → call_event j ≡ event_in (made call_line o)
-    go none e = absurd (clash (sym f ∙ ap (λ (x : Jobs). x.found) e))
-    go (some p) e = ap call_event e ∙ counted p (is (leb (length (jobs_of p)) most_jobs))
+module _ (l : List ℕ) (at : ℕ) (at-is : Some at ≡ word_at (bytes "(call ") l 0) (o : code.Option Jobs) (same : o ≡ jobs_read (read_jobs (drop at l))) where
+  -- the line is a call or none
+  call_at : form l ≡ made call_line (read_jobs (drop at l))
+  call_at = rw (call_start l at at-is) (call_form l (word_stands l (bytes "(call ") 0 at at-is))
 
-pub line_read : (hi : ℕ) (l : List ℕ) → starts (bytes "(call ") l ≡ false → line_event (line_in hi (form l)) ≡ event_in (form l)
-line_read hi l s = go (form l) refl
-  where
-    go : (o : Option Form) → form l ≡ o → line_event (line_in hi o) ≡ event_in o
-    go none e = refl
-    go (some (frame_line a b)) e = refl
-    go (some (busy_line b p)) e = refl
-    go (some (preset_line p)) e = refl
-    go (some (clock_line t)) e = refl
-    go (some (call_line p)) e = absurd (no_call l p s e)
-    go (some (tie_line hold)) e = refl
-    go (some (supply_line k)) e = refl
+  -- a call by its first word
+  pub call_lacks : (c : Refusal) → Err c ≡ ok_or o NoForm → Err c ≡ event_in (form l)
+  call_lacks c e = go (read_jobs (drop at l)) same ∙ ap event_in (sym call_at)
+    where
+      go : (p : Option CallJobs) → o ≡ jobs_read p → Err c ≡ event_in (made call_line p)
+      go none q = let z : ◌≡◌ {A = Result Jobs Refusal} (Err c) (Err NoForm) = rw q at e in let k : c ≡ NoForm = cc in rw k refl
+      go (some p) q = let z : Err c ≡ Ok (jobs_made p) = rw q at e in absurd cc
+
+  pub call_has : (j : Jobs) → Ok j ≡ ok_or o NoForm → call_event j ≡ event_in (form l)
+  call_has j e = go (read_jobs (drop at l)) same ∙ ap event_in (sym call_at)
+    where
+      go : (p : Option CallJobs) → o ≡ jobs_read p → call_event j ≡ event_in (made call_line p)
+      go none q = let z : Ok j ≡ Err NoForm = rw q at e in absurd cc
+      go (some p) q = let z : Ok j ≡ Ok (jobs_made p) = rw q at e in let k : j ≡ jobs_made p = cc in rw k refl
+
+module _ (hi : ℕ) where
+  -- any line by what it says
+  pub line_lacks : (f : Option Form) (o : code.Option Line) → o ≡ line_in hi f → (c : Refusal) → Err c ≡ ok_or o NoForm → Err c ≡ event_in f
+  line_lacks none o q c e = let z : ◌≡◌ {A = Result Line Refusal} (Err c) (Err NoForm) = rw q at e in let k : c ≡ NoForm = cc in rw k refl
+  line_lacks (some f) o q c e = let z : Err c ≡ Ok (said hi f) = rw q at e in absurd cc
+
+  said_event : (f : Form) → line_event (said hi f) ≡ event_in (some f)
+  said_event (frame_line a b) = refl
+  said_event (busy_line b p) = refl
+  said_event (preset_line p) = refl
+  said_event (clock_line t) = refl
+  said_event (call_line p) = refl
+  said_event (tie_line hold) = refl
+  said_event (supply_line k) = refl
+
+  pub line_has : (f : Option Form) (o : code.Option Line) → o ≡ line_in hi f → (l : Line) → Ok l ≡ ok_or o NoForm → line_event l ≡ event_in f
+  line_has none o q l e = let z : Ok l ≡ Err NoForm = rw q at e in absurd cc
+  line_has (some f) o q l e =
+      let z : Ok l ≡ Ok (said hi f) = rw q at e in
+      let k : l ≡ said hi f = cc in
+      ap line_event k ∙ said_event f

@@ -1,41 +1,50 @@
 -- The loop over the lines of a head: what holds between two lines, and what the reading answers at each way out.
 --
--- In order: lines that were read; between two lines (`AtLine`, `at_start`), and at a line (`LineRead`, `line_inside`, `line_bytes`, `at_next`); the
--- ways out (`out_long`, `out_ends`, `out_fails`, `out_whole`, `out_empty`); what a caller learns (`ReadAccepted`, `ReadRefused`): a head and its record
+-- In order: lines that were read; between two lines (`AtLine`, `at_start`), and at a line (`LineRead`, `lines_room`, `bytes_room`, `at_next`); a line that ends the head
+-- (`ends_begun`, `ends_same`); the ways out (`out_long`, `out_ends`, `ends_after`, `out_fails`, `out_whole`, `out_empty`); what a caller learns (`ReadAccepted`, `ReadRefused`): a head and its record
 -- (`head_back`), `read_accepted`, `read_refused`.
 -- Assumes nothing.
 use Prim.Native.Nat.{ℕ, zero, suc, ◌+◌, ◌≤◌, ◌<◌, min}
 use native.Mathlib.Omega.{arith}
 use native.Mathlib.Numerals.{add-one}
 use mathlib.Core.Path.{◌≡◌, refl, sym, ◌∙◌, ap}
-use mathlib.Core.Bool.{true, false}
-use mathlib.Core.Option.{Option}
+use mathlib.Core.Bool.{Bool, true, false, not}
+use mathlib.Core.Option.{Option, none, some}
+use Rattle.std.specs.Prelude as code-option
+use Rattle.std.specs.Prelude.{Some, None, is_some, unwrap_or}
 use mathlib.Core.List.{List, [], ◌∷◌, map}
 use lib.ListN.{length, take, drop, length-append, length-drop, length-map, take-append-drop}
 use lib.Seq.{length-take-le, take_at, drop_at}
+use Rattle.std.specs.Prelude.{Result, Ok, Err}
 use Rattle.laws.proofs.Comparisons.{ltb_yes, ltb_no}
 use Rattle.station.specs.declared.types.Preset.{Preset}
 use Rattle.station.specs.declared.types.Head.{Head}
 use Rattle.station.specs.declared.types.Refusal.{Refusal}
 use Rattle.station.specs.declared.types.Refusal.TheVariants.{OutOfPlace, TextTooLong}
-use Rattle.station.specs.declared.heads.ReadAnswer.TheVariants.{Accepted, Refused}
-use Rattle.station.specs.declared.heads.HeadRead.{HeadRead}
+use Rattle.station.specs.declared.types.Extent.{Extent}
+use Rattle.station.specs.declared.types.Fault.{Fault}
 use Rattle.station.specs.declared.heads.steps.State.{State}
-use Rattle.station.specs.declared.heads.steps.Verdict.{Verdict}
-use Rattle.station.specs.declared.heads.steps.Verdict.TheVariants.{Goes, Ends, Fails}
-use Rattle.station.specs.declared.heads.steps.Step.{Step}
+use Rattle.station.specs.declared.heads.steps.Going.TheVariants.{Goes, Ends}
 use Rattle.station.specs.Head as meant
-use Rattle.station.specs.Head.{with_presets, Valid}
+use Rattle.station.specs.Head.{preset_of, with_presets, Valid}
 use Rattle.station.specs.Text.{lines, join}
-use Rattle.station.specs.Line.{line_of}
 use Rattle.station.specs.Form.{Form, form}
 use Rattle.station.specs.Writing.{text_of}
 use Rattle.station.specs.Reading.{Reading, accepted, refused, begun, read_from, head_of}
 use Rattle.station.specs.method.ReadLine.{line_in}
 use Rattle.station.specs.Types.{refusal_in, refusal_of, preset_in, with_count, head_in}
-use Rattle.station.specs.ReadHead.{record_of, head_record, records_over, head_read}
-use Rattle.station.specs.method.HeadStep.{accepted_read, refused_read, no_state, stage_in, so_far_in, step_of}
-use Rattle.station.proofs.lines.FirstLine.{line_some, line_within, lines_at, lines_past}
+use Rattle.station.specs.ReadHead.{record_of, head_record, records_over, extent, fault, HeadRead, head_read}
+use Rattle.station.specs.method.HeadStep.{Verdict, Step, preset_said, accepted_read, refused_read, no_state, stage_in, so_far_in, step_by, after_frame, after_supply, after_busy, after_preset, supply_causes, busy_causes, preset_causes, tie_step_at, first_step, next_step, step_where, step_of}
+use Rattle.station.specs.declared.heads.steps.Stage as code
+use Rattle.station.specs.declared.heads.steps.Stage.TheVariants as stage
+use Rattle.station.specs.declared.forms.Line.{Line}
+use Rattle.station.specs.declared.forms.Line.TheVariants as line
+use Rattle.station.specs.declared.forms.Line.TheVariants.{Frame, Clock, Call}
+use Rattle.station.specs.Refusal as cause
+use Rattle.station.specs.Refusal.{try, first_of}
+use Rattle.station.proofs.Text.{lines_join}
+use lib.Dec.{eqb}
+use Rattle.laws.proofs.Tests.{Is, is, is_true, is_false}
 use Rattle.station.proofs.Writing.{read_valid, read_written}
 use Rattle.station.proofs.CodeRecords.{refusal_of_lem, refusal_in_lem}
 use Rattle.station.proofs.heads.OneLine.{records_back, presets_back}
@@ -46,8 +55,8 @@ use Rattle.station.proofs.heads.StepMeaning.{Kept, LineMeans, after_verdict, ste
 -- one line more was read: its bytes
 take_line : (ls : List (List ℕ)) (n : ℕ) (l : List ℕ) (r : List (List ℕ)) → drop n ls ≡ l ∷ r
     → length (join (take (suc n) ls)) ≡ length (join (take n ls)) + length l
-take_line [] zero l r e = absurd (let z : ◌≡◌ {A = ℕ} 0 1 = cc in omega arith)
-take_line [] (suc n) l r e = absurd (let z : ◌≡◌ {A = ℕ} 0 1 = cc in omega arith)
+take_line [] zero l r e = cc
+take_line [] (suc n) l r e = cc
 take_line (x ∷ ls) zero l r e =
     let s : x ≡ l = cc in
     omega (arith, length-append x [], ap length s)
@@ -56,23 +65,38 @@ take_line (x ∷ ls) (suc n) l r e =
 
 -- and the lines that are left
 drop_line : (ls : List (List ℕ)) (n : ℕ) (l : List ℕ) (r : List (List ℕ)) → drop n ls ≡ l ∷ r → drop (suc n) ls ≡ r
-drop_line [] zero l r e = absurd (let z : ◌≡◌ {A = ℕ} 0 1 = cc in omega arith)
-drop_line [] (suc n) l r e = absurd (let z : ◌≡◌ {A = ℕ} 0 1 = cc in omega arith)
+drop_line [] zero l r e = cc
+drop_line [] (suc n) l r e = cc
 drop_line (x ∷ ls) zero l r e = cc
 drop_line (x ∷ ls) (suc n) l r e = drop_line ls n l r e
 
+-- there are no more lines than bytes
+pub lines_few : (t : List ℕ) → length (lines t) ≤ length t
+unfolding lines
+lines_few [] = omega arith
+lines_few (b ∷ t) = go (lines_few t) (lines t) refl (is (eqb b 10))
+  where
+    go : length (lines t) ≤ length t → (ls : List (List ℕ)) → lines t ≡ ls → Is (eqb b 10) → length (lines (b ∷ t)) ≤ suc (length t)
+    go h ls e (is_true f) = rw f (omega arith)
+    go h [] e (is_false f) = rw (f, e) (omega arith)
+    go h (l ∷ ls) e (is_false f) = rw (f, e) (omega (arith, ap length e))
+
+-- some of the lines have no more bytes than all
+take_few : (ls : List (List ℕ)) (n : ℕ) → length (join (take n ls)) ≤ length (join ls)
+take_few ls zero = omega arith
+take_few [] (suc n) = omega arith
+take_few (l ∷ ls) (suc n) = omega (arith, take_few ls n, length-append l (join (take n ls)), length-append l (join ls))
+
 -- ---- between two lines
 
--- n lines of a text t were read, to the place at, and make s; the records handed in were old
-pub record AtLine (t : List ℕ) (old : List Preset) (s : State) (at n : ℕ) : Type 0 where
+-- n lines of a text t were read, of so many bytes, and make s, and the lines ls are left; the records handed in were old
+pub record AtLine (t : List ℕ) (old : List Preset) (s : State) (ls : List (List ℕ)) (bytes n : ℕ) : Type 0 where
   pub kept : Kept old s
-  pub reads : read_from n (so_far_in s) (map form (lines (drop at t))) ≡ head_of t
-  pub inside : at ≤ length t
-  pub few : n ≤ at
-  pub left : drop n (lines t) ≡ lines (drop at t)
-  pub bytes : at ≡ length (join (take n (lines t)))
+  pub reads : read_from n (so_far_in s) (map form ls) ≡ head_of t
+  pub left : drop n (lines t) ≡ ls
+  pub size : bytes ≡ length (join (take n (lines t)))
 
-pub at_start : (t : List ℕ) (old : List Preset) → length t ≤ 32768 → length old ≡ 32 → AtLine t old (no_state old) 0 0
+pub at_start : (t : List ℕ) (old : List Preset) → length t ≤ 32768 → length old ≡ 32 → AtLine t old (no_state old) (lines t) 0 0
 unfolding head_of
 at_start t old h l = record {
   kept =
@@ -86,56 +110,93 @@ at_start t old h l = record {
         past = refl;
       };
   reads = rw (ltb_no 32768 (length t) h) refl;
-  inside = omega arith;
-  few = omega arith;
   left = refl;
-  bytes = refl;
+  size = refl;
 }
 
--- Between two lines and before the text's end: l is the line there, and x is what the code makes of it.
-pub record LineRead (t : List ℕ) (old : List Preset) (s : State) (at n : ℕ) (l : List ℕ) (x : Step) : Type 0 where
-  pub here : AtLine t old s at n
-  pub within : at < length t
-  pub line : l ≡ line_of (drop at t)
+-- At a line: l is the line there, and x is what the code makes of it.
+pub record LineRead (t : List ℕ) (old : List Preset) (s : State) (l : List ℕ) (ls : List (List ℕ)) (bytes n : ℕ) (x : Step) : Type 0 where
+  pub here : AtLine t old s (l ∷ ls) bytes n
   pub step : x ≡ step_of s (line_in (min s.head.slots 64) (form l))
 
-module _ {t : List ℕ} {old : List Preset} {s : State} {at n : ℕ} {l : List ℕ} {x : Step} (a : LineRead t old s at n l x) where
+module _ {t : List ℕ} {old : List Preset} {s : State} {l : List ℕ} {ls : List (List ℕ)} {bytes n : ℕ} {x : Step} (a : LineRead t old s l ls bytes n x) where
   -- the lines that are left after it
   abbrev rest : List (Option Form)
-  rest = map form (lines (drop (at + length l) t))
-
-  line_left : lines (drop at t) ≡ l ∷ lines (drop (at + length l) t)
-  line_left = rw a.line (lines_at t at a.within)
+  rest = map form ls
 
   line_means : LineMeans old (so_far_in s) n (form l) rest x
   line_means = rw a.step (step_line old s a.here.kept n rest (form l))
 
   line_reads : (v : Verdict) → x.verdict ≡ v → head_of t ≡ after_verdict v x.state n rest
-  line_reads v e =
-      sym a.here.reads
-      ∙ ap (λ (ls : List (List ℕ)). read_from n (so_far_in s) (map form ls)) line_left
-      ∙ line_means.reads
-      ∙ ap (λ (w : Verdict). after_verdict w x.state n rest) e
+  line_reads v e = sym a.here.reads ∙ line_means.reads ∙ ap (λ (w : Verdict). after_verdict w x.state n rest) e
 
-  pub line_inside : at + length l ≤ length t
-  line_inside = rw a.line (line_within t at a.here.inside)
+  line_size : bytes + length l ≡ length (join (take (suc n) (lines t)))
+  line_size = omega (arith, take_line (lines t) n l ls a.here.left, a.here.size)
 
-  pub line_bytes : 0 < length l
-  line_bytes = let h = a.within in rw a.line (line_some (drop at t) (omega (arith, length-drop at t)))
+  -- so many lines and bytes are no more than the text's bytes
+  pub lines_room : n + 1 ≤ length t
+  lines_room = omega (arith, lines_few t, length-drop n (lines t), ap length a.here.left)
 
-  pub at_next : x.verdict ≡ Goes → AtLine t old x.state (at + length l) (n + 1)
+  pub bytes_room : bytes + length l ≤ length t
+  bytes_room = omega (arith, line_size, take_few (lines t) (suc n), ap length (lines_join t))
+
+  pub at_next : x.verdict ≡ Ok Goes → AtLine t old x.state ls (bytes + length l) (n + 1)
   at_next v =
-      let f = a.here.few in
-      let d : drop n (lines t) ≡ l ∷ lines (drop (at + length l) t) = a.here.left ∙ line_left in
       rw (add-one n)
       (record {
         kept = line_means.kept;
-        reads = sym (line_reads Goes v);
-        inside = line_inside;
-        few = omega (arith, line_bytes);
-        left = drop_line (lines t) n l (lines (drop (at + length l) t)) d;
-        bytes = omega (arith, take_line (lines t) n l (lines (drop (at + length l) t)) d, a.here.bytes);
+        reads = sym (line_reads (Ok Goes) v);
+        left = drop_line (lines t) n l ls a.here.left;
+        size = line_size;
       })
+
+-- ---- a line that ends the head comes after the frame line, and the state stays
+
+never_ends : (o : Option cause.Refusal) (s t : State) → (step_by o s t).verdict ≡ Ok Ends → ⊥
+never_ends none s t e = cc
+never_ends (some c) s t e = cc
+
+first_ends : (s : State) (l : Line) → (first_step s l).verdict ≡ Ok Ends → ⊥
+first_ends s (Frame a b) e = never_ends (first_of (try cause.out_of_limits (not (meant.frame_in_limits a b)) ∷ [])) s (after_frame s a b) e
+first_ends s (line.Busy b m) e = cc
+first_ends s (line.Preset p) e = cc
+first_ends s (Clock t) e = cc
+first_ends s (Call n) e = cc
+first_ends s (line.Tie hold) e = cc
+first_ends s (line.Supply k) e = cc
+
+tie_ends : (g : code.Stage) (s : State) (hold : Bool) → (tie_step_at g s hold).verdict ≡ Ok Ends → (tie_step_at g s hold).state ≡ s
+tie_ends stage.Frame s hold e = cc
+tie_ends stage.Supply s true e = cc
+tie_ends stage.Supply s false e = cc
+tie_ends stage.Tie s true e = cc
+tie_ends stage.Tie s false e = cc
+tie_ends (stage.Busy b) s hold e = refl
+tie_ends stage.Presets s hold e = refl
+
+next_ends : (s : State) (l : Line) → (next_step s l).verdict ≡ Ok Ends → (next_step s l).state ≡ s
+next_ends s (Frame a b) e = cc
+next_ends s (line.Busy b m) e = absurd (never_ends (first_of (busy_causes s b (is_some m))) s (after_busy s b (unwrap_or m 0)) e)
+next_ends s (line.Preset p) e = absurd (never_ends (first_of (preset_causes s (preset_said p))) s (after_preset s (preset_said p)) e)
+next_ends s (Clock t) e = refl
+next_ends s (Call n) e = refl
+next_ends s (line.Tie hold) e = tie_ends s.stage s hold e
+next_ends s (line.Supply k) e = absurd (never_ends (first_of (supply_causes s k)) s (after_supply s k) e)
+
+-- the frame line was read before
+ends_begun : (s : State) (o : code-option.Option Line) → (step_of s o).verdict ≡ Ok Ends → begun (stage_in s.stage) ≡ true
+ends_begun s None e = absurd cc
+ends_begun s (Some l) e = go (begun (stage_in s.stage)) refl
+  where
+    go : (b : Bool) → begun (stage_in s.stage) ≡ b → begun (stage_in s.stage) ≡ true
+    go true g = g
+    go false g = absurd (first_ends s l (ap (λ (x : Bool). (step_where x s l).verdict) (sym g) ∙ e))
+
+ends_same : (s : State) (o : code-option.Option Line) → (step_of s o).verdict ≡ Ok Ends → (step_of s o).state ≡ s
+ends_same s None e = refl
+ends_same s (Some l) e =
+    let g = ends_begun s (Some l) e in
+    ap (λ (x : Bool). (step_where x s l).state) g ∙ next_ends s l (ap (λ (x : Bool). (step_where x s l).verdict) (sym g) ∙ e)
 
 -- ---- the ways out
 
@@ -167,7 +228,7 @@ module _ (t : List ℕ) (old : List Preset) (head : Head) where
       made : State → ℕ → ℕ → ℕ → List Preset → HeadRead
       made s n bytes count l =
           record {
-            answer = Accepted n bytes;
+            answer = Ok (extent n bytes);
             head = with_count s.head count;
             presets = l;
           }
@@ -181,29 +242,33 @@ module _ (t : List ℕ) (old : List Preset) (head : Head) where
   unfolding head_of
   out_long h = refused_read_lem 0 TextTooLong (rw (ltb_yes 32768 (length t) h) refl)
 
-module _ {t : List ℕ} {old : List Preset} {s : State} {at n : ℕ} (head : Head) where
+module _ {t : List ℕ} {old : List Preset} {s : State} {bytes n : ℕ} (head : Head) where
   -- a line with an event's form
-  pub out_ends : {l : List ℕ} {x : Step} → LineRead t old s at n l x → x.verdict ≡ Ends → accepted_read x.state n at ≡ head_read (head_of t) head old
-  out_ends {x} a v = accepted_read_lem t old head x.state at n (line_means a).kept a.here.bytes (line_reads a Ends v)
+  pub out_ends : {l : List ℕ} {ls : List (List ℕ)} {x : Step} → LineRead t old s l ls bytes n x → x.verdict ≡ Ok Ends
+      → accepted_read x.state n bytes ≡ head_read (head_of t) head old
+  out_ends {x} a v = accepted_read_lem t old head x.state bytes n (line_means a).kept a.here.size (line_reads a (Ok Ends) v)
+
+  -- it comes after the frame line
+  pub ends_after : {l : List ℕ} {ls : List (List ℕ)} {x : Step} → LineRead t old s l ls bytes n x → x.verdict ≡ Ok Ends → begun (stage_in x.state.stage) ≡ true
+  ends_after {l} {x} a v =
+      let said = line_in (min s.head.slots 64) (form l) in
+      let same : x.state ≡ s = rw a.step (ends_same s said (rw a.step at v)) in
+      rw same (ends_begun s said (rw a.step at v))
 
   -- a line at fault
-  pub out_fails : {l : List ℕ} {x : Step} {c : Refusal} → LineRead t old s at n l x → x.verdict ≡ Fails c
+  pub out_fails : {l : List ℕ} {ls : List (List ℕ)} {x : Step} {c : Refusal} → LineRead t old s l ls bytes n x → x.verdict ≡ Err c
       → refused_read (n + 1) c head old ≡ head_read (head_of t) head old
-  out_fails {c} a v = rw (add-one n) (refused_read_lem t old head (suc n) c (line_reads a (Fails c) v))
+  out_fails {c} a v = rw (add-one n) (refused_read_lem t old head (suc n) c (line_reads a (Err c) v))
 
-  -- the end of the text: no line is left
-  end_reads : AtLine t old s at n → length t ≤ at → head_of t ≡ read_from n (so_far_in s) []
-  end_reads a h = sym a.reads ∙ ap (λ (ls : List (List ℕ)). read_from n (so_far_in s) (map form ls)) (lines_past t at h)
-
-  -- the end of the text after the frame line
-  pub out_whole : AtLine t old s at n → length t ≤ at → begun (stage_in s.stage) ≡ true → accepted_read s n at ≡ head_read (head_of t) head old
+  -- the end of the text, no line being left, after the frame line
+  pub out_whole : AtLine t old s [] bytes n → begun (stage_in s.stage) ≡ true → accepted_read s n bytes ≡ head_read (head_of t) head old
   unfolding read_from
-  out_whole a h b = accepted_read_lem t old head s at n a.kept a.bytes (rw b at (end_reads a h))
+  out_whole a b = accepted_read_lem t old head s bytes n a.kept a.size (rw b at (sym a.reads))
 
   -- "No text at all: 3 at line 1."
-  pub out_empty : AtLine t old s at n → length t ≤ at → begun (stage_in s.stage) ≡ false → refused_read 1 OutOfPlace head old ≡ head_read (head_of t) head old
+  pub out_empty : AtLine t old s [] bytes n → begun (stage_in s.stage) ≡ false → refused_read 1 OutOfPlace head old ≡ head_read (head_of t) head old
   unfolding read_from
-  out_empty a h b = refused_read_lem t old head 1 OutOfPlace (rw b at (end_reads a h))
+  out_empty a b = refused_read_lem t old head 1 OutOfPlace (rw b at (sym a.reads))
 
 -- ---- what a caller learns
 
@@ -242,26 +307,28 @@ module _ (t : List ℕ) (head : Head) (old : List Preset) where
         past = drop_at (map record_of h.presets) (drop (length h.presets) old) (length h.presets) (length-map h.presets record_of);
       }
 
-  pub read_accepted : (r : HeadRead) (n bytes : ℕ) → r ≡ head_read (head_of t) head old → r.answer ≡ Accepted n bytes → ReadAccepted t old r n bytes
+  pub read_accepted : (r : HeadRead) (n bytes : ℕ) → r ≡ head_read (head_of t) head old → r.answer ≡ Ok (extent n bytes) → ReadAccepted t old r n bytes
   read_accepted r n bytes e a = go (head_of t) refl e
     where
       go : (x : Reading) → head_of t ≡ x → r ≡ head_read x head old → ReadAccepted t old r n bytes
       go (accepted h k) q f =
-          let s : Accepted k (length (text_of h)) ≡ Accepted n bytes = ap (λ (y : HeadRead). y.answer) (sym f) ∙ a in
-          let i : k ≡ n = cc in
-          let l : length (text_of h) ≡ bytes = cc in
+          let s : ◌≡◌ {A = Result Extent Fault} (Ok (extent k (length (text_of h)))) (Ok (extent n bytes)) = ap (λ (y : HeadRead). y.answer) (sym f) ∙ a in
+          let x : extent k (length (text_of h)) ≡ extent n bytes = cc in
+          let i : k ≡ n = ap (λ (y : Extent). y.lines) x in
+          let l : length (text_of h) ≡ bytes = ap (λ (y : Extent). y.bytes) x in
           rw (f, ← i, ← l) (accepted_back h k q)
-      go (refused k c) q f = absurd (let z : ◌≡◌ {A = ℕ} 0 1 = cc in omega arith)
+      go (refused k c) q f = cc
 
-  pub read_refused : (r : HeadRead) (n : ℕ) (c : Refusal) → r ≡ head_read (head_of t) head old → r.answer ≡ Refused n c → ReadRefused t head old r n c
+  pub read_refused : (r : HeadRead) (n : ℕ) (c : Refusal) → r ≡ head_read (head_of t) head old → r.answer ≡ Err (fault n c) → ReadRefused t head old r n c
   read_refused r n c e a = go (head_of t) refl e
     where
       go : (x : Reading) → head_of t ≡ x → r ≡ head_read x head old → ReadRefused t head old r n c
-      go (accepted h k) q f = absurd (let z : ◌≡◌ {A = ℕ} 0 1 = cc in omega arith)
+      go (accepted h k) q f = cc
       go (refused k d) q f =
-          let s : Refused k (refusal_of d) ≡ Refused n c = ap (λ (y : HeadRead). y.answer) (sym f) ∙ a in
-          let i : k ≡ n = cc in
-          let l : refusal_of d ≡ c = cc in
+          let s : ◌≡◌ {A = Result Extent Fault} (Err (fault k (refusal_of d))) (Err (fault n c)) = ap (λ (y : HeadRead). y.answer) (sym f) ∙ a in
+          let x : fault k (refusal_of d) ≡ fault n c = cc in
+          let i : k ≡ n = ap (λ (y : Fault). y.line) x in
+          let l : refusal_of d ≡ c = ap (λ (y : Fault). y.cause) x in
           record {
             reads = q ∙ ap (λ (m : ℕ). refused m d) i ∙ ap (refused n) (sym (refusal_of_lem d) ∙ ap refusal_in l);
             head = ap (λ (y : HeadRead). y.head) f;

@@ -7,8 +7,11 @@ use Prim.Native.Nat.{ℕ, suc, ◌+◌, ◌-◌, ◌≤◌, ◌<◌, min}
 use native.Mathlib.Omega.{arith}
 use native.Mathlib.Numerals.{add-one}
 use mathlib.Core.Path.{◌≡◌, refl, sym, ◌∙◌, ap, subst}
-use mathlib.Core.Bool.{Bool, true, false, cond, ◌&&◌}
+use mathlib.Core.Bool.{Bool, true, false, ◌&&◌}
 use mathlib.Core.Option.{Option, none, some}
+use Rattle.std.specs.Prelude as code-option
+use Rattle.std.specs.Prelude.{Some, is_some, Ok, Err}
+use Rattle.std.specs.Bool.{then_some}
 use mathlib.Core.List.{List, [], ◌∷◌, ◌++◌, map}
 use lib.ListN.{length, take, drop, set, length-map, length-set}
 use lib.Seq.{drop-drop, take-suc-set, drop-set-lt, length-take-le}
@@ -20,19 +23,17 @@ use Rattle.station.specs.declared.types.Preset.{Preset}
 use Rattle.station.specs.declared.heads.steps.Stage as code
 use Rattle.station.specs.declared.heads.steps.Stage.TheVariants.{Frame, Supply, Tie, Busy, Presets}
 use Rattle.station.specs.declared.heads.steps.State.{State}
-use Rattle.station.specs.declared.heads.steps.Verdict.{Verdict}
-use Rattle.station.specs.declared.heads.steps.Verdict.TheVariants.{Goes, Ends, Fails}
-use Rattle.station.specs.declared.heads.steps.Step.{Step}
+use Rattle.station.specs.declared.heads.steps.Going.TheVariants.{Goes, Ends}
 use Rattle.station.specs.Head as meant
 use Rattle.station.specs.Head.{preset_of, with_busy, with_presets, within, preset_in_limits, has_number}
 use Rattle.station.specs.Refusal.{first_of}
 use Rattle.station.specs.Form.{Pairs, Form, frame_line, busy_line, preset_line, clock_line, call_line, tie_line, supply_line}
 use Rattle.station.specs.Writing.{mask_of, ordered}
 use Rattle.station.specs.Reading.{Reading, accepted, refused, Stage, at_frame, at_supply, at_tie, at_busy, at_presets, begun, SoFar, supply_misplaced, busy_misplaced, tried, read_from}
-use Rattle.station.specs.method.ReadLine.{line_in}
+use Rattle.station.specs.method.ReadLine.{said, line_in}
 use Rattle.station.specs.Types.{refusal_in, preset_in, with_supplied, with_hold, head_in}
 use Rattle.station.specs.ReadHead.{record_of}
-use Rattle.station.specs.method.HeadStep.{stage_in, so_far_in, step_of, step_where, first_step, next_step, after_frame, after_busy, after_preset}
+use Rattle.station.specs.method.HeadStep.{Verdict, Step, stage_in, so_far_in, step_of, step_where, first_step, next_step, after_frame, after_busy, after_preset}
 use Rattle.station.specs.method.HeadStep.{frame_step, supply_step, tie_step_at, busy_step, preset_step}
 use Rattle.station.proofs.numbers.Decimals.{seen_leb, seen_within}
 use Rattle.station.proofs.ValidHead.{within_high, limits_of}
@@ -82,9 +83,9 @@ pub record Kept (old : List Preset) (s : State) : Type 0 where
 
 -- the reading after n lines and one with that verdict, whose state is s: it goes on with the lines that are left, or it is decided
 abbrev pub after_verdict : Verdict → State → ℕ → List (Option Form) → Reading
-after_verdict Goes s n ls = read_from (suc n) (so_far_in s) ls
-after_verdict Ends s n ls = accepted (head_in s.head s.presets) n
-after_verdict (Fails c) s n ls = refused (suc n) (refusal_in c)
+after_verdict (Ok Goes) s n ls = read_from (suc n) (so_far_in s) ls
+after_verdict (Ok Ends) s n ls = accepted (head_in s.head s.presets) n
+after_verdict (Err c) s n ls = refused (suc n) (refusal_in c)
 
 abbrev pub after_step : Step → ℕ → List (Option Form) → Reading
 after_step x n ls = after_verdict x.verdict x.state n ls
@@ -93,6 +94,11 @@ after_step x n ls = after_verdict x.verdict x.state n ls
 pub record LineMeans (old : List Preset) (r : SoFar) (n : ℕ) (f : Option Form) (ls : List (Option Form)) (x : Step) : Type 0 where
   pub reads : read_from n r (f ∷ ls) ≡ after_step x n ls
   pub kept : Kept old x.state
+
+-- what was found by a test is there just if the test was passed
+some_then : {A : Type 0} (b : Bool) (x : A) → is_some (then_some b x) ≡ b
+some_then true x = refl
+some_then false x = refl
 
 -- ---- line 1
 
@@ -131,16 +137,15 @@ module _ (old : List Preset) (s : State) (k : Kept old s) (n : ℕ) (ls : List (
         go (is_false w) = frame_no a b w
 
     -- line 1: any form but a frame's is out of its place, whatever its values
-    pub first_line : (hi : ℕ) (f : Option Form) → LineMeans old (so_far_in s) n f ls (first_step s (line_in hi f))
+    pub first_line : (hi : ℕ) (f : Form) → LineMeans old (so_far_in s) n (some f) ls (first_step s (said hi f))
     unfolding read_from tried first_of
-    first_line hi none = record { reads = refl; kept = k }
-    first_line hi (some (frame_line a b)) = frame_line_lem a b
-    first_line hi (some (busy_line b p)) = record { reads = rw (not_begun (stage_in s.stage) e) refl; kept = k }
-    first_line hi (some (preset_line p)) = record { reads = rw e refl; kept = k }
-    first_line hi (some (clock_line t)) = record { reads = rw e refl; kept = k }
-    first_line hi (some (call_line p)) = record { reads = rw e refl; kept = k }
-    first_line hi (some (tie_line hold)) = record { reads = rw (not_begun (stage_in s.stage) e) refl; kept = k }
-    first_line hi (some (supply_line m)) = record { reads = rw (not_begun (stage_in s.stage) e) refl; kept = k }
+    first_line hi (frame_line a b) = frame_line_lem a b
+    first_line hi (busy_line b p) = record { reads = rw (not_begun (stage_in s.stage) e) refl; kept = k }
+    first_line hi (preset_line p) = record { reads = rw e refl; kept = k }
+    first_line hi (clock_line t) = record { reads = rw e refl; kept = k }
+    first_line hi (call_line p) = record { reads = rw e refl; kept = k }
+    first_line hi (tie_line hold) = record { reads = rw (not_begun (stage_in s.stage) e) refl; kept = k }
+    first_line hi (supply_line m) = record { reads = rw (not_begun (stage_in s.stage) e) refl; kept = k }
 
   -- ---- a line after line 1
 
@@ -170,26 +175,30 @@ module _ (old : List Preset) (s : State) (k : Kept old s) (n : ℕ) (ls : List (
     abbrev early : Bool
     early = busy_misplaced (stage_in s.stage) b
 
-    abbrev BusyMeans : ℕ → ℕ → Bool → Type 0
-    BusyMeans b' mask o = LineMeans old (so_far_in s) n (some (busy_line b p)) ls (busy_step s b' mask o)
+    abbrev BusyMeans : ℕ → code-option.Option ℕ → Type 0
+    BusyMeans b' mask = LineMeans old (so_far_in s) n (some (busy_line b p)) ls (busy_step s b' mask)
+
+    -- a mask is there just if the stretches are in order
+    some_test : is_some (then_some (ordered 1 s.head.slots p) (mask_of p)) ≡ ordered 1 s.head.slots p
+    some_test = some_then (ordered 1 s.head.slots p) (mask_of p)
 
     -- whatever the other values
-    busy_early : (mask : ℕ) (o : Bool) → early ≡ true → BusyMeans (seen b) mask o
+    busy_early : (mask : code-option.Option ℕ) → early ≡ true → BusyMeans (seen b) mask
     unfolding read_from tried first_of
-    busy_early mask o e =
+    busy_early mask e =
         rw (seen_misplaced (stage_in s.stage) b k.least, e) (record { reads = rw e refl; kept = k })
 
     -- in its place, and outside the frame
-    busy_no : (mask : ℕ) → early ≡ false → (within 1 s.head.bridges b && ordered 1 s.head.slots p) ≡ false
-        → BusyMeans (seen b) mask (ordered 1 s.head.slots p)
+    busy_no : early ≡ false → (within 1 s.head.bridges b && ordered 1 s.head.slots p) ≡ false
+        → BusyMeans (seen b) (then_some (ordered 1 s.head.slots p) (mask_of p))
     unfolding read_from tried first_of
-    busy_no mask e w =
+    busy_no e w =
         let g = k.bridges in
-        rw (seen_misplaced (stage_in s.stage) b k.least, e, seen_within 1 s.head.bridges b (omega arith) (omega arith), w)
+        rw (seen_misplaced (stage_in s.stage) b k.least, e, seen_within 1 s.head.bridges b (omega arith) (omega arith), some_test, w)
         (record { reads = rw (e, w) refl; kept = k })
 
     -- within it: the values were read as they are, and the bridge has the mask of its stretches
-    busy_yes : early ≡ false → within 1 s.head.bridges b ≡ true → ordered 1 s.head.slots p ≡ true → BusyMeans b (mask_of p) true
+    busy_yes : early ≡ false → within 1 s.head.bridges b ≡ true → ordered 1 s.head.slots p ≡ true → BusyMeans b (Some (mask_of p))
     unfolding read_from tried first_of
     busy_yes e w o =
         rw (e, w)
@@ -207,13 +216,12 @@ module _ (old : List Preset) (s : State) (k : Kept old s) (n : ℕ) (ls : List (
           kept = busy_kept b (mask_of p) w;
         })
 
-    busy_line_lem : BusyMeans (seen b) (cond (ordered 1 s.head.slots p) (mask_of p) 0) (ordered 1 s.head.slots p)
+    busy_line_lem : BusyMeans (seen b) (then_some (ordered 1 s.head.slots p) (mask_of p))
     busy_line_lem = go (is early) (is (within 1 s.head.bridges b && ordered 1 s.head.slots p))
       where
-        go : Is early → Is (within 1 s.head.bridges b && ordered 1 s.head.slots p)
-            → BusyMeans (seen b) (cond (ordered 1 s.head.slots p) (mask_of p) 0) (ordered 1 s.head.slots p)
-        go (is_true e) w = busy_early _ _ e
-        go (is_false e) (is_false w) = busy_no _ e w
+        go : Is early → Is (within 1 s.head.bridges b && ordered 1 s.head.slots p) → BusyMeans (seen b) (then_some (ordered 1 s.head.slots p) (mask_of p))
+        go (is_true e) w = busy_early _ e
+        go (is_false e) (is_false w) = busy_no e w
         go (is_false e) (is_true w) =
             let v = left_of (within 1 s.head.bridges b) (ordered 1 s.head.slots p) w in
             let o = right_of (within 1 s.head.bridges b) (ordered 1 s.head.slots p) w in
@@ -378,25 +386,26 @@ module _ (old : List Preset) (s : State) (k : Kept old s) (n : ℕ) (ls : List (
             rw sm (supply_yes e w)
 
   -- a line after line 1; an event's form ends the head
-  pub next_line : begun (stage_in s.stage) ≡ true → (f : Option Form) → LineMeans old (so_far_in s) n f ls (next_step s (line_in s.head.slots f))
+  pub next_line : begun (stage_in s.stage) ≡ true → (f : Form) → LineMeans old (so_far_in s) n (some f) ls (next_step s (said s.head.slots f))
   unfolding read_from tried first_of
-  next_line g none = record { reads = refl; kept = k }
-  next_line g (some (frame_line a b)) = record { reads = rw g refl; kept = k }
-  next_line g (some (busy_line b p)) = busy_line_lem b p
-  next_line g (some (preset_line p)) = preset_line_lem g p
-  next_line g (some (clock_line t)) = record { reads = rw g refl; kept = k }
-  next_line g (some (call_line p)) = record { reads = rw g refl; kept = k }
-  next_line g (some (tie_line hold)) = tie_line_lem g s.stage refl hold
-  next_line g (some (supply_line m)) = supply_line_lem m
+  next_line g (frame_line a b) = record { reads = rw g refl; kept = k }
+  next_line g (busy_line b p) = busy_line_lem b p
+  next_line g (preset_line p) = preset_line_lem g p
+  next_line g (clock_line t) = record { reads = rw g refl; kept = k }
+  next_line g (call_line p) = record { reads = rw g refl; kept = k }
+  next_line g (tie_line hold) = tie_line_lem g s.stage refl hold
+  next_line g (supply_line m) = supply_line_lem m
 
   -- ---- a line wherever it stands
 
   pub step_line : (f : Option Form) → LineMeans old (so_far_in s) n f ls (step_of s (line_in (min s.head.slots 64) f))
-  step_line f =
+  unfolding read_from
+  step_line none = record { reads = refl; kept = k }
+  step_line (some f) =
       let h = k.slots in
       let e : min s.head.slots 64 ≡ s.head.slots = omega arith in
       rw e (go (is (begun (stage_in s.stage))))
     where
-      go : Is (begun (stage_in s.stage)) → LineMeans old (so_far_in s) n f ls (step_of s (line_in s.head.slots f))
-      go (is_true b) = subst (λ (x : Bool). LineMeans old (so_far_in s) n f ls (step_where x s (line_in s.head.slots f))) (sym b) (next_line b f)
-      go (is_false b) = subst (λ (x : Bool). LineMeans old (so_far_in s) n f ls (step_where x s (line_in s.head.slots f))) (sym b) (first_line b s.head.slots f)
+      go : Is (begun (stage_in s.stage)) → LineMeans old (so_far_in s) n (some f) ls (step_of s (line_in s.head.slots (some f)))
+      go (is_true b) = subst (λ (x : Bool). LineMeans old (so_far_in s) n (some f) ls (step_where x s (said s.head.slots f))) (sym b) (next_line b f)
+      go (is_false b) = subst (λ (x : Bool). LineMeans old (so_far_in s) n (some f) ls (step_where x s (said s.head.slots f))) (sym b) (first_line b s.head.slots f)

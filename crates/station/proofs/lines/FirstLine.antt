@@ -2,7 +2,7 @@
 --
 -- In order: it is a front of the text (`line_front`, `line_length`) and not empty where the text is not (`line_some`), and the rest follows (`line_rest`);
 -- a line before a text (`line_before`, `line_bytes`); the lines of a text one
--- after the other (`lines_first`), and from a place on (`lines_at`, `lines_past`); how long the line at a place is (`line_here`, `line_further`,
+-- after the other (`lines_first`, `lines_empty`, `lines_split`), and from a place on (`lines_at`, `lines_past`); how long the line at a place is (`line_here`, `line_further`,
 -- `line_past`), and that it is a part of the text (`line_none`, `line_within`, `line_part`, `line_short`).
 -- Assumes nothing.
 use Prim.Native.Nat.{ℕ, suc, ◌+◌, ◌≤◌, ◌<◌}
@@ -84,6 +84,16 @@ lines_cons b (c ∷ t) = go (lines_cons c t) (is (eqb b 10))
 pub lines_first : (t : List ℕ) → 0 < length t → lines t ≡ line_of t ∷ lines (drop (length (line_of t)) t)
 lines_first [] h = absurd (omega arith)
 lines_first (b ∷ t) h = lines_cons b t
+
+-- an empty text has none
+pub lines_empty : (t : List ℕ) → length t ≡ 0 → lines t ≡ []
+unfolding lines
+lines_empty [] e = refl
+lines_empty (b ∷ t) e = absurd (omega arith)
+
+-- the same for a text that was cut after its first line
+pub lines_split : (t l r : List ℕ) (n : ℕ) → 0 < length t → n ≡ length (line_of t) → l ≡ take n t → r ≡ drop n t → lines t ≡ l ∷ lines r
+lines_split t l r n h e front back = rw (front, back, e, line_front t) (lines_first t h)
 
 -- the lines from a place on: the line there, and then those after it
 pub lines_at : (t : List ℕ) (i : ℕ) → i < length t → lines (drop i t) ≡ line_of (drop i t) ∷ lines (drop (i + length (line_of (drop i t))) t)

@@ -3,8 +3,8 @@
 -- In order: a word byte by byte (`starts_more`, `starts_other`, `starts_done`, `starts_length`, `starts_longer`, `starts_none`,
 -- `closes_short`); a digit at a place (`leads_at`, `leads_past`, `lead`); the digits from a place on (`count_more`, `count_none`,
 -- `front_more`, `front_none`); when they are a number (`plain_none`, `plain_digits`, `plain_some`, `plain_inside`); a value that stops at
--- 65,535 (`seen_from`, `seen_more`), and that this is harmless (`seen_leb`, `seen_leb_of`, `seen_within`); the answers of `number_then` and
--- `number_last` (`then-..`, `last-..`).
+-- 65,535 (`seen_from`, `seen_more`), and that this is harmless (`seen_leb`, `seen_leb_of`, `seen_within`); a number at a place (`stands`,
+-- `stands_none`, `then_fits`).
 -- Assumes nothing.
 use Prim.Native.Nat.{ℕ, suc, ◌+◌, ◌-◌, ◌*◌, ◌≤◌, ◌<◌}
 use native.Mathlib.Omega.{arith}
@@ -19,8 +19,8 @@ use Rattle.laws.proofs.Comparisons.{eqb_yes, eqb_no, eq_of, ne_of, le_of, gt_of,
 use Rattle.station.specs.Head.{within}
 use Rattle.station.specs.Decimal.{is_digit, digit_count, plain, value_from}
 use Rattle.station.specs.Form.{starts}
-use Rattle.station.specs.Text.{bytes}
-use Rattle.station.specs.method.Numeral.{leads, front_from, numeral_at, no_numeral, numeral_then, closes, numeral_last}
+use Rattle.std.specs.Prelude.{Option, Some, None}
+use Rattle.station.specs.method.Numeral.{leads, front, front_from, numeral_at, closes}
 use Rattle.station.specs.declared.numbers.Numeral.{Numeral}
 use Rattle.station.proofs.Decimal.{digit_low, digit_high}
 use Rattle.station.specs.Jobs.{seen}
@@ -208,40 +208,36 @@ seen_leb_of k v h =
 pub seen_within : (lo hi v : ℕ) → lo < 65535 → hi < 65535 → within lo hi (seen v) ≡ within lo hi v
 seen_within lo hi v l h = rw (seen_leb_of lo v l, seen_leb v hi h) refl
 
--- ---- a number, and what follows it
+-- ---- a number at a place
 
-module _ (t : List ℕ) (at : ℕ) (n : Numeral) (same : n ≡ numeral_at t at) where
-  found_at : plain (drop at t) ≡ n.found
-  found_at = sym (ap (λ (x : Numeral). x.found) same)
+-- the number n stands at a place
+pub record Stands (t : List ℕ) (at : ℕ) (n : Numeral) : Type 0 where
+  pub plain : plain (drop at t) ≡ true
+  pub value : n.value ≡ seen (front (drop at t))
+  pub next : n.next ≡ at + digit_count (drop at t)
 
-  next_at : n.next ≡ at + digit_count (drop at t)
-  next_at = ap (λ (x : Numeral). x.next) same
+module _ (t : List ℕ) (at : ℕ) where
+  pub stands : (n : Numeral) → Some n ≡ numeral_at t at → Stands t at n
+  stands n e = go (is (plain (drop at t)))
+    where
+      go : Is (plain (drop at t)) → Stands t at n
+      go (is_true p) =
+          let s : Some n ≡ Some (record { value = seen (front (drop at t)); next = at + digit_count (drop at t) }) = rw p at e in
+          let q : n ≡ record { value = seen (front (drop at t)); next = at + digit_count (drop at t) } = cc in
+          record { plain = p; value = ap (λ (x : Numeral). x.value) q; next = ap (λ (x : Numeral). x.next) q }
+      go (is_false p) = let s : Some n ≡ None = rw p at e in absurd cc
 
-  -- the answers of `number_then`: no number, a number without the word, both
-  pub then_missing : (w : List ℕ) (r : Numeral) → r ≡ no_numeral → n.found ≡ false → r ≡ numeral_then w t at
-  then_missing w r d e = rw (found_at, e) d
+  pub stands_none : None ≡ numeral_at t at → plain (drop at t) ≡ false
+  stands_none e = go (is (plain (drop at t)))
+    where
+      go : Is (plain (drop at t)) → plain (drop at t) ≡ false
+      go (is_true p) =
+          let s : ◌≡◌ {A = Option Numeral} None (Some (record { value = seen (front (drop at t)); next = at + digit_count (drop at t) })) = rw p at e in
+          absurd cc
+      go (is_false p) = p
 
-  pub then_other : (w : List ℕ) (r : Numeral) → r ≡ no_numeral → n.found ≡ true → starts w (drop n.next t) ≡ false → r ≡ numeral_then w t at
-  then_other w r d e s = rw (found_at, e, rw next_at at s) d
-
-  pub then_found : (w : List ℕ) → n.found ≡ true → starts w (drop n.next t) ≡ true
-      → record { found = true; value = n.value; next = n.next + length w } ≡ numeral_then w t at
-  then_found w e s = rw (found_at, e, rw next_at at s, same) refl
-
-  pub then_fits : (w : List ℕ) → n.found ≡ true → starts w (drop n.next t) ≡ true → n.next + length w ≤ length t
-  then_fits w e s =
-      omega (arith, next_at, plain_inside t at (found_at ∙ e), starts_length w (drop n.next t) s, length-drop n.next t)
-
-  -- the answers of `number_last`: no number, a number that does not end the line, one that does
-  pub last_missing : (r : Numeral) → r ≡ no_numeral → n.found ≡ false → r ≡ numeral_last t at
-  last_missing r d e = rw (found_at, e) d
-
-  pub last_other : (r : Numeral) → r ≡ no_numeral → n.found ≡ true → closes (bytes ")\n") t n.next ≡ false → r ≡ numeral_last t at
-  last_other r d e s =
-      let q : closes (bytes ")\n") t (at + digit_count (drop at t)) ≡ false = rw next_at at s in
-      rw (found_at, e, q) d
-
-  pub last_found : n.found ≡ true → closes (bytes ")\n") t n.next ≡ true → record { found = true; value = n.value; next = n.next } ≡ numeral_last t at
-  last_found e s =
-      let q : closes (bytes ")\n") t (at + digit_count (drop at t)) ≡ true = rw next_at at s in
-      rw (found_at, e, q, same) refl
+  -- a number and the word after it lie in the text
+  pub then_fits : (n : Numeral) → Some n ≡ numeral_at t at → (w : List ℕ) → starts w (drop n.next t) ≡ true → n.next + length w ≤ length t
+  then_fits n e w s =
+      let h = stands n e in
+      omega (arith, h.next, plain_inside t at h.plain, starts_length w (drop n.next t) s, length-drop n.next t)

@@ -1,25 +1,30 @@
 -- Laws of the steps of a recogniser at a place of a text: what each of them makes of what the code found there.
 --
 -- In order: a word (`word_yes`, `word_no`); a number (`number_yes`, `number_no`); a word that ends the text (`ends_yes`, `ends_no`); what was
--- picked (`picked`, `passed_over`, `same_picked`); a number and a word after it (`then_yes`, `then_no`, `then_value`, `then_next`); a number
--- that ends the line (`last_yes`, `last_no`, `last_value`).
+-- found by a test (`passed`, `passed_value`, `failed_test`); a word at a place (`word_stands`, `word_end`, `word_inside`, `word_read`, `word_lacks`); a number and a word after it (`stands_then`, `then_yes`, `then_no`, `then_value`); a
+-- number that ends the line (`last_yes`, `last_no`, `last_value`); a word, a number and the end of the line (`lone_value`, `lone_yes`, `lone_no`).
 -- Assumes nothing.
 use Prim.Native.Nat.{ℕ, ◌+◌, ◌≤◌, ◌<◌}
+use native.Mathlib.Omega.{arith}
 use mathlib.Core.Path.{◌≡◌, refl, sym, ◌∙◌, ap}
-use mathlib.Core.Bool.{Bool, true, false, ◌&&◌}
+use mathlib.Core.Bool.{Bool, true, false}
 use mathlib.Core.Option.{Option, none, some}
 use mathlib.Core.List.{List}
-use lib.ListN.{length, drop, drop_of_length-le}
+use lib.ListN.{length, drop, drop_of_length-le, length-drop}
 use lib.Seq.{drop-drop, drop-cons}
 use lib.Dec.{leb}
-use Rattle.laws.proofs.Tests.{Is, is, is_true, is_false, clash, left_of, right_of}
+use Rattle.laws.proofs.Tests.{Is, is, is_true, is_false, left_of, right_of}
 use Rattle.laws.proofs.Comparisons.{le_of, gt_of}
 use Rattle.station.specs.declared.numbers.Numeral.{Numeral}
 use Rattle.station.specs.Text.{bytes}
 use Rattle.station.specs.Decimal.{digit_count, plain}
 use Rattle.station.specs.Form.{starts, word, number, whole}
-use Rattle.station.specs.method.Numeral.{front, closes, pick_numeral, numeral_then, numeral_last}
+use Rattle.std.specs.Prelude as code
+use Rattle.std.specs.Prelude.{Some, None, option_map}
+use Rattle.std.specs.Bool.{then_some}
+use Rattle.station.specs.method.Numeral.{front, word_at, closes, numeral_then, numeral_last, lone_numeral}
 use Rattle.station.specs.Jobs.{seen}
+use Rattle.station.proofs.numbers.Decimals.{starts_length}
 
 module _ {A : Type 0} (t : List ℕ) where
   pub word_yes : (w : List ℕ) (i j : ℕ) (k : List ℕ → Option A) → starts w (drop i t) ≡ true → i + length w ≡ j → word w (drop i t) k ≡ k (drop j t)
@@ -62,75 +67,154 @@ module _ {A : Type 0} (t : List ℕ) where
 
 -- ---- a number and what follows it
 
-pub picked : (b : Bool) (n r : Numeral) → r ≡ pick_numeral b n → r.found ≡ true → b ≡ true
-picked true n r e f = refl
-picked false n r e f = absurd (clash (sym f ∙ ap (λ (x : Numeral). x.found) e))
+-- what was found where a test was passed
+pub passed : {A : Type 0} (b : Bool) (x a : A) → Some a ≡ then_some b x → b ≡ true
+passed true x a e = refl
+passed false x a e = absurd cc
 
-pub passed_over : (b : Bool) (n r : Numeral) → n.found ≡ true → r ≡ pick_numeral b n → r.found ≡ false → b ≡ false
-passed_over true n r y e f = absurd (clash (sym y ∙ sym (ap (λ (x : Numeral). x.found) e) ∙ f))
-passed_over false n r y e f = refl
+pub passed_value : {A : Type 0} (b : Bool) (x a : A) → Some a ≡ then_some b x → a ≡ x
+passed_value true x a e = cc
+passed_value false x a e = absurd cc
 
-pub same_picked : (b : Bool) (n r : Numeral) → r ≡ pick_numeral b n → r.found ≡ true → r ≡ n
-same_picked true n r e f = e
-same_picked false n r e f = absurd (clash (sym f ∙ ap (λ (x : Numeral). x.found) e))
+pub failed_test : {A : Type 0} (b : Bool) (x : A) → None ≡ then_some b x → b ≡ false
+failed_test true x e = absurd cc
+failed_test false x e = refl
 
-module _ (t w : List ℕ) (i : ℕ) (n : Numeral) (same : n ≡ numeral_then w t i) where
-  abbrev both_then : Bool
-  both_then = plain (drop i t) && starts w (drop (i + digit_count (drop i t)) t)
+module _ (t w : List ℕ) (i : ℕ) where
+  abbrev stands_word : Bool
+  stands_word = starts w (drop i t)
 
-  abbrev found_then : Numeral
-  found_then = record { found = true; value = seen (front (drop i t)); next = i + digit_count (drop i t) + length w }
+  -- a word that stands at a place
+  pub word_stands : (j : ℕ) → Some j ≡ word_at w t i → stands_word ≡ true
+  word_stands j e = passed stands_word (i + length w) j e
 
-  -- the value is the number's, as it is read
-  pub then_value : n.found ≡ true → n.value ≡ seen (front (drop i t))
-  then_value f = ap (λ (x : Numeral). x.value) (same_picked both_then found_then n same f)
+  pub word_end : (j : ℕ) → Some j ≡ word_at w t i → j ≡ i + length w
+  word_end j e = passed_value stands_word (i + length w) j e
 
-  pub then_next : n.found ≡ true → i + digit_count (drop i t) + length w ≡ n.next
-  then_next f = sym (ap (λ (x : Numeral). x.next) (same_picked both_then found_then n same f))
+  pub word_inside : (j : ℕ) → Some j ≡ word_at w t i → 0 < length w → j ≤ length t
+  word_inside j e h = omega (arith, word_end j e, starts_length w (drop i t) (word_stands j e), length-drop i t)
 
-  pub then_yes : {A : Type 0} → n.found ≡ true → (k : ℕ → List ℕ → Option A)
-      → number (drop i t) (λ v l. word w l (k v)) ≡ k (front (drop i t)) (drop n.next t)
-  then_yes f k =
-      let b = picked both_then found_then n same f in
-      let p = left_of (plain (drop i t)) (starts w (drop (i + digit_count (drop i t)) t)) b in
-      let s = right_of (plain (drop i t)) (starts w (drop (i + digit_count (drop i t)) t)) b in
-      number_yes t i (i + digit_count (drop i t)) (λ v l. word w l (k v)) p refl
-      ∙ word_yes t w (i + digit_count (drop i t)) n.next (k (front (drop i t))) s (then_next f)
+  module _ {A : Type 0} (k : List ℕ → Option A) where
+    pub word_read : (j : ℕ) → Some j ≡ word_at w t i → word w (drop i t) k ≡ k (drop j t)
+    word_read j e = word_yes t w i j k (word_stands j e) (sym (word_end j e))
 
-  pub then_no : {A : Type 0} → n.found ≡ false → (k : ℕ → List ℕ → Option A) → number (drop i t) (λ v l. word w l (k v)) ≡ none
-  then_no f k = go (is (plain (drop i t)))
+    pub word_lacks : None ≡ word_at w t i → word w (drop i t) k ≡ none
+    word_lacks e = word_no t w i k (failed_test stands_word (i + length w) e)
+
+module _ (t w : List ℕ) (i : ℕ) where
+  -- where the number at a place ends
+  abbrev digits_end : ℕ
+  digits_end = i + digit_count (drop i t)
+
+  -- a number stands at a place and the word after it: n is its value, and the place after the word
+  pub record StandsThen (n : Numeral) : Type 0 where
+    pub plain : plain (drop i t) ≡ true
+    pub word : Some n.next ≡ word_at w t digits_end
+    pub value : n.value ≡ seen (front (drop i t))
+
+  abbrev with_word : ℕ → Numeral
+  with_word next = record { value = seen (front (drop i t)); next = next }
+
+  pub stands_then : (n : Numeral) → Some n ≡ numeral_then w t i → StandsThen n
+  stands_then n e = go (is (plain (drop i t)))
     where
-      go : Is (plain (drop i t)) → number (drop i t) (λ v l. word w l (k v)) ≡ none
-      go (is_true p) =
-          let s : starts w (drop (i + digit_count (drop i t)) t) ≡ false = rw p at (passed_over both_then found_then n refl same f) in
-          number_yes t i (i + digit_count (drop i t)) (λ v l. word w l (k v)) p refl
-          ∙ word_no t w (i + digit_count (drop i t)) (k (front (drop i t))) s
-      go (is_false p) = number_no t i (λ v l. word w l (k v)) p
+      after : plain (drop i t) ≡ true → (o : code.Option ℕ) → word_at w t digits_end ≡ o → Some n ≡ option_map with_word o → StandsThen n
+      after p None q s = absurd cc
+      after p (Some j) q s =
+          let same : n ≡ with_word j = cc in
+          record { plain = p; word = ap (λ (x : Numeral). Some x.next) same ∙ sym q; value = ap (λ (x : Numeral). x.value) same }
 
-module _ (t : List ℕ) (i : ℕ) (n : Numeral) (same : n ≡ numeral_last t i) where
-  abbrev both_last : Bool
-  both_last = plain (drop i t) && closes (bytes ")\n") t (i + digit_count (drop i t))
+      go : Is (plain (drop i t)) → StandsThen n
+      go (is_true p) = after p (word_at w t digits_end) refl (rw p at e)
+      go (is_false p) = let s : Some n ≡ None = rw p at e in absurd cc
 
-  abbrev found_last : Numeral
-  found_last = record { found = true; value = seen (front (drop i t)); next = i + digit_count (drop i t) }
+  pub then_value : (n : Numeral) → Some n ≡ numeral_then w t i → n.value ≡ seen (front (drop i t))
+  then_value n e = (stands_then n e).value
 
-  pub last_value : n.found ≡ true → n.value ≡ seen (front (drop i t))
-  last_value f = ap (λ (x : Numeral). x.value) (same_picked both_last found_last n same f)
+  module _ {A : Type 0} (k : ℕ → List ℕ → Option A) where
+    pub then_yes : (n : Numeral) → Some n ≡ numeral_then w t i → number (drop i t) (λ v l. word w l (k v)) ≡ k (front (drop i t)) (drop n.next t)
+    then_yes n e =
+        let h = stands_then n e in
+        number_yes t i digits_end (λ v l. word w l (k v)) h.plain refl
+        ∙ word_read t w digits_end (k (front (drop i t))) n.next h.word
 
-  pub last_yes : {A : Type 0} → n.found ≡ true → (a : ℕ → A) → number (drop i t) (λ v l. word (bytes ")\n") l (whole (a v))) ≡ some (a (front (drop i t)))
-  last_yes f a =
-      let b = picked both_last found_last n same f in
-      let p = left_of (plain (drop i t)) (closes (bytes ")\n") t (i + digit_count (drop i t))) b in
-      let s = right_of (plain (drop i t)) (closes (bytes ")\n") t (i + digit_count (drop i t))) b in
-      number_yes t i (i + digit_count (drop i t)) (λ v l. word (bytes ")\n") l (whole (a v))) p refl
-      ∙ ends_yes t (bytes ")\n") (i + digit_count (drop i t)) (a (front (drop i t))) s
+    pub then_no : None ≡ numeral_then w t i → number (drop i t) (λ v l. word w l (k v)) ≡ none
+    then_no e = go (is (plain (drop i t)))
+      where
+        after : plain (drop i t) ≡ true → (o : code.Option ℕ) → word_at w t digits_end ≡ o → None ≡ option_map with_word o
+            → number (drop i t) (λ v l. word w l (k v)) ≡ none
+        after p None q s = number_yes t i digits_end (λ v l. word w l (k v)) p refl ∙ word_lacks t w digits_end (k (front (drop i t))) (sym q)
+        after p (Some j) q s = absurd cc
 
-  pub last_no : {A : Type 0} → n.found ≡ false → (a : ℕ → A) → number (drop i t) (λ v l. word (bytes ")\n") l (whole (a v))) ≡ none
-  last_no f a = go (is (plain (drop i t)))
+        go : Is (plain (drop i t)) → number (drop i t) (λ v l. word w l (k v)) ≡ none
+        go (is_true p) = after p (word_at w t digits_end) refl (rw p at e)
+        go (is_false p) = number_no t i (λ v l. word w l (k v)) p
+
+module _ (t : List ℕ) (i : ℕ) where
+  abbrev at_end : Bool
+  at_end = closes (bytes ")\n") t (i + digit_count (drop i t))
+
+  pub last_value : (v : ℕ) → Some v ≡ numeral_last t i → v ≡ seen (front (drop i t))
+  last_value v e = go (is (plain (drop i t)))
     where
-      go : Is (plain (drop i t)) → number (drop i t) (λ v l. word (bytes ")\n") l (whole (a v))) ≡ none
+      go : Is (plain (drop i t)) → v ≡ seen (front (drop i t))
       go (is_true p) =
-          let s : closes (bytes ")\n") t (i + digit_count (drop i t)) ≡ false = rw p at (passed_over both_last found_last n refl same f) in
-          number_yes t i (i + digit_count (drop i t)) (λ v l. word (bytes ")\n") l (whole (a v))) p refl
-          ∙ ends_no t (bytes ")\n") (i + digit_count (drop i t)) (a (front (drop i t))) s
-      go (is_false p) = number_no t i (λ v l. word (bytes ")\n") l (whole (a v))) p
+          let s : Some v ≡ then_some at_end (seen (front (drop i t))) = rw p at e in
+          passed_value at_end (seen (front (drop i t))) v s
+      go (is_false p) = let s : Some v ≡ None = rw p at e in absurd cc
+
+  module _ {A : Type 0} (a : ℕ → A) where
+    pub last_yes : (v : ℕ) → Some v ≡ numeral_last t i → number (drop i t) (λ v l. word (bytes ")\n") l (whole (a v))) ≡ some (a (front (drop i t)))
+    last_yes v e = go (is (plain (drop i t)))
+      where
+        go : Is (plain (drop i t)) → number (drop i t) (λ v l. word (bytes ")\n") l (whole (a v))) ≡ some (a (front (drop i t)))
+        go (is_true p) =
+            let s : Some v ≡ then_some at_end (seen (front (drop i t))) = rw p at e in
+            number_yes t i (i + digit_count (drop i t)) (λ v l. word (bytes ")\n") l (whole (a v))) p refl
+            ∙ ends_yes t (bytes ")\n") (i + digit_count (drop i t)) (a (front (drop i t))) (passed at_end (seen (front (drop i t))) v s)
+        go (is_false p) = let s : Some v ≡ None = rw p at e in absurd cc
+
+    pub last_no : None ≡ numeral_last t i → number (drop i t) (λ v l. word (bytes ")\n") l (whole (a v))) ≡ none
+    last_no e = go (is (plain (drop i t)))
+      where
+        go : Is (plain (drop i t)) → number (drop i t) (λ v l. word (bytes ")\n") l (whole (a v))) ≡ none
+        go (is_true p) =
+            let s : None ≡ then_some at_end (seen (front (drop i t))) = rw p at e in
+            number_yes t i (i + digit_count (drop i t)) (λ v l. word (bytes ")\n") l (whole (a v))) p refl
+            ∙ ends_no t (bytes ")\n") (i + digit_count (drop i t)) (a (front (drop i t))) (failed_test at_end (seen (front (drop i t))) s)
+        go (is_false p) = number_no t i (λ v l. word (bytes ")\n") l (whole (a v))) p
+
+-- ---- a word, a number and the end of the line
+
+module _ (t w : List ℕ) where
+  pub lone_value : (v : ℕ) → Some v ≡ lone_numeral w t → v ≡ seen (front (drop (length w) t))
+  lone_value v e = go (word_at w t 0) refl
+    where
+      go : (o : code.Option ℕ) → word_at w t 0 ≡ o → v ≡ seen (front (drop (length w) t))
+      go None q = let s : Some v ≡ None = rw q at e in absurd cc
+      go (Some j) q =
+          let here : j ≡ length w = omega (arith, word_end t w 0 j (sym q)) in
+          let s : Some v ≡ numeral_last t j = rw q at e in
+          last_value t (length w) v (rw here at s)
+
+  module _ {A : Type 0} (a : ℕ → A) where
+    pub lone_yes : (v : ℕ) → Some v ≡ lone_numeral w t
+        → word w t (λ l. number l (λ v l₁. word (bytes ")\n") l₁ (whole (a v)))) ≡ some (a (front (drop (length w) t)))
+    lone_yes v e = go (word_at w t 0) refl
+      where
+        go : (o : code.Option ℕ) → word_at w t 0 ≡ o → word w t (λ l. number l (λ v l₁. word (bytes ")\n") l₁ (whole (a v)))) ≡ some (a (front (drop (length w) t)))
+        go None q = let s : Some v ≡ None = rw q at e in absurd cc
+        go (Some j) q =
+            let here : j ≡ length w = omega (arith, word_end t w 0 j (sym q)) in
+            let s : Some v ≡ numeral_last t j = rw q at e in
+            word_read t w 0 (λ l. number l (λ v l₁. word (bytes ")\n") l₁ (whole (a v)))) j (sym q)
+            ∙ last_yes t j a v s ∙ ap (λ (x : ℕ). some (a (front (drop x t)))) here
+
+    pub lone_no : None ≡ lone_numeral w t → word w t (λ l. number l (λ v l₁. word (bytes ")\n") l₁ (whole (a v)))) ≡ none
+    lone_no e = go (word_at w t 0) refl
+      where
+        go : (o : code.Option ℕ) → word_at w t 0 ≡ o → word w t (λ l. number l (λ v l₁. word (bytes ")\n") l₁ (whole (a v)))) ≡ none
+        go None q = word_lacks t w 0 (λ l. number l (λ v l₁. word (bytes ")\n") l₁ (whole (a v)))) (sym q)
+        go (Some j) q =
+            word_read t w 0 (λ l. number l (λ v l₁. word (bytes ")\n") l₁ (whole (a v)))) j (sym q)
+            ∙ last_no t j a (rw q at e)

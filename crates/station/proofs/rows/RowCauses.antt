@@ -1,22 +1,21 @@
 -- Laws of the causes that are tried before any row, for a list of so many records.
 --
 -- In order: a text that is too long (`rows_long`), fewer than 32 records (`rows_few`), a record that no text yields (`rows_invalid`), none of them (`rows_tried`); with
--- enough records their number does not matter (`rows_enough`); what the first 32 records by value give is what the list gives (`rows_list`).
+-- enough records what the first 32 give is what the list gives (`rows_list`).
 -- Assumes nothing.
 use Prim.Native.Nat.{ℕ, ◌≤◌, ◌<◌}
 use mathlib.Core.Path.{◌≡◌, refl}
 use mathlib.Core.Bool.{true, false}
 use mathlib.Core.List.{List}
-use lib.ListN.{length}
+use lib.ListN.{length, take}
 use lib.Dec.{ltb, leb}
 use Rattle.laws.proofs.Tests.{Is, is, is_true, is_false}
-use Rattle.laws.proofs.Comparisons.{le_of, ge_of, ltb_yes, ltb_no}
+use Rattle.laws.proofs.Comparisons.{le_of, ltb_yes, ltb_no}
 use Rattle.station.specs.declared.types.Preset.{Preset}
 use Rattle.station.specs.declared.types.Head.{Head}
 use Rattle.station.specs.declared.types.Refusal.TheVariants.{OutOfLimits, TooShort, TextTooLong}
 use Rattle.station.specs.Refusal.{first_of}
 use Rattle.station.specs.Types.{head_in, valid_record}
-use Rattle.station.specs.Records.{loaded}
 use Rattle.station.specs.ReadRows.{read_rows}
 use Rattle.station.specs.RowEntries.{rows_reading, rows_read, rows_refused}
 use Rattle.station.proofs.entries.ListOfRecords.{head_list}
@@ -38,16 +37,12 @@ module _ (records : ℕ) (h : Head) (ps : List Preset) (t : List ℕ) where
   unfolding first_of
   rows_tried l k e = rw (ltb_no 32768 (length t) l, ltb_no records 32 k, e) refl
 
-  pub rows_enough : 32 ≤ records → rows_read (rows_reading 32 h ps t) h ≡ rows_read (rows_reading records h ps t) h
-  rows_enough k = rw (ltb_no records 32 k) refl
-
--- Fewer than 32 records are refused whatever they are, and so is a count above 32; else no record past the first 32 is looked at.
-pub rows_list : (h : Head) (ps : List Preset) (t : List ℕ) → rows_reading (length ps) h (loaded ps) t ≡ rows_reading (length ps) h ps t
+-- A count above 32 is refused; else no record past the first 32 is looked at.
+pub rows_list : (h : Head) (ps : List Preset) (t : List ℕ) → 32 ≤ length ps → rows_reading 32 h (take 32 ps) t ≡ rows_reading (length ps) h ps t
 unfolding first_of
-rows_list h ps t = go (is (ltb 32768 (length t))) (is (ltb (length ps) 32)) (is (leb h.count 32))
+rows_list h ps t long = rw (ltb_no (length ps) 32 long) (go (is (ltb 32768 (length t))) (is (leb h.count 32)))
   where
-    go : Is (ltb 32768 (length t)) → Is (ltb (length ps) 32) → Is (leb h.count 32) → rows_reading (length ps) h (loaded ps) t ≡ rows_reading (length ps) h ps t
-    go (is_true a) b c = rw a refl
-    go (is_false a) (is_true b) c = rw (a, b) refl
-    go (is_false a) (is_false b) (is_true c) = rw (head_list h ps (le_of h.count 32 c) (ge_of (length ps) 32 b)) refl
-    go (is_false a) (is_false b) (is_false c) = rw (a, b, c) refl
+    go : Is (ltb 32768 (length t)) → Is (leb h.count 32) → rows_reading 32 h (take 32 ps) t ≡ rows_reading 32 h ps t
+    go (is_true a) c = rw a refl
+    go (is_false a) (is_true c) = rw (head_list h ps (le_of h.count 32 c)) refl
+    go (is_false a) (is_false c) = rw (a, c) refl

@@ -23,14 +23,14 @@ use Rattle.station.specs.Row.{Row, row, print_row, field_in, row_of, cuts_after,
 use Rattle.station.specs.ReadRows.{read_rows_from, read_rows}
 use Rattle.station.specs.declared.types.Preset as record-of-preset
 use Rattle.station.specs.declared.types.Head as record-of-head
+use Rattle.station.specs.declared.types.Refusal as type
 use Rattle.station.specs.declared.types.Refusal.TheVariants as code
-use Rattle.station.specs.declared.rows.RowsAnswer.TheVariants.{Accepted, Refused}
-use Rattle.station.specs.declared.rows.RowsRead.{RowsRead}
-use Rattle.station.specs.declared.write.Writing.{Writing}
+use Rattle.std.specs.Prelude.{Result, Ok, Err}
+use Rattle.station.specs.ReadHead.{fault}
 use Rattle.station.specs.Types.{valid_record}
 use Rattle.station.specs.WriteHead as write
 use Rattle.station.specs.WriteHead.{answer_in}
-use Rattle.station.specs.RowEntries.{rows_reading, rows_read, WroteRows}
+use Rattle.station.specs.RowEntries.{RowsRead, rows_reading, rows_read, WroteRows}
 use Rattle.station.proofs.Examples.{records_to}
 
 -- ---- what computes
@@ -245,15 +245,15 @@ abbrev entry_leaves : ℕ → List ℕ → RowsRead
 entry_leaves records t = rows_read (rows_reading records (counting 8 32) (records_to 32) t) (counting 8 32)
 
 pub entries_left : (entry_leaves 32 (bytes "2,1,2\r\n2,4,4\r\n")
-    ≡ record { answer = Accepted 2; head = record { slots = 4; bridges = 2; supply = 3; hold = true; busy = 0 ∷ 11 ∷ replicate 6 0; count = 32 } })
-    × (entry_leaves 32 (bytes "2,1,2\r\n2,5,5\r\n") ≡ record { answer = Refused 2 code.OutOfLimits; head = counting 8 32 })
-    × (entry_leaves 32 (bytes "2,1,2\n") ≡ record { answer = Refused 1 code.NoRow; head = counting 8 32 })
-    × (entry_leaves 31 [] ≡ record { answer = Refused 0 code.TooShort; head = counting 8 32 })
+    ≡ record { answer = Ok 2; head = record { slots = 4; bridges = 2; supply = 3; hold = true; busy = 0 ∷ 11 ∷ replicate 6 0; count = 32 } })
+    × (entry_leaves 32 (bytes "2,1,2\r\n2,5,5\r\n") ≡ record { answer = Err (fault 2 code.OutOfLimits); head = counting 8 32 })
+    × (entry_leaves 32 (bytes "2,1,2\n") ≡ record { answer = Err (fault 1 code.NoRow); head = counting 8 32 })
+    × (entry_leaves 31 [] ≡ record { answer = Err (fault 0 code.TooShort); head = counting 8 32 })
 unfolding reads_rows tries_record
 entries_left = (refl, refl, refl, refl)
 
 -- what is written: the length of the rows, and the rows before the bytes that stay; or 8, then 2, and the output as it was
-pub entries_wrote : (r : Writing) (after : List ℕ)
+pub entries_wrote : (r : Result ℕ type.Refusal) (after : List ℕ)
     → (WroteRows 32 (counting 11 0) [] (replicate 8192 7) r after → (answer_in r ≡ write.written 14) × (after ≡ bytes "1,1,2\r\n1,4,4\r\n" ++ replicate 8178 7))
     × (WroteRows 32 (counting 16 0) [] (replicate 8192 7) r after → (answer_in r ≡ write.refused 0 out_of_limits) × (after ≡ replicate 8192 7))
     × (WroteRows 32 (counting 16 0) [] (replicate 8191 7) r after → (answer_in r ≡ write.refused 0 too_short) × (after ≡ replicate 8191 7))

@@ -9,9 +9,11 @@ use native.Mathlib.Numerals.{add-one}
 use mathlib.Core.Path.{◌≡◌, refl, sym, ◌∙◌, ap}
 use mathlib.Core.Bool.{true, false}
 use mathlib.Core.Option.{Option, none, some}
+use Rattle.std.specs.Prelude as code
+use Rattle.std.specs.Prelude.{Some, None}
 use mathlib.Core.List.{List, ◌∷◌, map}
 use lib.ListN.{length, drop, replicate, length-drop}
-use Rattle.laws.proofs.Tests.{clash, test_ext}
+use Rattle.laws.proofs.Tests.{test_ext}
 use Rattle.station.specs.declared.types.Preset.{Preset}
 use Rattle.station.specs.declared.types.Head.{Head}
 use Rattle.station.specs.declared.types.Refusal.TheVariants.{OutOfLimits, NoRow}
@@ -80,23 +82,25 @@ pub rows_start : (t : List ℕ) (head : Head) → AtRow t head (replicate 8 0) 0
 unfolding read_rows
 rows_start t head = record { reads = λ ps. refl; inside = omega arith; few = omega arith }
 
--- Between two rows and before the text's end: f is what the code reads there.
-pub record RowRead (t : List ℕ) (head : Head) (busy : List ℕ) (at n : ℕ) (f : Fields) : Type 0 where
+-- Between two rows and before the text's end: o is what the code reads there.
+pub record RowRead (t : List ℕ) (head : Head) (busy : List ℕ) (at n : ℕ) (o : code.Option Fields) : Type 0 where
   pub here : AtRow t head busy at n
   pub within : at < length t
-  pub fields : f ≡ fields_at t at
+  pub fields : o ≡ fields_at t at
 
 -- no row was found, or one was
-no_fields : (f : Fields) (next : ℕ) (o : Option Row) → f ≡ fields_of next o → f.found ≡ false → o ≡ none
-no_fields f next none e b = refl
-no_fields f next (some x) e b = absurd (clash (sym (ap (λ (g : Fields). g.found) e) ∙ b))
+no_fields : (next : ℕ) (o : Option Row) → None ≡ fields_of next o → o ≡ none
+no_fields next none e = refl
+no_fields next (some x) e = absurd cc
 
-some_fields : {G : Type 0} (f : Fields) (next : ℕ) (o : Option Row) → f ≡ fields_of next o → f.found ≡ true
+some_fields : {G : Type 0} (f : Fields) (next : ℕ) (o : Option Row) → Some f ≡ fields_of next o
     → ((x : Row) → o ≡ some x → row_is f ≡ row_seen x → f.next ≡ next → G) → G
-some_fields f next none e b g = absurd (clash (sym b ∙ ap (λ (h : Fields). h.found) e))
-some_fields f next (some x) e b g = g x refl (ap row_is e) (ap (λ (h : Fields). h.next) e)
+some_fields f next none e g = absurd cc
+some_fields f next (some x) e g =
+    let same : f ≡ record { bridge = seen x.bridge; first = seen x.first; last = seen x.last; next = next } = cc in
+    g x refl (ap row_is same) (ap (λ (h : Fields). h.next) same)
 
-module _ {t : List ℕ} {head : Head} {busy : List ℕ} {at n : ℕ} {f : Fields} (a : RowRead t head busy at n f) where
+module _ {t : List ℕ} {head : Head} {busy : List ℕ} {at n : ℕ} {o : code.Option Fields} (a : RowRead t head busy at n o) where
   -- the line there, the place after it, and the rows that are left
   abbrev l : List ℕ
   l = line_of (drop at t)
@@ -116,23 +120,26 @@ module _ {t : List ℕ} {head : Head} {busy : List ℕ} {at n : ℕ} {f : Fields
   line_bytes : at < after
   line_bytes = let h = a.within in omega (arith, line_some (drop at t) (omega (arith, length-drop at t)))
 
-  -- "12: a row that is not three decimal fields with CR LF"
-  pub out_no_row : f.found ≡ false → (ps : List Preset) → rows_refused (n + 1) NoRow head ≡ rows_read (read_rows (head_in head ps) t) head
-  unfolding read_rows_from
-  out_no_row b ps = rw (add-one n) (sym (ap (λ (x : Reading). rows_read x head) (row_reads ps none (no_fields f after (row_of l) a.fields b))))
+-- "12: a row that is not three decimal fields with CR LF"
+pub out_no_row : {t : List ℕ} {head : Head} {busy : List ℕ} {at n : ℕ} → RowRead t head busy at n None
+    → (ps : List Preset) → rows_refused (n + 1) NoRow head ≡ rows_read (read_rows (head_in head ps) t) head
+unfolding read_rows_from
+out_no_row {t} {head} {busy} {at} {n} a ps =
+    rw (add-one n) (sym (ap (λ (x : Reading). rows_read x head) (row_reads a ps none (no_fields (after a) (row_of (l a)) a.fields))))
 
+module _ {t : List ℕ} {head : Head} {busy : List ℕ} {at n : ℕ} {f : Fields} (a : RowRead t head busy at n (Some f)) where
   -- the place after a row lies further on
-  pub row_further : f.found ≡ true → at < f.next
-  row_further b = some_fields f after (row_of l) a.fields b (λ x e s ends. omega (arith, line_bytes, ends))
+  pub row_further : at < f.next
+  row_further = some_fields f (after a) (row_of (l a)) a.fields (λ x e s ends. omega (arith, line_bytes a, ends))
 
-  module _ (high : head.slots ≤ 64) (most : head.bridges ≤ 8) (b : f.found ≡ true) where
+  module _ (high : head.slots ≤ 64) (most : head.bridges ≤ 8) where
     -- "a value outside the frame, or first above last, is 2"
     pub out_outside : row_in head.slots head.bridges (row_is f) ≡ false → (ps : List Preset)
         → rows_refused (n + 1) OutOfLimits head ≡ rows_read (read_rows (head_in head ps) t) head
     unfolding read_rows_from first_of
-    out_outside out ps = some_fields f after (row_of l) a.fields b (λ x e s _.
+    out_outside out ps = some_fields f (after a) (row_of (l a)) a.fields (λ x e s _.
         let q : row_in head.slots head.bridges x ≡ false = sym (seen_in head.slots head.bridges high most x) ∙ ap (row_in head.slots head.bridges) (sym s) ∙ out in
-        let r : read_rows (head_in head ps) t ≡ refused (suc n) out_of_limits = row_reads ps (some x) e ∙ (rw q refl) in
+        let r : read_rows (head_in head ps) t ≡ refused (suc n) out_of_limits = row_reads a ps (some x) e ∙ (rw q refl) in
         rw (add-one n) (sym (ap (λ (y : Reading). rows_read y head) r)))
 
     module _ (in_frame_lem : row_in head.slots head.bridges (row_is f) ≡ true) where
@@ -150,16 +157,16 @@ module _ {t : List ℕ} {head : Head} {busy : List ℕ} {at n : ℕ} {f : Fields
 
       pub rows_next : AtRow t head (with_row busy (row_is f)) f.next (n + 1)
       unfolding read_rows_from first_of
-      rows_next = some_fields f after (row_of l) a.fields b (λ x e s ends.
+      rows_next = some_fields f (after a) (row_of (l a)) a.fields (λ x e s ends.
           let few = a.here.few in
           let p : row_in head.slots head.bridges x ≡ true =
           sym (seen_in head.slots head.bridges high most x) ∙ ap (row_in head.slots head.bridges) (sym s) ∙ in_frame_lem in
           let same : row_is f ≡ x = s ∙ seen_same head.slots head.bridges high most x (row_in_of head.slots head.bridges x p) in
           rw (same, ends, add-one n)
           (record {
-            reads = λ ps. sym (row_reads ps (some x) e ∙ (rw p refl));
+            reads = λ ps. sym (row_reads a ps (some x) e ∙ (rw p refl));
             inside = line_within t at a.here.inside;
-            few = omega (arith, line_bytes);
+            few = omega (arith, line_bytes a);
           }))
 
 -- no row is left

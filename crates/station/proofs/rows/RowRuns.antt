@@ -1,12 +1,12 @@
 -- Laws of a head's rows, run by run, as the writer's loops meet them.
 --
 -- In order: the rows of a bridge from one run of busy slots on (`row_step`); the rows of the bridges from one bridge on (`bridge_rows_step`); the answer and output of
--- writing rows of the first 32 records by value, by the cause that holds (`rows_too_short`, `rows_out_of_limits`, `rows_written_lem`).
+-- writing rows of the first 32 records by value, by the cause (`rows_refused_lem`, `rows_written_lem`).
 -- Assumes nothing.
 use Prim.Native.Nat.{ℕ, suc, ◌-◌, ◌≤◌, ◌<◌}
 use native.Mathlib.Nat.{le_refl}
 use native.Mathlib.Omega.{arith}
-use mathlib.Core.Path.{◌≡◌, refl, ◌∙◌, ap}
+use mathlib.Core.Path.{◌≡◌, refl, sym, ◌∙◌, ap}
 use mathlib.Core.Bool.{true, false}
 use mathlib.Core.Option.{Option, none, some}
 use mathlib.Core.List.{List, ◌++◌}
@@ -14,21 +14,22 @@ use lib.ListN.{length, drop, get_or}
 use lib.Seq.{drop-cons}
 use Rattle.station.specs.declared.types.Preset.{Preset}
 use Rattle.station.specs.declared.types.Head.{Head}
-use Rattle.station.specs.declared.write.Writing.TheVariants.{Written, Refused}
-use Rattle.station.specs.declared.types.Refusal.TheVariants.{TooShort, OutOfLimits}
+use Rattle.std.specs.Prelude.{Ok, Err}
+use Rattle.station.specs.declared.types.Refusal as code
 use Rattle.station.specs.Head.{has_bit}
-use Rattle.station.specs.Refusal.{first_of}
+use Rattle.station.specs.Refusal.{Refusal, first_of}
 use Rattle.station.specs.Form.{Pairs}
 use Rattle.station.specs.Writing.{stretches}
 use Rattle.station.specs.method.Runs.{busy_from, free_from, stretches_from}
-use Rattle.station.specs.Types.{head_in, valid_record}
+use Rattle.station.specs.Types.{head_in}
 use Rattle.station.specs.Row.{row, print_row, stretch_rows, bridge_rows, mask_rows, bare, rows_text}
 use Rattle.station.specs.Wrote.{Wrote}
+use Rattle.station.specs.WriteHead.{cause_in, write_causes}
 use Rattle.station.specs.Entries.{entry_causes}
 use Rattle.station.specs.RowEntries.{WroteRows}
 use Rattle.station.proofs.check.ValidRecord.{valid_head}
 use Rattle.station.proofs.write.MaskRuns.{run_then, run_step}
-use Rattle.station.proofs.write.HeadLines.{text_written, cause_short, cause_outside, cause_none}
+use Rattle.station.proofs.write.HeadLines.{text_refused, text_written, none_valid}
 use Rattle.station.proofs.entries.ListOfRecords.{entry_enough}
 use Rattle.station.proofs.rows.RowsWritten.{bare_append, rows_fit}
 
@@ -54,16 +55,16 @@ bridge_rows_step b busy h =
 -- ---- the answer and output, by the cause that holds
 
 module _ (h : Head) (ps : List Preset) (out : List ℕ) where
-  pub rows_too_short : length out < 8192 → WroteRows 32 h ps out (Refused 0 TooShort) out
-  rows_too_short l = let q = entry_enough 32 h ps out (le_refl 32) ∙ cause_short h ps out l in record { answer = rw q refl; output = rw q refl }
+  -- with 32 records the causes are those of writing a head
+  rows_cause : {c : Option Refusal} → c ≡ first_of (write_causes h ps out) → c ≡ first_of (entry_causes 32 h ps out)
+  rows_cause e = e ∙ sym (entry_enough 32 h ps out (le_refl 32))
 
-  pub rows_out_of_limits : 8192 ≤ length out → valid_record h ps ≡ false → WroteRows 32 h ps out (Refused 0 OutOfLimits) out
-  rows_out_of_limits l v = let q = entry_enough 32 h ps out (le_refl 32) ∙ cause_outside h ps out l v in record { answer = rw q refl; output = rw q refl }
+  pub rows_refused_lem : (r : code.Refusal) → cause_in (Err r) ≡ first_of (write_causes h ps out) → WroteRows 32 h ps out (Err r) out
+  rows_refused_lem r e = let both = text_refused (first_of (entry_causes 32 h ps out)) r (rows_text h.busy) out (rows_cause e) in record { answer = both.0; output = both.1 }
 
-  -- no cause holds, and the rows were written
-  pub rows_written_lem : (n : ℕ) (after : List ℕ) → 8192 ≤ length out → valid_record h ps ≡ true → Wrote out 0 (rows_text h.busy) after n → WroteRows 32 h ps out (Written n) after
-  rows_written_lem n after l v w =
-      let fits : length (rows_text h.busy) ≤ length out = omega (arith, rows_fit (head_in h ps) (valid_head h ps v)) in
-      let q = entry_enough 32 h ps out (le_refl 32) ∙ cause_none h ps out l v in
-      let both = text_written (first_of (entry_causes 32 h ps out)) (rows_text h.busy) out after n q fits w in
+  pub rows_written_lem : (n : ℕ) (after : List ℕ) → none ≡ first_of (write_causes h ps out) → Wrote out 0 (rows_text h.busy) after n → WroteRows 32 h ps out (Ok n) after
+  rows_written_lem n after e w =
+      let room = none_valid h ps out e in
+      let fits : length (rows_text h.busy) ≤ length out = omega (arith, room.0, rows_fit (head_in h ps) (valid_head h ps room.1)) in
+      let both = text_written (first_of (entry_causes 32 h ps out)) (rows_text h.busy) out after n (rows_cause e) fits w in
       record { answer = both.0; output = both.1 }

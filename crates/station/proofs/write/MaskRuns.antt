@@ -1,21 +1,26 @@
 -- Laws of a scan over a mask: the stretches of a mask, found from slot to slot upwards, are those of the definition.
 --
--- In order: one slot further (`from_free`, `from_busy`); the ends of the scan for a busy slot (`busy_here`, `busy_next`, `busy_end`) and for a free
--- one (`free_here`, `free_next`, `free_end`); where they lie (`busy_low`, `busy_high`, `busy_found`, `free_low`, `free_high`, `free_after`); the stretches
+-- In order: one slot further (`from_free`, `from_busy`); the scan for a busy slot by the zeros of a mask (`busy_by_zeros`, `busy_past`), for a free one by its
+-- complement (`free_by_not`); where they lie (`busy_low`, `busy_high`, `busy_found`, `free_low`, `free_high`, `free_after`); the stretches
 -- from the next busy slot on (`from_next_busy`), from a busy slot on (`from_run`), the slot after it where the next run begins (`next_run`), and both
 -- together (`run_step`); the same of a busy line's brackets (`bracket_step`) and of the whole line (`busy_text`).
 -- Assumes nothing.
-use Prim.Native.Nat.{ℕ, zero, suc, ◌+◌, ◌-◌, ◌/◌, ◌^◌, ◌≤◌, ◌<◌}
+use Prim.Native.Nat.{ℕ, zero, suc, ◌+◌, ◌-◌, ◌/◌, ◌%◌, ◌^◌, ◌≤◌, ◌<◌, min}
+use native.Mathlib.Nat.{add-zero}
 use native.Mathlib.Numerals.{add-one}
 use native.Mathlib.Omega.{arith}
 use mathlib.Core.Path.{◌≡◌, refl, sym, ◌∙◌, ap}
 use mathlib.Core.Bool.{Bool, true, false, cond}
 use mathlib.Core.Option.{Option, none, some}
 use mathlib.Core.List.{List, [], ◌++◌, append_assoc, append-nil, map}
-use lib.Dec.{eqb, ltb}
+use lib.Dec.{eqb, ltb, leb}
 use lib.Pow.{shr-shr}
+use Rattle.std.specs.Int.{bit_not, bit_at}
+use Rattle.std.specs.Int.Count.{count_trailing_zeros, under}
+use Rattle.std.proofs.Common.{w64}
+use Rattle.std.proofs.lemmas.Nat.Bits.{bit_at_not}
 use Rattle.laws.proofs.Tests.{Is, is, is_true, is_false, none_some}
-use Rattle.laws.proofs.Comparisons.{eqb_no, eqb_self, lt_of, ge_of}
+use Rattle.laws.proofs.Comparisons.{eqb_yes, eqb_no, eqb_self, eq_of, ne_of, lt_of, ge_of, le_of, gt_of}
 use Rattle.station.specs.Head.{has_bit}
 use Rattle.station.specs.Text.{bytes, join}
 use Rattle.station.specs.Decimal.{digits}
@@ -40,45 +45,62 @@ pub from_busy : (k m i : ℕ) → has_bit m i ≡ true → stretches_from (suc k
 unfolding stretches
 from_busy k m i e = rw (e, shift m i) refl
 
--- ---- the scan for a busy slot of the slots below hi
+-- ---- the scan for a busy slot, by what std says of a mask
 
-pub busy_here : (hi m i : ℕ) → has_bit m i ≡ true → busy_from (hi - i) m i ≡ i
-unfolding busy_from
-busy_here hi m i e = go (hi - i)
+-- the free slots before it are the zeros at the end of the mask
+busy_zeros : (k m i : ℕ) → busy_from k m i ≡ i + count_trailing_zeros k (m / 2 ^ i)
+unfolding busy_from count_trailing_zeros
+busy_zeros zero m i = sym (add-zero i)
+busy_zeros (suc k) m i = go (busy_zeros k m (suc i)) (is (has_bit m i))
   where
-    go : (k : ℕ) → busy_from k m i ≡ i
-    go zero = refl
-    go (suc k) = rw e refl
+    go : busy_from k m (suc i) ≡ suc i + count_trailing_zeros k (m / 2 ^ suc i) → Is (has_bit m i)
+        → cond (has_bit m i) i (busy_from k m (suc i)) ≡ i + under (m / 2 ^ i % 2) (count_trailing_zeros k (m / 2 ^ i / 2))
+    go ih (is_true e) = rw (e, eq_of (m / 2 ^ i % 2) 1 e) (omega arith)
+    go ih (is_false e) =
+        let z : m / 2 ^ i % 2 ≡ 0 = omega (arith, ne_of (m / 2 ^ i % 2) 1 e) in
+        rw (e, z, shift m i) (omega arith)
 
-pub busy_next : (hi m i : ℕ) → i < hi → has_bit m i ≡ false → busy_from (hi - i) m i ≡ busy_from (hi - suc i) m (suc i)
-unfolding busy_from
-busy_next hi m i h e =
-    let d : hi - i ≡ suc (hi - suc i) = omega arith in
-    rw (d, e) refl
-
-pub busy_end : (hi m i : ℕ) → hi ≤ i → busy_from (hi - i) m i ≡ i
-unfolding busy_from
-busy_end hi m i h = let d : hi - i ≡ 0 = omega arith in rw d refl
-
--- ---- the scan for a free slot of the slots below hi
-
-pub free_here : (hi m i : ℕ) → has_bit m i ≡ false → free_from (hi - i) m i ≡ i
-unfolding free_from
-free_here hi m i e = go (hi - i)
+-- of fewer digits, the zeros as far as they go
+zeros_least : (k j n : ℕ) → k ≤ j → min (count_trailing_zeros j n) k ≡ count_trailing_zeros k n
+unfolding count_trailing_zeros
+zeros_least zero j n h = let z : count_trailing_zeros 0 n ≡ 0 = refl in omega arith
+zeros_least (suc k) zero n h = absurd (omega arith)
+zeros_least (suc k) (suc j) n h = go (zeros_least k j (n / 2) (omega arith)) (n % 2)
   where
-    go : (k : ℕ) → free_from k m i ≡ i
-    go zero = refl
-    go (suc k) = rw e refl
+    go : min (count_trailing_zeros j (n / 2)) k ≡ count_trailing_zeros k (n / 2) → (d : ℕ) → min (under d (count_trailing_zeros j (n / 2))) (suc k) ≡ under d (count_trailing_zeros k (n / 2))
+    go ih zero = omega arith
+    go ih (suc d) = omega arith
 
-pub free_next : (hi m i : ℕ) → i < hi → has_bit m i ≡ true → free_from (hi - i) m i ≡ free_from (hi - suc i) m (suc i)
-unfolding free_from
-free_next hi m i h e =
-    let d : hi - i ≡ suc (hi - suc i) = omega arith in
-    rw (d, e) refl
+-- from a slot of a mask of 64 slots on
+pub busy_by_zeros : (m i : ℕ) → i < 64 → min 64 (i + count_trailing_zeros 64 (m / 2 ^ i)) ≡ busy_from (64 - i) m i
+busy_by_zeros m i h = rw (busy_zeros (64 - i) m i) (omega (arith, zeros_least (64 - i) 64 (m / 2 ^ i) (omega arith)))
 
-pub free_end : (hi m i : ℕ) → hi ≤ i → free_from (hi - i) m i ≡ i
-unfolding free_from
-free_end hi m i h = let d : hi - i ≡ 0 = omega arith in rw d refl
+pub busy_past : (m i : ℕ) → 64 ≤ i → i ≡ busy_from (64 - i) m i
+unfolding busy_from
+busy_past m i h = let d : 64 - i ≡ 0 = omega arith in rw d refl
+
+-- a free slot is a busy one of the mask's complement
+free_not : (k m i : ℕ) → m < 2 ^ 64 → i + k ≤ 64 → busy_from k (bit_not w64 m) i ≡ free_from k m i
+unfolding busy_from free_from
+free_not zero m i l h = refl
+free_not (suc k) m i l h = go (free_not k m (suc i) l (omega arith)) (bit_at_not w64 m i l (omega arith)) (is (has_bit m i))
+  where
+    go : busy_from k (bit_not w64 m) (suc i) ≡ free_from k m (suc i) → bit_at (bit_not w64 m) i ≡ 1 - bit_at m i → Is (has_bit m i)
+        → cond (has_bit (bit_not w64 m) i) i (busy_from k (bit_not w64 m) (suc i)) ≡ cond (has_bit m i) (free_from k m (suc i)) i
+    go ih b (is_true e) =
+        let z : bit_at (bit_not w64 m) i ≡ 0 = omega (arith, eq_of (m / 2 ^ i % 2) 1 e) in
+        rw (e, ih, eqb_no (bit_at (bit_not w64 m) i) 1 (λ q. omega arith)) refl
+    go ih b (is_false e) =
+        let z : bit_at (bit_not w64 m) i ≡ 1 = omega (arith, ne_of (m / 2 ^ i % 2) 1 e) in
+        rw (e, eqb_yes (bit_at (bit_not w64 m) i) 1 z) refl
+
+pub free_by_not : (m i : ℕ) → m < 2 ^ 64 → busy_from (64 - i) (bit_not w64 m) i ≡ free_from (64 - i) m i
+unfolding busy_from free_from
+free_by_not m i l = go (is (leb i 64))
+  where
+    go : Is (leb i 64) → busy_from (64 - i) (bit_not w64 m) i ≡ free_from (64 - i) m i
+    go (is_true e) = let h = le_of i 64 e in free_not (64 - i) m i l (omega arith)
+    go (is_false e) = let h = gt_of i 64 e in let d : 64 - i ≡ 0 = omega arith in rw d refl
 
 -- ---- where the ends of the scans lie
 

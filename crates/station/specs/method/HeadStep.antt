@@ -3,11 +3,12 @@
 -- station text" and "Causes".
 --
 -- In order: the answers (`accepted_read`, `refused_read`); the state between two lines and what it
--- stands for (`no_state`, `stage_in`, `so_far_in`); one line more, by its form (`frame_step`,
--- `supply_step`, `head_tie_step`, `tie_step`, `busy_step`, `preset_step`), on line 1 (`first_step`), after
--- it (`next_step`), and anywhere (`step_of`). That a step is what `read_from` makes of the line is
+-- stands for (`no_state`, `stage_in`, `so_far_in`); the verdict on a line and the state after it
+-- (`Step`); one line more, by its form (`frame_step`, `supply_step`, `head_tie_step`, `tie_step`,
+-- `busy_step`, `preset_step`), on line 1 (`first_step`), after it (`next_step`), and anywhere (`step_of`). That a step is what `read_from` makes of the line is
 -- shown in proofs/heads/StepMeaning.antt. Assumes nothing.
-use Rattle.std.specs.Prelude.{ℕ, ◌+◌, ◌-◌, Bool, true, false, not, ◌&&◌, List, [], ◌∷◌, map, take, set, leb}
+use Rattle.std.specs.Prelude as code-option
+use Rattle.std.specs.Prelude.{ℕ, ◌+◌, ◌-◌, Bool, true, false, not, ◌&&◌, List, [], ◌∷◌, map, take, set, leb, Some, None, is_some, unwrap_or, Result, Ok, Err}
 use Rattle.std.proofs.Math.Option.{Option, none, some}
 use Rattle.station.specs.Limits.{most_motors, most_presets}
 use Rattle.station.specs.declared.types.Preset.{Preset}
@@ -15,30 +16,29 @@ use Rattle.station.specs.declared.types.Head.{Head}
 use Rattle.station.specs.declared.types.Refusal.{Refusal}
 use Rattle.station.specs.declared.forms.Line.{Line}
 use Rattle.station.specs.declared.forms.Line.TheVariants as line
-use Rattle.station.specs.declared.heads.ReadAnswer.TheVariants.{Accepted, Refused}
-use Rattle.station.specs.declared.heads.HeadRead.{HeadRead}
+use Rattle.station.specs.declared.forms.PresetLine.{PresetLine}
 use Rattle.station.specs.declared.heads.steps.Stage as code
 use Rattle.station.specs.declared.heads.steps.Stage.TheVariants.{Frame, Supply, Tie, Busy, Presets}
 use Rattle.station.specs.declared.heads.steps.State.{State}
-use Rattle.station.specs.declared.heads.steps.Verdict.TheVariants.{Goes, Ends, Fails}
-use Rattle.station.specs.declared.heads.steps.Step.{Step}
+use Rattle.station.specs.declared.heads.steps.Going.{Going}
+use Rattle.station.specs.declared.heads.steps.Going.TheVariants.{Goes, Ends}
 use Rattle.station.specs.Head as meant
 use Rattle.station.specs.Head.{preset_of}
 use Rattle.station.specs.Refusal as meant-refusal
 use Rattle.station.specs.Refusal.{try, first_of, no_form, out_of_limits, out_of_place, number_used, too_many}
 use Rattle.station.specs.Reading.{Stage, at_frame, at_supply, at_tie, at_busy, at_presets, begun, supply_misplaced, busy_misplaced, SoFar}
 use Rattle.station.specs.Types.{refusal_of, preset_in, bare_record, with_supplied, with_hold, with_masks, with_count, head_in}
-use Rattle.station.specs.ReadHead.{record_of}
+use Rattle.station.specs.ReadHead.{record_of, extent, fault, HeadRead, left_by}
 
 -- ---- the answers, in the code's values
 
 -- the lines and bytes of a head that was read, and its state
 abbrev pub accepted_read : State → ℕ → ℕ → HeadRead
-accepted_read s lines bytes = record { answer = Accepted lines bytes; head = s.head; presets = s.presets }
+accepted_read s lines bytes = left_by (Ok (extent lines bytes)) s.head s.presets
 
 -- the cause and its line, and what was handed in
 abbrev pub refused_read : ℕ → Refusal → Head → List Preset → HeadRead
-refused_read line c head presets = record { answer = Refused line c; head = head; presets = presets }
+refused_read line c head presets = left_by (Err (fault line c)) head presets
 
 -- ---- the state between two lines
 
@@ -60,9 +60,21 @@ so_far_in s = record { stage = stage_in s.stage; head = head_in s.head s.presets
 
 -- ---- one line more, its numbers as they are read
 
+-- the verdict on a line: the reading goes on, the head ended before the line, or the line is refused
+abbrev pub Verdict : Type 0
+Verdict = Result Going Refusal
+
+-- the verdict, and the state after the line
+pub record Step : Type 0 where
+  pub verdict : Verdict
+  pub state : State
+
+abbrev pub stepped : Verdict → State → Step
+stepped v s = record { verdict = v; state = s }
+
 -- the line is refused, and the state stays
 abbrev pub stopped : State → Refusal → Step
-stopped s c = record { verdict = Fails c; state = s }
+stopped s c = stepped (Err c) s
 
 -- the same for a cause of the definitions
 abbrev pub failed : State → meant-refusal.Refusal → Step
@@ -70,11 +82,11 @@ failed s c = stopped s (refusal_of c)
 
 -- "The head ends before the first line that has an event's form"
 abbrev pub ended : State → Step
-ended s = record { verdict = Ends; state = s }
+ended s = stepped (Ok Ends) s
 
 -- the line is refused for the first cause that holds; where none does, the state is `next`
 abbrev pub step_by : Option meant-refusal.Refusal → State → State → Step
-step_by none s next = record { verdict = Goes; state = next }
+step_by none s next = stepped (Ok Goes) next
 step_by (some c) s next = failed s c
 
 -- the state after the frame line
@@ -105,7 +117,7 @@ after_tie s = record { stage = Busy 0; head = with_hold s.head true; presets = s
 -- a tie line directly after the frame line or its supply line is one of the head, where place is
 -- out of its place
 abbrev pub head_tie_step : State → Bool → Step
-head_tie_step s true = record { verdict = Goes; state = after_tie s }
+head_tie_step s true = stepped (Ok Goes) (after_tie s)
 head_tie_step s false = failed s out_of_place
 
 -- a tie line after the frame line: anywhere but directly after it or its supply line, it has an
@@ -130,9 +142,13 @@ busy_causes s b ordered =
 abbrev pub after_busy : State → ℕ → ℕ → State
 after_busy s b mask = record { stage = Busy (b + 1); head = with_masks s.head (set s.head.busy (b - 1) mask); presets = s.presets }
 
--- a busy line after the frame line
-abbrev pub busy_step : State → ℕ → ℕ → Bool → Step
-busy_step s b mask ordered = step_by (first_of (busy_causes s b ordered)) s (after_busy s b mask)
+-- a busy line after the frame line, and its mask, if its stretches are in order
+abbrev pub busy_step : State → ℕ → code-option.Option ℕ → Step
+busy_step s b mask = step_by (first_of (busy_causes s b (is_some mask))) s (after_busy s b (unwrap_or mask 0))
+
+-- the preset of a preset line
+abbrev pub preset_said : PresetLine → meant.Preset
+preset_said p = preset_of p.number p.priority p.mandatory p.optional
 
 -- the causes of a preset line after the frame line
 abbrev pub preset_causes : State → meant.Preset → List (Option meant-refusal.Refusal)
@@ -154,23 +170,21 @@ preset_step s p = step_by (first_of (preset_causes s p)) s (after_preset s p)
 
 -- line 1: "no frame on line 1" is out of place
 abbrev pub first_step : State → Line → Step
-first_step s line.NoForm = failed s no_form
 first_step s (line.Frame slots bridges) = frame_step s slots bridges
-first_step s (line.Busy b mask ordered) = failed s out_of_place
-first_step s (line.Preset n p m o) = failed s out_of_place
+first_step s (line.Busy b mask) = failed s out_of_place
+first_step s (line.Preset p) = failed s out_of_place
 first_step s (line.Clock t) = failed s out_of_place
-first_step s (line.Call n) = failed s out_of_place
+first_step s (line.Call l) = failed s out_of_place
 first_step s (line.Tie hold) = failed s out_of_place
 first_step s (line.Supply k) = failed s out_of_place
 
 -- a line after line 1
 abbrev pub next_step : State → Line → Step
-next_step s line.NoForm = failed s no_form
 next_step s (line.Frame slots bridges) = failed s out_of_place
-next_step s (line.Busy b mask ordered) = busy_step s b mask ordered
-next_step s (line.Preset n p m o) = preset_step s (preset_of n p m o)
+next_step s (line.Busy b mask) = busy_step s b mask
+next_step s (line.Preset p) = preset_step s (preset_said p)
 next_step s (line.Clock t) = ended s
-next_step s (line.Call n) = ended s
+next_step s (line.Call l) = ended s
 next_step s (line.Tie hold) = tie_step s hold
 next_step s (line.Supply k) = supply_step s k
 
@@ -179,6 +193,7 @@ abbrev pub step_where : Bool → State → Line → Step
 step_where false s l = first_step s l
 step_where true s l = next_step s l
 
--- one line more
-abbrev pub step_of : State → Line → Step
-step_of s l = step_where (begun (stage_in s.stage)) s l
+-- one line more, if it has a form
+abbrev pub step_of : State → code-option.Option Line → Step
+step_of s None = failed s no_form
+step_of s (Some l) = step_where (begun (stage_in s.stage)) s l

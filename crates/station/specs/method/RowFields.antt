@@ -1,7 +1,8 @@
 -- What the code makes of one field and of one row at a place of a text. Document 02, 2026-01: "Read
 -- rows of three fields, .., quoted or bare". Assumes nothing.
-use Rattle.std.specs.Prelude.{ℕ, suc, ◌+◌, true, false, cond, ◌&&◌, List, length, drop}
-use Rattle.std.proofs.Math.Option.{Option, none, some}
+use Rattle.std.specs.Prelude.{ℕ, ◌+◌, cond, List, length, drop, Option, Some, None, option_and_then, option_map}
+use Rattle.std.proofs.Math.Option as math
+use Rattle.std.proofs.Math.Option.{none, some}
 use Rattle.station.specs.declared.numbers.Numeral.{Numeral}
 use Rattle.station.specs.declared.rows.fields.Fields.{Fields}
 use Rattle.station.specs.Text.{bytes}
@@ -9,26 +10,25 @@ use Rattle.station.specs.Line.{line_of}
 use Rattle.station.specs.Form.{starts}
 use Rattle.station.specs.Jobs.{seen}
 use Rattle.station.specs.Row.{Row, row, quote, row_of}
-use Rattle.station.specs.method.Numeral.{numeral_at, numeral_then, pick_numeral}
+use Rattle.station.specs.method.Numeral.{word_at, numeral_at, numeral_then}
 
 -- a field at a place: a number between quotes where a quote stands there, else a number; the place
 -- is that after the field
-abbrev pub field_at : List ℕ → ℕ → Numeral
-field_at t at = cond (starts quote (drop at t)) (numeral_then quote t (suc at)) (numeral_at t at)
+abbrev pub field_at : List ℕ → ℕ → Option Numeral
+field_at t at = cond (starts quote (drop at t)) (numeral_then quote t (at + 1)) (numeral_at t at)
 
 -- a field and a comma after it; the place is that after the comma
-abbrev pub field_then : List ℕ → ℕ → Numeral
+abbrev pub field_then : List ℕ → ℕ → Option Numeral
 field_then t at =
-    pick_numeral ((field_at t at).found && starts (bytes ",") (drop (field_at t at).next t))
-    (record { found = true; value = (field_at t at).value; next = suc (field_at t at).next })
+    option_and_then (λ n. option_map (λ next. record { value = n.value; next = next }) (word_at (bytes ",") t n.next)) (field_at t at)
 
 -- a row as it is read, and the place after it, if there is one
-abbrev pub fields_of : ℕ → Option Row → Fields
-fields_of next none = record { found = false; bridge = 0; first = 0; last = 0; next = 0 }
-fields_of next (some x) = record { found = true; bridge = seen x.bridge; first = seen x.first; last = seen x.last; next = next }
+abbrev pub fields_of : ℕ → math.Option Row → Option Fields
+fields_of next none = None
+fields_of next (some x) = Some (record { bridge = seen x.bridge; first = seen x.first; last = seen x.last; next = next })
 
 -- the row of the line at a place; the place is that after the line
-abbrev pub fields_at : List ℕ → ℕ → Fields
+abbrev pub fields_at : List ℕ → ℕ → Option Fields
 fields_at t at = fields_of (at + length (line_of (drop at t))) (row_of (line_of (drop at t)))
 
 -- the row of its fields

@@ -10,8 +10,8 @@ use Rattle.station.specs.method.Bracket.{jobs_read}
 use Rattle.station.proofs.brackets.JobList.{counted}
 use Rattle.station.proofs.brackets.jobs_at.Given as goal
 
-abbrev pub invariant-loop-jobs : goal.invariant-loop-jobs
-invariant-loop-jobs l = (l.count ≤ l.i) × (length l.jobs ≡ most_jobs) × (counted l.count l.fit l.jobs (read_jobs (drop l.i l.text)) ≡ jobs_read (read_jobs (drop l.at l.text)))
+abbrev pub invariant-loop-b : goal.invariant-loop-b
+invariant-loop-b l = (l.count ≤ l.i) × (length l.jobs ≡ most_jobs) × (counted l.count l.fit l.jobs (read_jobs (drop l.i l.text)) ≡ jobs_read (read_jobs (drop l.at l.text)))
 
-abbrev pub decreases-loop-jobs : goal.decreases-loop-jobs
-decreases-loop-jobs l = length l.text - l.i
+abbrev pub decreases-loop-b : goal.decreases-loop-b
+decreases-loop-b l = length l.text - l.i

@@ -5,12 +5,12 @@ use Prim.Native.Nat.{◌-◌, min}
 use mathlib.Core.Path.{◌≡◌}
 use lib.ListN.{length, drop}
 use Rattle.station.specs.Form.{read_brackets}
-use Rattle.station.specs.method.Bracket.{MaskedSoFar, busy_mask_in}
-use Rattle.station.proofs.brackets.StretchMask.{folded}
+use Rattle.station.specs.method.Bracket.{busy_mask_in}
+use Rattle.station.proofs.brackets.StretchMask.{Masked, folded}
 use Rattle.station.proofs.brackets.stretches_at.Given as goal
 
-abbrev pub invariant-loop-s : goal.invariant-loop-s
-invariant-loop-s l = MaskedSoFar l.s × (folded l.last l.s (read_brackets (drop l.i l.text)) ≡ busy_mask_in (min l.slots 64) (read_brackets (drop l.at l.text)))
+abbrev pub invariant-loop-b : goal.invariant-loop-b
+invariant-loop-b l = Masked l.so_far × (folded (min l.slots 64) l.so_far (read_brackets (drop l.i l.text)) ≡ busy_mask_in (min l.slots 64) (read_brackets (drop l.at l.text)))
 
-abbrev pub decreases-loop-s : goal.decreases-loop-s
-decreases-loop-s l = length l.text - l.i
+abbrev pub decreases-loop-b : goal.decreases-loop-b
+decreases-loop-b l = length l.text - l.i

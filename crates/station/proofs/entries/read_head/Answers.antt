@@ -1,26 +1,30 @@
--- `read_head` meets its contract: what is left of the first 32 records by value, written back, is what the list is to be.
--- Assumes nothing.
-use Prim.Native.Nat.{ℕ}
-use mathlib.Core.Path.{◌≡◌, ◌∙◌, ap}
-use mathlib.Core.List.{List}
+-- `entries::read_head` meets its contract: a text that is too long and fewer than 32 records are refused; else what is left of the first 32, before the others, is what the list
+-- is to be. Assumes nothing.
+use native.Mathlib.Omega.{arith}
 use lib.ListN.{length}
+use mathlib.Core.List.{List}
+use Rattle.std.proofs.Common.{MutBor}
+use Rattle.std.proofs.lemmas.Result.{err_from_is_err_and}
 use Rattle.station.specs.declared.types.Preset.{Preset}
-use Rattle.station.specs.declared.entries.HeadAnswer.{HeadAnswer}
-use Rattle.station.specs.Entries.{entry_read, left_by}
-use Rattle.station.specs.Records.{loaded, saved}
-use Rattle.station.proofs.entries.ListOfRecords.{read_list}
+use Rattle.station.specs.declared.types.Refusal.TheVariants.{TooShort}
+use Rattle.station.proofs.entries.FirstRecords.{few_records, first_records}
+use Rattle.station.proofs.entries.ListOfRecords.{read_long, read_few, read_list}
 use Rattle.station.proofs.entries.read_head.Goals as goal
 
+pub returns-then-text-gt-MOST_BYTES : goal.returns-then-text-gt-MOST_BYTES
+returns-then-text-gt-MOST_BYTES c = let a = c.args in
+    rw c.into.ensures (read_long (length a.presets.now) a.text.now a.head.now a.presets.now (omega arith))
+
+pub returns-in_err-records : goal.returns-in_err-records
+returns-in_err-records c = let a = c.args in
+    let few = few_records (λ (y : MutBor (List Preset)). y.now) 32 a.presets.now TooShort c.first_chunk_mut.result c.ok_or.result c.in_err-records.field-0.0 c.first_chunk_mut.ensures.cases
+    c.ok_or.ensures.value c.in_err-records.was in
+    let p = err_from_is_err_and c.from_residual.result c.from_residual.ensures.1 in
+    rw (p.1, p.2, few.1) (read_few (length a.presets.now) a.text.now a.head.now a.presets.now (omega arith) few.0)
+
 pub returns : goal.returns
-returns c =
-    let t = c.args.text.now in
-    let h = c.args.head in
-    let ys = c.args.presets.now in
-    let zs = c.save.new.presets in
-    let r = c.read_counted-read.result in
-    let read : r ≡ entry_read (length ys) t h (loaded ys) =
-    c.read_counted-read.ensures
-    ∙ ap (λ (n : ℕ). entry_read n t h c.load-copied.result) c.record_count-records.ensures
-    ∙ ap (entry_read (length ys) t h) c.load-copied.ensures in
-    let left : zs ≡ saved ys r.presets 32 = c.save.ensures ∙ ap (λ (ps : List Preset). saved ys ps 32) c.presets_of.ensures in
-    ap (λ (z : HeadAnswer). left_by z zs) c.answer_of.ensures ∙ read_list t h ys zs r read left
+returns c = let a = c.args in
+    let b = c.read_head_by_value in
+    let chunk = first_records (λ (y : MutBor (List Preset)). y.now) 32 a.presets.now TooShort c.first_chunk_mut.result c.ok_or.result c.in_ok-records.records c.first_chunk_mut.ensures.cases
+    c.ok_or.ensures.value c.in_ok-records.was in
+    read_list a.text.now a.head.now b.new.head a.presets.now b.new.presets b.result chunk.0 (rw chunk.1 at b.ensures)

@@ -1,37 +1,28 @@
--- `read_event` meets its contract: a line without a call's first word, one with it that lacks its form, or a call.
+-- `read_event` meets its contract: a call by its first word, or any line by what it says.
 -- Assumes nothing.
-use mathlib.Core.Path.{sym, ◌∙◌, ap}
-use lib.ListN.{drop}
-use Rattle.laws.proofs.Tests.{false_of_not, true_of_not}
+use mathlib.Core.Path.{◌∙◌}
+use Rattle.std.proofs.lemmas.Result.{err_from_is_err_and}
 use Rattle.station.specs.Text.{bytes}
-use Rattle.station.specs.Form.{read_jobs}
-use Rattle.station.specs.declared.forms.Read.{Read}
-use Rattle.station.specs.Event.{line_event, event_in}
-use Rattle.station.proofs.events.EventLines.{call_form, call_read_lem, line_read}
-use Rattle.station.proofs.forms.LineForms.{call_none}
+use Rattle.station.specs.Form.{form}
+use Rattle.station.proofs.events.EventLines.{call_lacks, call_has, line_lacks, line_has}
 use Rattle.station.proofs.events.read_event.Goals as goal
 
-pub returns-then-not-starts_at : goal.returns-then-not-starts_at
+pub returns-in_err-list : goal.returns-in_err-list
 unfolding bytes
-returns-then-not-starts_at c = let w = c.starts_at in
-    let t = c.args.line.now in
-    c.line_event.ensures
-    ∙ ap (λ (r : Read). line_event r.line) c.read_line-read.ensures
-    ∙ line_read 64 t (sym w.ensures ∙ c.if-not-starts_at.true)
+returns-in_err-list c =
+    let p = err_from_is_err_and c.from_residual.result c.from_residual.ensures.1 in
+    rw (p.1, p.2) (call_lacks c.args.line.now c.in-Some.at c.in-Some.ensures c.jobs_at.result c.jobs_at.ensures _ c.in_err-list.ensures.value)
 
-pub returns-then-not-list : goal.returns-then-not-list
+pub returns-in-Some : goal.returns-in-Some
 unfolding bytes
-returns-then-not-list c = let w = c.starts_at in
-    let t = c.args.line.now in
-    let j = c.jobs_at-list in
-    let yes = sym w.ensures ∙ c.if-not-starts_at.false in
-    let no = false_of_not j.result.found c.if-not-list.true in
-    c.refused.ensures ∙ ap event_in (sym (call_form t yes ∙ call_none (read_jobs (drop 6 t)) j.result j.ensures no))
+returns-in-Some c =
+    c.call_event.ensures
+    ∙ call_has c.args.line.now c.in-Some.at c.in-Some.ensures c.jobs_at.result c.jobs_at.ensures c.in_ok-list.list c.in_ok-list.ensures.value
+
+pub returns-in_err-said : goal.returns-in_err-said
+returns-in_err-said c =
+    let p = err_from_is_err_and c.from_residual-in_err-said.result c.from_residual-in_err-said.ensures.1 in
+    rw (p.1, p.2) (line_lacks 64 (form c.args.line.now) c.read_line.result c.read_line.ensures _ c.in_err-said.ensures.value)
 
 pub returns : goal.returns
-unfolding bytes
-returns c = let w = c.starts_at in
-    let t = c.args.line.now in
-    let j = c.jobs_at-list in
-    let yes = sym w.ensures ∙ c.if-not-starts_at.false in
-    c.call_event.ensures ∙ call_read_lem t j.result yes j.ensures (true_of_not j.result.found c.if-not-list.false)
+returns c = c.line_event.ensures ∙ line_has 64 (form c.args.line.now) c.read_line.result c.read_line.ensures c.in_ok-said.said c.in_ok-said.ensures.value

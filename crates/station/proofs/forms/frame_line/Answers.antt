@@ -1,56 +1,40 @@
 -- `frame_line` meets its contract: each answer is the recogniser's, step by step.
 -- Assumes nothing.
-use mathlib.Core.Path.{refl, sym, ◌∙◌, ap}
-use Rattle.laws.proofs.Tests.{false_of_not, true_of_not}
+use mathlib.Core.Path.{sym, ◌∙◌, ap}
 use Rattle.station.specs.Text.{bytes}
 use Rattle.station.specs.Form.{frame_in}
-use Rattle.station.specs.method.ReadLine.{read_in}
-use Rattle.station.proofs.numbers.Recognised.{word_yes, word_no, then_yes, then_no, then_value, last_yes, last_no, last_value}
+use Rattle.station.specs.method.ReadLine.{line_in}
+use Rattle.station.proofs.numbers.Recognised.{word_read, word_lacks, then_yes, then_no, then_value, last_yes, last_no, last_value}
 use Rattle.station.proofs.forms.frame_line.Goals as goal
 
-pub returns-then-not-starts_at : goal.returns-then-not-starts_at
+pub returns-in_err-at : goal.returns-in_err-at
 unfolding bytes frame_in
-returns-then-not-starts_at c = λ hi.
-    let w = c.starts_at in
-    c.without_jobs.ensures
-    ∙ ap (read_in hi) (sym (word_no _ (bytes "(frame ") 0 _ (sym w.ensures ∙ c.if-not-starts_at.true)))
+returns-in_err-at c = λ hi.
+    c.from_residual.ensures ∙ ap (line_in hi) (sym (word_lacks _ (bytes "(frame ") 0 _ c.in_err-at.ensures))
 
-pub returns-then-not-slots : goal.returns-then-not-slots
+pub returns-in_err-slots : goal.returns-in_err-slots
 unfolding bytes frame_in
-returns-then-not-slots c = λ hi.
-    let n0 = c.number_then-slots in
-    let w = c.starts_at in
+returns-in_err-slots c = λ hi.
     let t = c.args.line.now in
-    c.without_jobs-then-not-slots.ensures
-    ∙ ap (read_in hi) (sym (word_yes t (bytes "(frame ") 0 7 _ (sym w.ensures ∙ c.if-not-starts_at.false) refl
-    ∙ then_no t (bytes " ") 7 n0.result n0.ensures (false_of_not n0.result.found c.if-not-slots.true) _))
+    c.from_residual-in_err-slots.ensures ∙ ap (line_in hi) (sym (word_read t (bytes "(frame ") 0 _ c.in_ok-at.at c.in_ok-at.ensures
+    ∙ then_no t (bytes " ") c.in_ok-at.at _ c.in_err-slots.ensures))
 
-pub returns-then-not-bridges : goal.returns-then-not-bridges
+pub returns-in_err-bridges : goal.returns-in_err-bridges
 unfolding bytes frame_in
-returns-then-not-bridges c = λ hi.
-    let n1 = c.number_last-bridges in
-    let n0 = c.number_then-slots in
-    let f0 = true_of_not n0.result.found c.if-not-slots.false in
-    let w = c.starts_at in
+returns-in_err-bridges c = λ hi.
+    let n = c.in_ok-slots in
     let t = c.args.line.now in
-    c.without_jobs-then-not-bridges.ensures
-    ∙ ap (read_in hi) (sym (word_yes t (bytes "(frame ") 0 7 _ (sym w.ensures ∙ c.if-not-starts_at.false) refl
-    ∙ then_yes t (bytes " ") 7 n0.result n0.ensures f0 _
-    ∙ last_no t n0.result.next n1.result n1.ensures (false_of_not n1.result.found c.if-not-bridges.true) _))
+    c.from_residual-in_err-bridges.ensures ∙ ap (line_in hi) (sym (word_read t (bytes "(frame ") 0 _ c.in_ok-at.at c.in_ok-at.ensures
+    ∙ then_yes t (bytes " ") c.in_ok-at.at _ n.slots n.ensures
+    ∙ last_no t n.slots.next _ c.in_err-bridges.ensures))
 
 pub returns : goal.returns
 unfolding bytes frame_in
 returns c = λ hi.
-    let n1 = c.number_last-bridges in
-    let f1 = true_of_not n1.result.found c.if-not-bridges.false in
-    let n0 = c.number_then-slots in
-    let f0 = true_of_not n0.result.found c.if-not-slots.false in
-    let w = c.starts_at in
+    let n = c.in_ok-slots in
+    let b = c.in_ok-bridges in
     let t = c.args.line.now in
-    rw (
-      then_value t (bytes " ") 7 n0.result n0.ensures f0,
-      last_value t n0.result.next n1.result n1.ensures f1,
-    ) at c.without_jobs-2.ensures
-    ∙ ap (read_in hi) (sym (word_yes t (bytes "(frame ") 0 7 _ (sym w.ensures ∙ c.if-not-starts_at.false) refl
-    ∙ then_yes t (bytes " ") 7 n0.result n0.ensures f0 _
-    ∙ last_yes t n0.result.next n1.result n1.ensures f1 _))
+    rw (then_value t (bytes " ") c.in_ok-at.at n.slots n.ensures, last_value t n.slots.next b.bridges b.ensures)
+    (ap (line_in hi) (sym (word_read t (bytes "(frame ") 0 _ c.in_ok-at.at c.in_ok-at.ensures
+    ∙ then_yes t (bytes " ") c.in_ok-at.at _ n.slots n.ensures
+    ∙ last_yes t n.slots.next _ b.bridges b.ensures)))

@@ -1,99 +1,73 @@
 -- `preset_line` meets its contract: each answer is the recogniser's, step by step.
 -- Assumes nothing.
-use mathlib.Core.Path.{refl, sym, ◌∙◌, ap}
-use Rattle.laws.proofs.Tests.{false_of_not, true_of_not}
+use mathlib.Core.Path.{sym, ◌∙◌, ap}
 use Rattle.station.specs.Text.{bytes}
 use Rattle.station.specs.Form.{preset_in}
-use Rattle.station.specs.method.ReadLine.{read_in}
-use Rattle.station.proofs.numbers.Recognised.{word_yes, word_no, then_yes, then_no, then_value, last_yes, last_no, last_value}
+use Rattle.station.specs.method.ReadLine.{line_in}
+use Rattle.station.proofs.numbers.Recognised.{word_read, word_lacks, then_yes, then_no, then_value, last_yes, last_no, last_value}
 use Rattle.station.proofs.forms.preset_line.Goals as goal
 
-pub returns-then-not-starts_at : goal.returns-then-not-starts_at
+pub returns-in_err-at : goal.returns-in_err-at
 unfolding bytes preset_in
-returns-then-not-starts_at c = λ hi.
-    let w = c.starts_at in
-    c.without_jobs.ensures
-    ∙ ap (read_in hi) (sym (word_no _ (bytes "(preset ") 0 _ (sym w.ensures ∙ c.if-not-starts_at.true)))
+returns-in_err-at c = λ hi.
+    c.from_residual.ensures ∙ ap (line_in hi) (sym (word_lacks _ (bytes "(preset ") 0 _ c.in_err-at.ensures))
 
-pub returns-then-not-number : goal.returns-then-not-number
+pub returns-in_err-number : goal.returns-in_err-number
 unfolding bytes preset_in
-returns-then-not-number c = λ hi.
-    let n0 = c.number_then-number in
-    let w = c.starts_at in
+returns-in_err-number c = λ hi.
     let t = c.args.line.now in
-    c.without_jobs-then-not-number.ensures
-    ∙ ap (read_in hi) (sym (word_yes t (bytes "(preset ") 0 8 _ (sym w.ensures ∙ c.if-not-starts_at.false) refl
-    ∙ then_no t (bytes " ") 8 n0.result n0.ensures (false_of_not n0.result.found c.if-not-number.true) _))
+    c.from_residual-in_err-number.ensures ∙ ap (line_in hi) (sym (word_read t (bytes "(preset ") 0 _ c.in_ok-at.at c.in_ok-at.ensures
+    ∙ then_no t (bytes " ") c.in_ok-at.at _ c.in_err-number.ensures))
 
-pub returns-then-not-priority : goal.returns-then-not-priority
+pub returns-in_err-priority : goal.returns-in_err-priority
 unfolding bytes preset_in
-returns-then-not-priority c = λ hi.
-    let n1 = c.number_then-priority in
-    let n0 = c.number_then-number in
-    let f0 = true_of_not n0.result.found c.if-not-number.false in
-    let w = c.starts_at in
+returns-in_err-priority c = λ hi.
+    let n = c.in_ok-number in
     let t = c.args.line.now in
-    c.without_jobs-then-not-priority.ensures
-    ∙ ap (read_in hi) (sym (word_yes t (bytes "(preset ") 0 8 _ (sym w.ensures ∙ c.if-not-starts_at.false) refl
-    ∙ then_yes t (bytes " ") 8 n0.result n0.ensures f0 _
-    ∙ then_no t (bytes " ") n0.result.next n1.result n1.ensures (false_of_not n1.result.found c.if-not-priority.true) _))
+    c.from_residual-in_err-priority.ensures ∙ ap (line_in hi) (sym (word_read t (bytes "(preset ") 0 _ c.in_ok-at.at c.in_ok-at.ensures
+    ∙ then_yes t (bytes " ") c.in_ok-at.at _ n.number n.ensures
+    ∙ then_no t (bytes " ") n.number.next _ c.in_err-priority.ensures))
 
-pub returns-then-not-mandatory : goal.returns-then-not-mandatory
+pub returns-in_err-mandatory : goal.returns-in_err-mandatory
 unfolding bytes preset_in
-returns-then-not-mandatory c = λ hi.
-    let n2 = c.number_then-mandatory in
-    let n1 = c.number_then-priority in
-    let f1 = true_of_not n1.result.found c.if-not-priority.false in
-    let n0 = c.number_then-number in
-    let f0 = true_of_not n0.result.found c.if-not-number.false in
-    let w = c.starts_at in
+returns-in_err-mandatory c = λ hi.
+    let n = c.in_ok-number in
+    let p = c.in_ok-priority in
     let t = c.args.line.now in
-    c.without_jobs-then-not-mandatory.ensures
-    ∙ ap (read_in hi) (sym (word_yes t (bytes "(preset ") 0 8 _ (sym w.ensures ∙ c.if-not-starts_at.false) refl
-    ∙ then_yes t (bytes " ") 8 n0.result n0.ensures f0 _
-    ∙ then_yes t (bytes " ") n0.result.next n1.result n1.ensures f1 _
-    ∙ then_no t (bytes " ") n1.result.next n2.result n2.ensures (false_of_not n2.result.found c.if-not-mandatory.true) _))
+    c.from_residual-in_err-mandatory.ensures ∙ ap (line_in hi) (sym (word_read t (bytes "(preset ") 0 _ c.in_ok-at.at c.in_ok-at.ensures
+    ∙ then_yes t (bytes " ") c.in_ok-at.at _ n.number n.ensures
+    ∙ then_yes t (bytes " ") n.number.next _ p.priority p.ensures
+    ∙ then_no t (bytes " ") p.priority.next _ c.in_err-mandatory.ensures))
 
-pub returns-then-not-optional : goal.returns-then-not-optional
+pub returns-in_err-optional : goal.returns-in_err-optional
 unfolding bytes preset_in
-returns-then-not-optional c = λ hi.
-    let n3 = c.number_last-optional in
-    let n2 = c.number_then-mandatory in
-    let f2 = true_of_not n2.result.found c.if-not-mandatory.false in
-    let n1 = c.number_then-priority in
-    let f1 = true_of_not n1.result.found c.if-not-priority.false in
-    let n0 = c.number_then-number in
-    let f0 = true_of_not n0.result.found c.if-not-number.false in
-    let w = c.starts_at in
+returns-in_err-optional c = λ hi.
+    let n = c.in_ok-number in
+    let p = c.in_ok-priority in
+    let m = c.in_ok-mandatory in
     let t = c.args.line.now in
-    c.without_jobs-then-not-optional.ensures
-    ∙ ap (read_in hi) (sym (word_yes t (bytes "(preset ") 0 8 _ (sym w.ensures ∙ c.if-not-starts_at.false) refl
-    ∙ then_yes t (bytes " ") 8 n0.result n0.ensures f0 _
-    ∙ then_yes t (bytes " ") n0.result.next n1.result n1.ensures f1 _
-    ∙ then_yes t (bytes " ") n1.result.next n2.result n2.ensures f2 _
-    ∙ last_no t n2.result.next n3.result n3.ensures (false_of_not n3.result.found c.if-not-optional.true) _))
+    c.from_residual-in_err-optional.ensures ∙ ap (line_in hi) (sym (word_read t (bytes "(preset ") 0 _ c.in_ok-at.at c.in_ok-at.ensures
+    ∙ then_yes t (bytes " ") c.in_ok-at.at _ n.number n.ensures
+    ∙ then_yes t (bytes " ") n.number.next _ p.priority p.ensures
+    ∙ then_yes t (bytes " ") p.priority.next _ m.mandatory m.ensures
+    ∙ last_no t m.mandatory.next _ c.in_err-optional.ensures))
 
 pub returns : goal.returns
 unfolding bytes preset_in
 returns c = λ hi.
-    let n3 = c.number_last-optional in
-    let f3 = true_of_not n3.result.found c.if-not-optional.false in
-    let n2 = c.number_then-mandatory in
-    let f2 = true_of_not n2.result.found c.if-not-mandatory.false in
-    let n1 = c.number_then-priority in
-    let f1 = true_of_not n1.result.found c.if-not-priority.false in
-    let n0 = c.number_then-number in
-    let f0 = true_of_not n0.result.found c.if-not-number.false in
-    let w = c.starts_at in
+    let n = c.in_ok-number in
+    let p = c.in_ok-priority in
+    let m = c.in_ok-mandatory in
+    let o = c.in_ok-optional in
     let t = c.args.line.now in
     rw (
-      then_value t (bytes " ") 8 n0.result n0.ensures f0,
-      then_value t (bytes " ") n0.result.next n1.result n1.ensures f1,
-      then_value t (bytes " ") n1.result.next n2.result n2.ensures f2,
-      last_value t n2.result.next n3.result n3.ensures f3,
-    ) at c.without_jobs-2.ensures
-    ∙ ap (read_in hi) (sym (word_yes t (bytes "(preset ") 0 8 _ (sym w.ensures ∙ c.if-not-starts_at.false) refl
-    ∙ then_yes t (bytes " ") 8 n0.result n0.ensures f0 _
-    ∙ then_yes t (bytes " ") n0.result.next n1.result n1.ensures f1 _
-    ∙ then_yes t (bytes " ") n1.result.next n2.result n2.ensures f2 _
-    ∙ last_yes t n2.result.next n3.result n3.ensures f3 _))
+      then_value t (bytes " ") c.in_ok-at.at n.number n.ensures,
+      then_value t (bytes " ") n.number.next p.priority p.ensures,
+      then_value t (bytes " ") p.priority.next m.mandatory m.ensures,
+      last_value t m.mandatory.next o.optional o.ensures,
+    )
+    (ap (line_in hi) (sym (word_read t (bytes "(preset ") 0 _ c.in_ok-at.at c.in_ok-at.ensures
+    ∙ then_yes t (bytes " ") c.in_ok-at.at _ n.number n.ensures
+    ∙ then_yes t (bytes " ") n.number.next _ p.priority p.ensures
+    ∙ then_yes t (bytes " ") p.priority.next _ m.mandatory m.ensures
+    ∙ last_yes t m.mandatory.next _ o.optional o.ensures)))

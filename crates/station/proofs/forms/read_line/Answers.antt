@@ -1,24 +1,14 @@
 -- `read_line` meets its contract: a line of the head, or else an event's.
 -- Assumes nothing.
 use Prim.Native.Nat.{min}
-use mathlib.Core.Path.{sym, ◌∙◌}
+use Rattle.std.proofs.Common.{rules}
 use Rattle.station.specs.method.ReadLine.{head_form, event_form}
-use Rattle.station.proofs.forms.LineForms.{read_first, read_second, form_parts}
+use Rattle.station.proofs.forms.LineForms.{or_else_is, form_parts}
 use Rattle.station.proofs.forms.read_line.Goals as goal
 
-pub returns-then-has_form : goal.returns-then-has_form
-returns-then-has_form c = let r = c.head_line-head in
-    let s = c.args in
-    let t = s.line.now in
-    let hi = min s.slots 64 in
-    rw (form_parts t)
-    (read_first hi (head_form t) (event_form t) r.result r.ensures (sym c.has_form.ensures ∙ c.if-has_form.true))
-
 pub returns : goal.returns
-returns c = let r = c.head_line-head in
-    let s = c.args in
-    let t = s.line.now in
-    let hi = min s.slots 64 in
+returns c =
+    let hi = min c.args.slots 64 in
+    let t = c.args.line.now in
     rw (form_parts t)
-    (read_second hi (head_form t) (event_form t) r.result c.event_line.result (c.event_line.ensures hi) r.ensures
-    (sym c.has_form.ensures ∙ c.if-has_form.false))
+    (or_else_is hi (head_form t) (event_form t) c.head_line.result c.or_else.result c.head_line.ensures c.or_else.ensures (λ p. search rules))

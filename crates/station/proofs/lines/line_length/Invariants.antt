@@ -1,4 +1,4 @@
--- `line_length` meets its contract. The invariant: the line ends where the line from `i` on ends. The measure is what is left of the text.
+-- `line_length` meets its contract. The invariant: the line ends where the line from `i` on ends, or from `n` on. The measure is what is left of the text.
 -- Assumes nothing.
 use Prim.Native.Nat.{◌+◌, ◌-◌, ◌≤◌}
 use mathlib.Core.Path.{◌≡◌}
@@ -11,3 +11,6 @@ invariant-loop-i l = (l.i ≤ length l.text) × (l.i + length (line_of (drop l.i
 
 abbrev pub decreases-loop-i : goal.decreases-loop-i
 decreases-loop-i l = length l.text - l.i
+
+abbrev pub invariant-loop-n : goal.invariant-loop-n
+invariant-loop-n l = l.n + length (line_of (drop l.n l.text)) ≡ length (line_of l.text)

@@ -18,8 +18,7 @@ returns-then-not-digit_at c = let s = c.args in
     let d = c.digit_at in
     let no = sym d.ensures ∙ c.if-not-digit_at.true in
     let n = count_none t s.at no in
-    let e : s.at + digit_count (drop s.at t) ≡ s.at = omega arith in
-    rw (plain_none t s.at n, e, front_none t s.at 0 no) refl
+    rw (plain_none t s.at n) refl
 
 pub bounds-text-at : goal.bounds-text-at
 bounds-text-at c = let s = c.args in
@@ -105,4 +104,4 @@ returns c = let s = c.args in
     let no = sym c.digit_at-in-loop-value.ensures ∙ c.loop-value-test.false in
     let n : l.i ≡ s.at + digit_count (drop s.at t) = omega (arith, count_none t l.i no) in
     let v : l.value ≡ seen (front (drop s.at t)) = omega (arith, front_none t l.i l.value no, l.invariant.2) in
-    rw (plain_digits t s.at l.i yes (sym n), n, v) refl
+    c.then_some.ensures ∙ (rw (plain_digits t s.at l.i yes (sym n), n, v) refl)

@@ -1,8 +1,6 @@
 -- `output::number_within` meets its contract, by the number of digits. Assumes nothing.
 use Prim.Native.Nat.{◌+◌, ◌/◌}
 use native.Mathlib.Omega.{arith}
-use mathlib.Core.Path.{◌∙◌}
-use lib.ListN.{length-set}
 use Rattle.station.proofs.Decimal.{digits_small}
 use Rattle.station.proofs.output.TwoDigits.{digits_two, digits_hundreds}
 use Rattle.station.proofs.output.Runs.{wrote_byte, wrote_then, wrote_length, wrote_place}
@@ -13,12 +11,6 @@ returns-then-n-lt10 c = let a = c.args in rw (digits_small a.n (omega arith)) (w
 
 pub returns-then-n-lt100 : goal.returns-then-n-lt100
 returns-then-n-lt100 c = rw (digits_two c.args.n (omega arith) (omega arith)) c.two_digits.ensures
-
-pub two_digits-requires-then-n-lt1000 : goal.two_digits-requires-then-n-lt1000
-two_digits-requires-then-n-lt1000 c = (omega arith, simp length-set (omega arith))
-
-pub shape_of-out-then-n-lt1000 : goal.shape_of-out-then-n-lt1000
-shape_of-out-then-n-lt1000 c = wrote_length c.two_digits-then-n-lt1000.ensures ∙ simp length-set
 
 pub returns-then-n-lt1000 : goal.returns-then-n-lt1000
 returns-then-n-lt1000 c = let a = c.args in

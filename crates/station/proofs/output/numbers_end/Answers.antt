@@ -8,19 +8,9 @@ use Rattle.station.proofs.output.TwoDigits.{after_number}
 use Rattle.station.proofs.output.Runs.{wrote_byte, wrote_two, wrote_then}
 use Rattle.station.proofs.output.numbers_end.Goals as goal
 
-pub returns-then-places_before-at : goal.returns-then-places_before-at
+pub returns-then-saturating_sub-at : goal.returns-then-saturating_sub-at
 unfolding bytes
-returns-then-places_before-at c = simp append_assoc at (wrote_then c.two_numbers-last.ensures c.word.ensures)
-
-pub bounds-out-blank : goal.bounds-out-blank
-bounds-out-blank c =
-    let m = after_number c.args.m (omega arith) c.number_within-blank.ensures in
-    omega (arith, m, length-set {A = ℕ})
-
-pub overflow_add-blank : goal.overflow_add-blank
-overflow_add-blank c =
-    let m = after_number c.args.m (omega arith) c.number_within-blank.ensures in
-    omega (arith, m, length-set {A = ℕ})
+returns-then-saturating_sub-at c = simp append_assoc at (wrote_then c.two_numbers-last.ensures c.word.ensures)
 
 pub number_within-end-requires : goal.number_within-end-requires
 number_within-end-requires c =
@@ -33,26 +23,8 @@ bounds-out-end c =
     let n = after_number c.args.n (omega arith) c.number_within-end.ensures in
     omega (arith, m, n, length-set {A = ℕ})
 
-pub overflow_add-out : goal.overflow_add-out
-overflow_add-out c =
-    let m = after_number c.args.m (omega arith) c.number_within-blank.ensures in
-    let n = after_number c.args.n (omega arith) c.number_within-end.ensures in
-    omega (arith, m, n, length-set {A = ℕ})
-
 pub bounds-out-end-2 : goal.bounds-out-end-2
 bounds-out-end-2 c =
-    let m = after_number c.args.m (omega arith) c.number_within-blank.ensures in
-    let n = after_number c.args.n (omega arith) c.number_within-end.ensures in
-    omega (arith, m, n, length-set {A = ℕ})
-
-pub overflow_add-result : goal.overflow_add-result
-overflow_add-result c =
-    let m = after_number c.args.m (omega arith) c.number_within-blank.ensures in
-    let n = after_number c.args.n (omega arith) c.number_within-end.ensures in
-    omega (arith, m, n, length-set {A = ℕ})
-
-pub shape_of-out : goal.shape_of-out
-shape_of-out c =
     let m = after_number c.args.m (omega arith) c.number_within-blank.ensures in
     let n = after_number c.args.n (omega arith) c.number_within-end.ensures in
     omega (arith, m, n, length-set {A = ℕ})

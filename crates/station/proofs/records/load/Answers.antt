@@ -1,7 +1,6 @@
--- One turn fills one record more.
-use Rattle.std.proofs.Common.{arith}
-use Rattle.station.proofs.records.CopiedLoops.{loading_more}
+-- The front of the list in place of as many zeros.
+use Rattle.station.proofs.records.CopiedLoops.{loaded_front}
 use Rattle.station.proofs.records.load.Goals as goal
 
-pub loop-i-preserved : goal.loop-i-preserved
-loop-i-preserved c = (omega arith, rw (c.loop-i.invariant.1, c.record_at.ensures) (loading_more c.args.presets.now c.loop-i.i c.loop-i-test.true))
+pub returns : goal.returns
+returns c = rw c.copy_from_slice.ensures.after (loaded_front c.args.presets.now c.min-n.result c.min-n.ensures)

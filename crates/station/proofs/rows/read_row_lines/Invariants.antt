@@ -7,7 +7,7 @@ use Rattle.station.proofs.rows.RowLoop.{AtRow}
 use Rattle.station.proofs.rows.read_row_lines.Given as goal
 
 abbrev pub invariant-loop-at : goal.invariant-loop-at
-invariant-loop-at l = AtRow l.text l.head l.busy l.at l.n
+invariant-loop-at l = AtRow l.text l.head l.busy l.at l.rows
 
 abbrev pub decreases-loop-at : goal.decreases-loop-at
 decreases-loop-at l = length l.text - l.at

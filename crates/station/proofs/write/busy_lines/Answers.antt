@@ -1,5 +1,5 @@
 -- `write::busy_lines` meets its contract. The invariant: the lines of the bridges from b on are left. Assumes nothing.
-use Prim.Native.Nat.{suc, ◌<◌}
+use Prim.Native.Nat.{suc}
 use native.Mathlib.Numerals.{add-one}
 use native.Mathlib.Omega.{arith}
 use mathlib.Core.Path.{◌≡◌}
@@ -14,46 +14,20 @@ use Rattle.station.proofs.write.HeadLines.{busy_lines_step}
 use Rattle.station.proofs.write.busy_lines.Goals as goal
 
 pub loop-b-init : goal.loop-b-init
-loop-b-init c = let a = c.args in (omega arith, left_all a.out.now a.at (join (map print (busy_lines 1 a.busy))))
-
-pub overflow_add-b : goal.overflow_add-b
-overflow_add-b c = omega arith
-
-pub overflow_cast-b : goal.overflow_cast-b
-overflow_cast-b c = omega arith
-
-pub offset_bounds-busy-b : goal.offset_bounds-busy-b
-offset_bounds-busy-b c = omega arith
-
-pub bounds-busy-b : goal.bounds-busy-b
-bounds-busy-b c = omega arith
-
-pub overflow_add-b-in-loop-b : goal.overflow_add-b-in-loop-b
-overflow_add-b-in-loop-b c = omega arith
-
-pub loop-b-smaller : goal.loop-b-smaller
-loop-b-smaller c = omega arith
+loop-b-init c = let a = c.args in left_all a.out.now a.at (join (map print (busy_lines 1 a.busy.now)))
 
 pub loop-b-preserved : goal.loop-b-preserved
 unfolding busy_lines
 loop-b-preserved c = let loop = c.loop-b in
     let b = loop.b in
-    let busy = c.args.busy in
-    let n : length busy ≡ 8 = omega arith in
-    let h : b < length busy = omega arith in (
-      omega arith,
-      rw add-one
-          (left_wrote (join (map print (busy_line_of (suc b) (stretches 64 1 (get_or busy b 0))))) (join (map print (busy_lines (suc (suc b)) (drop (suc b) busy))))
-          (rw (busy_lines_step b busy h) at loop.invariant.1) (rw add-one at c.busy_line-position.ensures)),
-    )
-
-pub shape_of-out : goal.shape_of-out
-shape_of-out c = c.loop-b.invariant.1.size
+    let busy = c.args.busy.now in
+    rw add-one
+    (left_wrote (join (map print (busy_line_of (suc b) (stretches 64 1 (get_or busy b 0))))) (join (map print (busy_lines (suc (suc b)) (drop (suc b) busy))))
+    (rw (busy_lines_step b busy c.loop-b-test.true) at loop.invariant) (rw add-one at c.busy_line-position.ensures))
 
 pub returns : goal.returns
 unfolding busy_lines
 returns c = let loop = c.loop-b in
-    let busy = c.args.busy in
-    let n : length busy ≡ 8 = omega arith in
+    let busy = c.args.busy.now in
     let e : loop.b ≡ length busy = omega arith in
-    left_none (rw (e, drop-length busy) at loop.invariant.1)
+    left_none (rw (e, drop-length busy) at loop.invariant)

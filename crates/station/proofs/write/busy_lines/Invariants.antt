@@ -1,5 +1,5 @@
 -- `write::busy_lines` meets its contract. The invariant: the lines of the bridges from b on are left. Assumes nothing.
-use Prim.Native.Nat.{suc, ◌-◌, ◌≤◌}
+use Prim.Native.Nat.{suc}
 use mathlib.Core.List.{map}
 use lib.ListN.{drop}
 use Rattle.station.specs.Text.{join}
@@ -9,7 +9,4 @@ use Rattle.station.specs.Wrote.{Left}
 use Rattle.station.proofs.write.busy_lines.Given as goal
 
 abbrev pub invariant-loop-b : goal.invariant-loop-b
-invariant-loop-b l = (l.b ≤ 8) × Left l.initial.out l.at (join (map print (busy_lines 1 l.busy))) l.out l.position (join (map print (busy_lines (suc l.b) (drop l.b l.busy))))
-
-abbrev pub decreases-loop-b : goal.decreases-loop-b
-decreases-loop-b l = 8 - l.b
+invariant-loop-b l = Left l.initial.out l.at (join (map print (busy_lines 1 l.busy))) l.out l.position (join (map print (busy_lines (suc l.b) (drop l.b l.busy))))

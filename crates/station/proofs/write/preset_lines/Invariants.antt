@@ -1,16 +1,11 @@
 -- `write::preset_lines` meets its contract. The invariant: the lines of the presets from i on are left. Assumes nothing.
-use Prim.Native.Nat.{◌-◌, ◌≤◌}
 use mathlib.Core.List.{map}
-use lib.ListN.{take, drop}
+use lib.ListN.{drop}
 use Rattle.station.specs.Text.{join}
 use Rattle.station.specs.Form.{preset_line, print}
-use Rattle.station.specs.Types.{preset_in, presets_in}
+use Rattle.station.specs.Types.{preset_in}
 use Rattle.station.specs.Wrote.{Left}
 use Rattle.station.proofs.write.preset_lines.Given as goal
 
-abbrev pub invariant-loop-i : goal.invariant-loop-i
-invariant-loop-i l = (l.i ≤ l.count)
-    × Left l.initial.out l.at (join (map print (map preset_line (presets_in l.count l.presets)))) l.out l.position (join (map print (map preset_line (map preset_in (drop l.i (take l.count l.presets))))))
-
-abbrev pub decreases-loop-i : goal.decreases-loop-i
-decreases-loop-i l = l.count - l.i
+abbrev pub invariant-loop-preset : goal.invariant-loop-preset
+invariant-loop-preset l = Left l.initial.out l.at (join (map print (map preset_line (map preset_in l.presets)))) l.out l.position (join (map print (map preset_line (map preset_in (drop l.preset-index l.presets)))))

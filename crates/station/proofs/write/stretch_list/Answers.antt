@@ -7,7 +7,7 @@ use mathlib.Core.Path.{◌≡◌, refl, sym, ap}
 use lib.Dec.{ltb}
 use Rattle.station.specs.Writing.{stretches}
 use Rattle.station.specs.method.Runs.{stretches_from, brackets_of, bracket_text}
-use Rattle.station.proofs.write.MaskRuns.{busy_found, busy_high, free_high, from_next_busy, NextRun, next_run, bracket_step}
+use Rattle.station.proofs.write.MaskRuns.{busy_found, busy_high, from_next_busy, NextRun, next_run, bracket_step}
 use Rattle.station.proofs.output.Runs.{left_all, left_wrote, left_none}
 use Rattle.station.proofs.write.stretch_list.Goals as goal
 
@@ -20,15 +20,6 @@ loop-from-init c = let a = c.args in
       (λ h. rw e (busy_found 64 mask 0 (rw e at h))),
       rw (e, ← from_next_busy 64 mask 0 64 refl, ← all) (left_all a.out.now a.at (brackets_of (stretches 64 1 mask))),
     )
-
-pub overflow_add-from : goal.overflow_add-from
-overflow_add-from c = omega arith
-
-pub overflow_cast-from : goal.overflow_cast-from
-overflow_cast-from c = omega arith
-
-pub overflow_cast-to : goal.overflow_cast-to
-overflow_cast-to c = omega (arith, c.next_free-to.ensures, free_high (64 - c.loop-from.from) c.args.mask c.loop-from.from)
 
 -- after a turn: where the next run begins
 ahead : (c : goal.After-slice_known-in-loop-from-1) → NextRun c.args.mask c.loop-from.from c.next_busy-next.result
@@ -51,9 +42,6 @@ loop-from-preserved c = let loop = c.loop-from in
       left_wrote (bracket_text (suc loop.from) to.result (ltb next.result 64)) (brackets_of (stretches_from (64 - next.result) mask next.result))
           (rw step at loop.invariant.2) (rw add-one at c.bracket-position.ensures),
     )
-
-pub shape_of-out : goal.shape_of-out
-shape_of-out c = c.loop-from.invariant.2.size
 
 pub returns : goal.returns
 unfolding stretches

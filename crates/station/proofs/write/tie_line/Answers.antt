@@ -8,6 +8,6 @@ pub returns-then-hold : goal.returns-then-hold
 unfolding print bytes
 returns-then-hold c = rw c.if-hold.true c.word.ensures
 
-pub returns : goal.returns
-returns c = let a = c.args in
+pub returns-else-hold : goal.returns-else-hold
+returns-else-hold c = let a = c.args in
     rw c.if-hold.false (wrote_none a.out.now a.at)

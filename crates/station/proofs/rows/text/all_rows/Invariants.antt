@@ -1,12 +1,9 @@
 -- `rows::text::all_rows` meets its contract. The invariant: the rows of the bridges from b on are left. Assumes nothing.
-use Prim.Native.Nat.{suc, ◌-◌, ◌≤◌}
+use Prim.Native.Nat.{suc}
 use lib.ListN.{drop}
 use Rattle.station.specs.Row.{mask_rows, bare, rows_text}
 use Rattle.station.specs.Wrote.{Left}
 use Rattle.station.proofs.rows.text.all_rows.Given as goal
 
 abbrev pub invariant-loop-b : goal.invariant-loop-b
-invariant-loop-b l = (l.b ≤ 8) × Left l.initial.out 0 (rows_text l.busy) l.out l.position (bare (mask_rows (suc l.b) (drop l.b l.busy)))
-
-abbrev pub decreases-loop-b : goal.decreases-loop-b
-decreases-loop-b l = 8 - l.b
+invariant-loop-b l = Left l.initial.out 0 (rows_text l.busy) l.out l.position (bare (mask_rows (suc l.b) (drop l.b l.busy)))

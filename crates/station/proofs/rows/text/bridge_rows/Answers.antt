@@ -8,7 +8,7 @@ use mathlib.Core.Bool.{false}
 use Rattle.station.specs.Writing.{stretches}
 use Rattle.station.specs.Row.{row, print_row, bridge_rows, bare}
 use Rattle.station.specs.method.Runs.{stretches_from}
-use Rattle.station.proofs.write.MaskRuns.{busy_found, busy_high, free_high, from_next_busy, NextRun, next_run}
+use Rattle.station.proofs.write.MaskRuns.{busy_found, busy_high, from_next_busy, NextRun, next_run}
 use Rattle.station.proofs.output.Runs.{left_all, left_wrote, left_none}
 use Rattle.station.proofs.rows.RowRuns.{row_step}
 use Rattle.station.proofs.rows.text.bridge_rows.Goals as goal
@@ -22,15 +22,6 @@ loop-from-init c = let a = c.args in
       (λ h. rw e (busy_found 64 mask 0 (rw e at h))),
       rw (e, ← from_next_busy 64 mask 0 64 refl, ← all) (left_all a.out.now a.at (bare (bridge_rows a.bridge (stretches 64 1 mask)))),
     )
-
-pub overflow_add-from : goal.overflow_add-from
-overflow_add-from c = omega arith
-
-pub overflow_cast-from : goal.overflow_cast-from
-overflow_cast-from c = omega arith
-
-pub overflow_cast-to : goal.overflow_cast-to
-overflow_cast-to c = omega (arith, c.next_free-to.ensures, free_high (64 - c.loop-from.from) c.args.mask c.loop-from.from)
 
 -- after a turn: where the next run begins
 ahead : (c : goal.After-next_busy-from-in-loop-from) → NextRun c.args.mask c.loop-from.from c.next_busy-from-in-loop-from.result
@@ -53,9 +44,6 @@ loop-from-preserved c = let loop = c.loop-from in
       left_wrote (print_row false false false (row a.bridge (suc loop.from) to.result)) (bare (bridge_rows a.bridge (stretches_from (64 - next.result) a.mask next.result)))
           (rw step at loop.invariant.2) (rw add-one at c.bare_row-position.ensures),
     )
-
-pub shape_of-out : goal.shape_of-out
-shape_of-out c = c.loop-from.invariant.2.size
 
 pub returns : goal.returns
 unfolding stretches bare

@@ -1,19 +1,13 @@
 -- `write_rows_by_value` meets its contract. Assumes nothing.
-use mathlib.Core.Path.{sym, ◌∙◌}
-use Rattle.station.proofs.rows.RowRuns.{rows_too_short, rows_out_of_limits, rows_written_lem}
+use Rattle.std.proofs.lemmas.Result.{err_from_is_err_and}
+use Rattle.station.proofs.rows.RowRuns.{rows_refused_lem, rows_written_lem}
 use Rattle.station.proofs.rows.text.write_rows_by_value.Goals as goal
 
-pub returns-then-out-lt-LEAST_OUTPUT : goal.returns-then-out-lt-LEAST_OUTPUT
-returns-then-out-lt-LEAST_OUTPUT c = let a = c.args in rows_too_short a.head a.presets a.out.now c.if-out-lt-LEAST_OUTPUT.true
-
-pub returns-then-not-valid_record : goal.returns-then-not-valid_record
-returns-then-not-valid_record c = let a = c.args in
-    let v = c.valid_record in
-    rows_out_of_limits a.head a.presets a.out.now c.if-out-lt-LEAST_OUTPUT.false (sym v.ensures ∙ c.if-not-valid_record.true)
+pub returns-in_err-write_cause : goal.returns-in_err-write_cause
+returns-in_err-write_cause c = let a = c.args in
+    let p = err_from_is_err_and c.from_residual.result c.from_residual.ensures.1 in
+    rw (p.1, p.2) (rows_refused_lem a.head a.presets a.out.now c.in_err-write_cause.field-0.0 c.in_err-write_cause.ensures)
 
 pub returns : goal.returns
 returns c = let a = c.args in
-    let v = c.valid_record in
-    let t = c.all_rows in
-    rows_written_lem a.head a.presets a.out.now t.result t.new.out c.if-out-lt-LEAST_OUTPUT.false
-    (sym v.ensures ∙ c.if-not-valid_record.false) t.ensures
+    rows_written_lem a.head a.presets a.out.now c.all_rows.result c.all_rows.new.out c.in_ok-write_cause.ensures c.all_rows.ensures
