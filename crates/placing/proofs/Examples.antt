@@ -29,7 +29,9 @@ use Rattle.station.proofs.Theorems.{valid_of}
 use Rattle.station.specs.declared.types.Preset as record-of-preset
 use Rattle.station.specs.declared.types.Head as record-of-head
 use Rattle.station.specs.declared.types.Job as record-of-job
+use Rattle.station.specs.declared.types.Refusal as cause
 use Rattle.station.specs.declared.types.Refusal.TheVariants.{TooShort}
+use Rattle.std.specs.Prelude.{Result, Err}
 use Rattle.placing.specs.Table.{cell, cells, laid_out, well_formed}
 use Rattle.placing.specs.State.{State, state_of}
 use Rattle.placing.specs.Valid.{ValidPlan, first_clock, clock_in, usable, ValidCall, lost}
@@ -41,9 +43,6 @@ use Rattle.placing.specs.Causes.{call_jobs}
 use Rattle.placing.specs.PlanDone.{PlanDone, plan_meant}
 use Rattle.placing.specs.CallDone.{CallDone, call_meant}
 use Rattle.placing.specs.Entries.{plan_too_short, PlanEntered, CallEntered}
-use Rattle.placing.specs.declared.plan.Planned.{Planned}
-use Rattle.placing.specs.declared.call.CallAnswer as reply
-use Rattle.placing.specs.declared.call.CallAnswer.TheVariants as call_answer
 use Rattle.placing.proofs.ByCapacity.{plan_by_capacity}
 use Rattle.placing.proofs.ClaimsHold.{call_claim_lem}
 
@@ -584,12 +583,12 @@ unfolding plan_meant call_meant plans calls records_to job_records_to call_jobs
 records_answered = (refl, refl, refl, refl, refl, refl, refl)
 
 -- A list of 31 records is 8, whatever else is at fault; one of 32 is as the records say.
-pub plan_list : (head : record-of-head.Head) (ps : List record-of-preset.Preset) (t u : List ℕ) (r : Planned)
+pub plan_list : (head : record-of-head.Head) (ps : List record-of-preset.Preset) (t u : List ℕ) (r : Result (List ℕ) cause.Refusal)
     → (PlanEntered 31 head ps t u r → (r ≡ plan_too_short) × (u ≡ t)) × (PlanEntered 32 head ps t u r → PlanDone head ps t u r)
 plan_list head ps t u r = (λ e. e.short (omega arith), λ e. e.done (omega arith))
 
-pub call_list : (head : record-of-head.Head) (ps : List record-of-preset.Preset) (jobs : List Job) (st : State) (u : List ℕ) (r : reply.CallAnswer)
-    → (CallEntered 31 head ps jobs st u r → (r ≡ call_answer.Refused 0 TooShort) × (u ≡ st.table))
+pub call_list : (head : record-of-head.Head) (ps : List record-of-preset.Preset) (jobs : List Job) (st : State) (u : List ℕ) (r : Result ℕ cause.Refusal)
+    → (CallEntered 31 head ps jobs st u r → (r ≡ Err TooShort) × (u ≡ st.table))
     × (CallEntered 32 head ps jobs st u r → CallDone head ps jobs st u r)
 call_list head ps jobs st u r = (λ e. e.short (omega arith), λ e. e.done (omega arith))
 

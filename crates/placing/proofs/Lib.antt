@@ -22,9 +22,11 @@ mod CallByNumbers
 mod ByCapacity
 mod ClaimsHold
 mod AsUncapped
--- The code's records: a head record and its cells; from the records by value to a list of them; masks. The laws about one part of the code stand beside its proofs, in the
+-- The code's records: a head record and its cells; from the records by value to a list of them; masks; a test as 1 or 0; chains. The laws about one part of the code stand beside its proofs, in the
 -- folder of its name.
 mod HeadRecord
 mod ListOfRecords
 mod BridgeMask
 mod MaskBits
+mod OneBit
+mod Chains

@@ -1,11 +1,13 @@
 -- From the copied to the list of records: what a plan or a call does over the first 32 records by value, it does over the list.
 --
 -- In order: the first 32 records settle the outcome (`same_plan`, `same_call`); a refusal leaves what there was (`meant_refused`); the copied that is loaded from a list agrees with
--- it in them; the contract of each entry from that of its counted part (`plan_entered`, `call_entered`, `call_entry`).
+-- it in them; the contract of each entry from that of the entry by value (`plan_entered`, `call_entry`).
 -- Assumes nothing.
-use Prim.Native.Nat.{ℕ, ◌≤◌}
+use Prim.Native.Nat.{ℕ, ◌≤◌, ◌<◌}
 use native.Mathlib.Omega.{arith}
 use mathlib.Core.Path.{◌≡◌, refl, sym, ◌∙◌, ap, subst}
+use Rattle.std.specs.Prelude.{Result, Err}
+use Rattle.std.proofs.lemmas.Result.{IfOk-weaker}
 use mathlib.Core.Bool.{Bool, true, false, not, ◌&&◌}
 use mathlib.Core.Option.{Option, none, some}
 use mathlib.Core.List.{List, [], ◌∷◌, ◌++◌, map}
@@ -24,10 +26,10 @@ use Rattle.station.specs.declared.types.Head.{Head}
 use Rattle.station.specs.Records.{loaded}
 use Rattle.placing.specs.State.{State, state_of}
 use Rattle.placing.specs.Outcomes.{PlanAnswer, PlanOutcome, plan_of, CallAnswer, CallOutcome, call_of}
-use Rattle.placing.specs.declared.plan.Planned as result
-use Rattle.placing.specs.PlanDone.{plan_meant, grants_in}
-use Rattle.placing.specs.declared.call.CallAnswer as reply
-use Rattle.placing.specs.CallDone.{call_answer_in, call_meant}
+use Rattle.station.specs.declared.types.Refusal as cause
+use Rattle.station.specs.declared.types.Refusal.TheVariants.{TooShort}
+use Rattle.placing.specs.PlanDone.{plan_meant, grants_in, PlanDone}
+use Rattle.placing.specs.CallDone.{call_answer_in, call_meant, CallDone}
 use Rattle.placing.specs.Entries.{PlanEntered, CallEntered, CallEntry}
 use Rattle.placing.specs.Causes.{causes_of}
 use Rattle.placing.specs.Claims.{Running}
@@ -82,38 +84,22 @@ copied_agrees ps long = take-take 32 32 (ps ++ replicate 32 no_record) (omega ar
 
 -- ---- the contract of each entry
 
-module _ {n : ℕ} (head : Head) (ps : List Preset) {copied : List Preset} (counts : n ≡ length ps) (loads : copied ≡ loaded ps) where
-  copied_same : 32 ≤ length ps → take 32 copied ≡ take 32 ps
-  copied_same long = ap (take 32) loads ∙ copied_agrees ps long
+-- a list of 32 records or more
+pub plan_entered : (head : Head) (ps : List Preset) {copied : List Preset} → copied ≡ loaded ps → 32 ≤ length ps → {t u : List ℕ} {r : Result (List ℕ) cause.Refusal} → PlanDone head copied t u r
+    → PlanEntered (length ps) head ps t u r
+plan_entered head ps {copied} loads long {t} {u} {r} d =
+    let o = same_plan head copied ps (ap (take 32) loads ∙ copied_agrees ps long) t in
+    record {
+      short = λ l. absurd (omega (arith, long, l));
+      done = λ l. record {
+        answer = d.answer ∙ ap (λ (p : PlanOutcome). p.answer) o;
+        grants = IfOk-weaker r _ _ (λ g q. q ∙ ap (λ (p : PlanOutcome). filled 32 (length (grants_in p.answer)) (at (grants_in p.answer))) o) d.grants;
+        table = d.table ∙ ap (λ (p : PlanOutcome). p.table) o;
+      };
+    }
 
-  pub plan_entered : {t u : List ℕ} {r : result.Planned} → PlanEntered n head copied t u r → PlanEntered (length ps) head ps t u r
-  plan_entered {t} e =
-      record {
-        short = λ l. e.short (omega (arith, counts, l));
-        done = λ l.
-            let d = e.done (omega (arith, counts, l)) in
-            let o = same_plan head copied ps (copied_same l) t in
-            record {
-              answer = d.answer ∙ ap (λ (p : PlanOutcome). p.answer) o;
-              grants = d.grants ∙ ap (λ (p : PlanOutcome). filled 32 (length (grants_in p.answer)) (at (grants_in p.answer))) o;
-              table = d.table ∙ ap (λ (p : PlanOutcome). p.table) o;
-            };
-      }
-
-  call_entered : (jobs : List Job) (st : State) {u : List ℕ} {r : reply.CallAnswer} → CallEntered n head copied jobs st u r → CallEntered (length ps) head ps jobs st u r
-  call_entered jobs st e =
-      record {
-        short = λ l. e.short (omega (arith, counts, l));
-        done = λ l.
-            let d = e.done (omega (arith, counts, l)) in
-            let o = same_call head copied ps (copied_same l) jobs st in
-            record {
-              answer = d.answer ∙ ap (λ (p : CallOutcome). p.answer) o;
-              table = d.table ∙ ap (λ (p : CallOutcome). p.after.table) o;
-            };
-      }
-
-  module _ (jobs : List Job) (st : State) {u : List ℕ} {r : reply.CallAnswer} where
+module _ (head : Head) (ps : List Preset) (jobs : List Job) (st : State) where
+  module _ {u : List ℕ} {r : Result ℕ cause.Refusal} where
     -- a frame that 11 lets pass is one afterwards
     entered_running : CallEntered (length ps) head ps jobs st u r → Running (head_in head ps) st → Running (head_in head ps) (state_of u st.clock st.hold)
     entered_running e run = go (is (ltb (length ps) 32))
@@ -130,7 +116,17 @@ module _ {n : ℕ} (head : Head) (ps : List Preset) {copied : List Preset} (coun
         go (is_true l) = (e.short (lt_of (length ps) 32 l)).1
         go (is_false l) = let d = e.done (ge_of (length ps) 32 l) in d.table ∙ ap (λ (x : State). x.table) (meant_refused head ps jobs st k c (sym d.answer ∙ q))
 
-    pub call_entry : CallEntered n head copied jobs st u r → CallEntry head ps jobs st u r
-    call_entry e =
-        let done = call_entered jobs st e in
-        record { done = done; unchanged = entered_unchanged done; kept = entered_running done; claim = call_claim_lem (head_in head ps) jobs st }
+    entry : CallEntered (length ps) head ps jobs st u r → CallEntry head ps jobs st u r
+    entry done = record { done = done; unchanged = entered_unchanged done; kept = entered_running done; claim = call_claim_lem (head_in head ps) jobs st }
+
+  pub call_entry_short : length ps < 32 → CallEntry head ps jobs st st.table (Err TooShort)
+  call_entry_short l = entry (record { short = λ _. (refl, refl); done = λ m. absurd (omega (arith, l, m)) })
+
+  pub call_entry : {copied : List Preset} → copied ≡ loaded ps → 32 ≤ length ps → {u : List ℕ} {r : Result ℕ cause.Refusal} → CallDone head copied jobs st u r → CallEntry head ps jobs st u r
+  call_entry {copied} loads long d =
+      let o = same_call head copied ps (ap (take 32) loads ∙ copied_agrees ps long) jobs st in
+      entry
+      (record {
+        short = λ m. absurd (omega (arith, long, m));
+        done = λ _. record { answer = d.answer ∙ ap (λ (p : CallOutcome). p.answer) o; table = d.table ∙ ap (λ (p : CallOutcome). p.after.table) o };
+      })

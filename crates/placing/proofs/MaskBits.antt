@@ -88,6 +88,11 @@ pub has_bit_zero : (b : ℕ) → has_bit 0 b ≡ false
 has_bit_zero zero = refl
 has_bit_zero (suc b) = has_bit_half 0 b ∙ has_bit_zero b
 
+-- a mask with a bit below n is not 0
+pub some_bit : (n m : ℕ) → count_trailing_zeros n m < n → 0 < m
+some_bit n zero l = absurd (omega (arith, l, trailing_of_zero n))
+some_bit n (suc m) l = omega arith
+
 -- Of any number of n bits, 0 included, where `count_trailing_zeros` is n: no bit below it is set, and one is if it is below n.
 pub none_below_lowest : (n m : ℕ) → m < 2 ^ n → (b : ℕ) → b < count_trailing_zeros n m → has_bit m b ≡ false
 none_below_lowest n zero h b l = has_bit_zero b

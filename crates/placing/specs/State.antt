@@ -1,10 +1,11 @@
 -- The state of a running frame: what it keeps beside its head, and what each event gets and leaves. Document 01, "What demand 3 speaks of" and "Causes"; document 02, 2026-02 and 2026-05.
 --
--- In order: the state; the one that the code's table, clock and order of ties are (`state_of`); a state with one part made new (`with_table`, `with_clock`, `with_order`); when it is
+-- In order: the state; the one that the code's table, clock and order of ties are (`state_of`, `state_at`); a state with one part made new (`with_table`, `with_clock`, `with_order`); when it is
 -- well-formed, as 11 asks (`WellFormedFrame`), and the same as a test (`well_formed_frame`).
 -- Assumes nothing.
 use Rattle.std.specs.Prelude.{ℕ, ◌≡◌, Bool, true, ◌&&◌, List}
 use Rattle.station.specs.Head.{Head}
+use Rattle.placing.specs.declared.moment.Moment.{Moment}
 use Rattle.placing.specs.Table.{cell, WellFormed, well_formed}
 use Rattle.placing.specs.Valid.{clock_in}
 
@@ -14,9 +15,12 @@ pub record State : Type 0 where
   pub clock : ℕ
   pub hold : Bool
 
--- The code has a lent table, a clock and the order of ties as parameters: here, and nowhere else, they become a state.
+-- The code has a lent table, and a clock and the order of ties as its moment: here, and nowhere else, they become a state.
 abbrev pub state_of : List ℕ → ℕ → Bool → State
 state_of t c hold = record { table = t; clock = c; hold = hold }
+
+abbrev pub state_at : List ℕ → Moment → State
+state_at t m = state_of t m.clock m.hold
 
 -- a state with another table, all else as it was; with another clock; and with another order of ties
 abbrev pub with_table : List ℕ → State → State

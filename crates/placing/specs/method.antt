@@ -1,5 +1,5 @@
 -- What the code's parts are held to, and no reader has to believe: proofs/ shows that it comes to the definitions of specs/.
--- In order: the limits; preset records by their places; masks of bridges; the check of a table; the grants; a call's job records and the counts; the eviction search; the placing rule; the parts of a plan and of a call.
+-- In order: the limits; preset records by their places; masks of bridges; the check of a table; the grants; a call's job records and the counts; the eviction search; the placing rule; the parts of a call.
 pub mod Limits
 pub mod Records
 pub mod Mask
@@ -9,5 +9,4 @@ pub mod Jobs
 pub mod Counts
 pub mod Search
 pub mod Rule
-pub mod PlanParts
 pub mod CallParts

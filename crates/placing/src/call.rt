@@ -8,189 +8,126 @@ ghost use Rattle.placing.specs.Valid.{job_at};
 ghost use Rattle.placing.specs.Types.{jobs_in};
 ghost use Rattle.placing.specs.Outcomes.{jobs_outside};
 ghost use Rattle.placing.specs.Claims.{Running, CallClaim};
-ghost use Rattle.placing.specs.State.{state_of};
+ghost use Rattle.placing.specs.State.{state_at};
 ghost use Rattle.placing.specs.Causes.{call_jobs};
 ghost use Rattle.placing.specs.method.Counts.{CountsOf};
 ghost use Rattle.placing.specs.CallDone.{CallDone};
 ghost use Rattle.placing.specs.Entries.{CallEntered, CallEntry};
+ghost use Rattle.placing.specs.method.Jobs.{IsCall};
 ghost use Rattle.placing.specs.method.CallParts.{CallCarriedOut};
 
 use crate::cells::{CALL, Cell};
-use crate::check::{Cause, frame_cause};
+use crate::check::frame_cause;
 use crate::counts::causes::cause_by_counts;
 use crate::counts::needs::job_needs;
 use crate::counts::usable::count_slots;
-use crate::counts::{counts_of, mark_jobs};
+use crate::counts::{Counts, mark_jobs};
 use crate::limits::MOST_PLACED;
-use crate::rule::place;
+use crate::moment::Moment;
+use crate::rule::{Work, place};
 use crate::search::evict;
-use station::limits::{LEAST_RECORDS, MOST_BRIDGES, MOST_JOBS, MOST_PRESETS};
-use station::records::{load, record_count};
-use station::types::{Head, Job, Preset, Refusal};
-
-// The answer: the number of optional cells that the call evicts, or the line and the cause of its refusal.
-#[derive(Clone, Copy)]
-pub enum CallAnswer {
-    Taken(usize),
-    Refused(usize, Refusal),
-}
+use station::limits::{LEAST_RECORDS, MOST_JOBS, MOST_PRESETS};
+use station::records::load;
+use station::types::{Call, Head, Job, Preset, Refusal};
 
 // The call cell with the number of each of the eight job records; 0 past them. Of jobs within their limits the numbers are the jobs' own.
 fn job_cells(jobs: [Job; MOST_JOBS]) -> [Cell; MOST_PLACED]
     ensures { (n : ℕ) → n ≤ most_jobs → jobs_outside (jobs_in n jobs) ≡ false → (i : ℕ) → i < n → get_or result i 0 ≡ call_cell (job_at (jobs_in n jobs) i).number }
 {
     let mut all = [0u16; MOST_PLACED];
-    let mut i = 0;
-    while i < MOST_JOBS {
-        let job = jobs[i];
-        all[i] = CALL + job.number % 256;
-        i += 1;
+    for i in 0..MOST_JOBS {
+        all[i] = CALL + jobs[i].number % 256;
     }
     all
 }
 
-// From which slot on no cell is evicted: from the first where none is at all, else only past the frame, since what goes first are the latest cells of a preset.
-fn past_evicted(count: usize, slots: usize) -> usize
-    ensures { result < slots → count ≡ 0 }
-{
-    if count == 0 {
-        return 0;
-    }
-    slots
-}
-
-// Carries out a call that meets no cause but perhaps the last: 7 where it does not fit, and else the table is written.
+// Carries out a call that meets no cause but perhaps the last: 7 where it does not fit, and else the table is written. No cell is evicted past `clean`: from the first slot on where none is
+// at all, else only past the frame, since what goes first are the latest cells of a preset.
 fn carry_out(
     head: Head,
     presets: [Preset; MOST_PRESETS],
     table: &mut [Cell],
-    clock: usize,
-    hold: bool,
-    jobs: [Job; MOST_JOBS],
-    n: usize,
-) -> CallAnswer
+    moment: Moment,
+    call: Call,
+) -> Result<usize, Refusal>
     ensures { valid_record head presets ≡ true → least_cells ≤ length table.old → WellFormed (head_in head presets) (cell (head_in head presets) table.old)
-        → n ≤ most_jobs → jobs_outside (jobs_in n jobs) ≡ false → CallCarriedOut (head_in head presets) (jobs_in n jobs) (state_of table.old clock hold) table.new result }
+        → IsCall call → CallCarriedOut (head_in head presets) (jobs_in call.count call.jobs) (state_at table.old moment) table.new result }
 {
-    let slots = head.slots;
-    let bridges = head.bridges;
-    let needs = job_needs(jobs);
-    let found = evict(table, head, presets, clock, needs, n);
-    if !found.fits {
-        return CallAnswer::Refused(0, Refusal::CallNotFeasible);
-    }
-    let count = found.count;
-    let free = found.free;
-    let counts = found.counts;
-    let never = [0u8; MOST_PLACED];
-    let cells = job_cells(jobs);
-    let clean = past_evicted(count, slots);
-    place(
-        table, slots, bridges, free, counts, needs, n, never, cells, cells, clean, hold,
-    );
-    CallAnswer::Taken(count)
+    let Moment { clock, hold } = moment;
+    let n = call.count;
+    let needs = job_needs(call.jobs);
+    let Some(found) = evict(table, &head, &presets, clock, &needs, n) else {
+        return Err(Refusal::CallNotFeasible);
+    };
+    let cells = job_cells(call.jobs);
+    let work = Work {
+        needs,
+        count: n,
+        first: [0; MOST_PLACED],
+        early: cells,
+        late: cells,
+    };
+    let clean = if found.count == 0 { 0 } else { head.slots };
+    place(table, &head, &found.offer, &work, clean, hold);
+    Ok(found.count)
 }
 
-// Takes a call of the first n jobs on a running frame whose clock is at `clock` and whose order of ties is `hold`, by the counts of its table and clock: the causes 2, 4, 9 of its
+// Takes a call on a running frame, by the counts of its table and clock: the causes 2, 4, 9 of its
 // jobs, then 7 where it does not fit. A refusal changes nothing; a call that is taken brings the counts up to the table that it leaves. Who keeps them between calls need not have the
-// table counted for each. They are lent in their parts: the numbers that are used, how many of them the call cells have, and the slots by what a call may fill in them.
+// table counted for each.
 pub fn call_by_counts(
     head: Head,
     presets: [Preset; MOST_PRESETS],
     table: &mut [Cell],
-    clock: usize,
-    hold: bool,
-    jobs: [Job; MOST_JOBS],
-    n: usize,
-    used: &mut [u8; 256],
-    admitted: &mut usize,
-    entries: &mut [u8; MOST_BRIDGES],
-) -> CallAnswer
-    ensures { valid_record head presets ≡ true → Running (head_in head presets) (state_of table.old clock hold)
-        → CountsOf (head_in head presets) clock (cell (head_in head presets) table.old) used.old admitted.old entries.old
-        → CallDone head presets (call_jobs n jobs) (state_of table.old clock hold) table.new result
-        × CountsOf (head_in head presets) clock (cell (head_in head presets) table.new) used.new admitted.new entries.new }
+    moment: Moment,
+    call: Call,
+    counts: &mut Counts,
+) -> Result<usize, Refusal>
+    ensures { valid_record head presets ≡ true → Running (head_in head presets) (state_at table.old moment)
+        → CountsOf (head_in head presets) moment.clock (cell (head_in head presets) table.old) counts.old
+        → CallDone head presets (call_jobs call.count call.jobs) (state_at table.old moment) table.new result
+        × CountsOf (head_in head presets) moment.clock (cell (head_in head presets) table.new) counts.new }
 {
-    if let Cause::Met(r) = cause_by_counts(used, *admitted, entries, jobs, n) {
-        return CallAnswer::Refused(0, r);
-    }
-    let answer = carry_out(head, presets, table, clock, hold, jobs, n);
-    mark_jobs(used, jobs, n);
-    *admitted = *admitted + n;
-    *entries = count_slots(head, table, clock);
-    answer
+    cause_by_counts(counts, call)?;
+    let evicted = carry_out(head, presets, table, moment, call)?;
+    mark_jobs(&mut counts.used, call);
+    counts.admitted += call.count;
+    counts.at_least = count_slots(head, table, moment.clock);
+    Ok(evicted)
 }
 
-// Takes a call of the first n jobs on the frame whose clock is at `clock` and whose order of ties is `hold`: the causes 8, 2, 11, then 2, 4, 9 of its jobs, then 7 where it does not
+// Takes a call on the frame at a moment: the causes 8, 2, 11, then 2, 4, 9 of its jobs, then 7 where it does not
 // fit. A refusal changes nothing. A frame that 11 lets pass is such a frame afterwards.
 pub fn call_by_value(
     head: Head,
     presets: [Preset; MOST_PRESETS],
     table: &mut [Cell],
-    clock: usize,
-    hold: bool,
-    jobs: [Job; MOST_JOBS],
-    n: usize,
-) -> CallAnswer
-    ensures done { CallDone head presets (call_jobs n jobs) (state_of table.old clock hold) table.new result }
-    ensures kept { Running (head_in head presets) (state_of table.old clock hold) → Running (head_in head presets) (state_of table.new clock hold) }
-    ensures claim { CallClaim (head_in head presets) (call_jobs n jobs) (state_of table.old clock hold) }
+    moment: Moment,
+    call: Call,
+) -> Result<usize, Refusal>
+    ensures done { CallDone head presets (call_jobs call.count call.jobs) (state_at table.old moment) table.new result }
+    ensures kept { Running (head_in head presets) (state_at table.old moment) → Running (head_in head presets) (state_at table.new moment) }
+    ensures claim { CallClaim (head_in head presets) (call_jobs call.count call.jobs) (state_at table.old moment) }
 {
-    if let Cause::Met(r) = frame_cause(head, presets, table, clock) {
-        return CallAnswer::Refused(0, r);
-    }
-    let counts = counts_of(head, presets, table, clock);
-    let mut used = counts.used;
-    let mut admitted = counts.jobs;
-    let mut entries = counts.entries;
-    call_by_counts(
-        head,
-        presets,
-        table,
-        clock,
-        hold,
-        jobs,
-        n,
-        &mut used,
-        &mut admitted,
-        &mut entries,
-    )
+    frame_cause(head, presets, table, moment.clock)?;
+    let mut counts = Counts::of(head, presets, table, moment.clock);
+    call_by_counts(head, presets, table, moment, call, &mut counts)
 }
 
-// Takes a call over the first 32 of so many records, which are in the copied: 8 where there are fewer.
-fn call_counted(
-    records: usize,
-    head: Head,
-    copied: [Preset; MOST_PRESETS],
-    table: &mut [Cell],
-    clock: usize,
-    hold: bool,
-    jobs: [Job; MOST_JOBS],
-    n: usize,
-) -> CallAnswer
-    ensures { CallEntered records head copied (call_jobs n jobs) (state_of table.old clock hold) table.new result }
-{
-    if records < LEAST_RECORDS {
-        return CallAnswer::Refused(0, Refusal::TooShort);
-    }
-    call_by_value(head, copied, table, clock, hold, jobs, n)
-}
-
-// Takes a call of the first n jobs on the frame whose clock is at `clock` and whose order of ties is `hold`, the presets being the list's first records: the causes 8 (a table below 512 cells or
+// Takes a call on the frame at a moment, the presets being the list's first records: the causes 8 (a table below 512 cells or
 // a list below 32 records), 2, 11, then 2, 4, 9 of its jobs, then 7 where it does not fit. A refusal changes nothing. A frame that 11 lets pass is such a frame
 // afterwards.
 pub fn call(
     head: Head,
     presets: &[Preset],
     table: &mut [Cell],
-    clock: usize,
-    hold: bool,
-    jobs: [Job; MOST_JOBS],
-    n: usize,
-) -> CallAnswer
-    ensures { CallEntry head presets.now (call_jobs n jobs) (state_of table.old clock hold) table.new result }
+    moment: Moment,
+    call: Call,
+) -> Result<usize, Refusal>
+    ensures { CallEntry head presets.now (call_jobs call.count call.jobs) (state_at table.old moment) table.new result }
 {
-    let records = record_count(presets);
-    let copied = load(presets);
-    call_counted(records, head, copied, table, clock, hold, jobs, n)
+    if presets.len() < LEAST_RECORDS {
+        return Err(Refusal::TooShort);
+    }
+    call_by_value(head, load(presets), table, moment, call)
 }

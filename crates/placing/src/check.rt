@@ -18,21 +18,11 @@ use station::types::{Head, Preset, Refusal};
 // The first clock: no slot is about to begin yet.
 pub const FIRST_CLOCK: usize = 0;
 
-// What trying some causes gives: the first one that is met, or none.
-#[derive(Clone, Copy)]
-pub enum Cause {
-    Met(Refusal),
-    Passed,
-}
-
 // Whether a frame of so many slots has the clock: 0 to S + 1, whatever S is.
 pub fn clock_in(slots: usize, clock: usize) -> bool
     ensures { result ≡ clock_in slots clock }
 {
-    if clock <= slots {
-        return true;
-    }
-    clock - slots == 1
+    clock.saturating_sub(1) <= slots
 }
 
 // Whether the frame is one that 11 lets pass: a well-formed table, and a clock of the frame.
@@ -45,11 +35,7 @@ fn well_formed_frame(
     requires { (valid_record head presets ≡ true) × (least_cells ≤ length table.now) }
     ensures { (hold : Bool) → result ≡ well_formed_frame (head_in head presets) (state_of table.now clock hold) }
 {
-    let slots = head.slots;
-    if !well_formed(head, presets, table) {
-        return false;
-    }
-    clock_in(slots, clock)
+    well_formed(head, presets, table) && clock_in(head.slots, clock)
 }
 
 // The causes of a running frame: 8 for a table below 512 cells, 2 for a head record that no text yields, 11 for a table that is not well-formed or a clock
@@ -59,17 +45,17 @@ pub fn frame_cause(
     presets: [Preset; MOST_PRESETS],
     table: &[Cell],
     clock: usize,
-) -> Cause
+) -> Result<(), Refusal>
     ensures { (hold : Bool) → cause_in result ≡ first_of (frame_causes_of head presets (state_of table.now clock hold)) }
 {
     if table.len() < LEAST_CELLS {
-        return Cause::Met(Refusal::TooShort);
+        return Err(Refusal::TooShort);
     }
     if !valid_record(head, presets) {
-        return Cause::Met(Refusal::OutOfLimits);
+        return Err(Refusal::OutOfLimits);
     }
     if !well_formed_frame(head, presets, table, clock) {
-        return Cause::Met(Refusal::NotWellFormed);
+        return Err(Refusal::NotWellFormed);
     }
-    Cause::Passed
+    Ok(())
 }

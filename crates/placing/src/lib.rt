@@ -6,8 +6,9 @@ pub mod plan; // plan.rt: plan, over a borrowed list of preset records; and with
 pub mod call; // call.rt: call, over a borrowed list of preset records; with them by value; and by counts that are kept
 // What the parts share:
 pub mod cells; // cells.rt: what a cell of the table is
-mod numbers; // numbers.rt: small functions of numbers
-mod capacities; // capacities.rt: how many slots have at least so many free bridges, and by how much needs exceed the capacities
+pub mod moment; // moment.rt: the clock and the order of ties of a running frame
+mod capacities; // capacities.rt: how many slots have at least so many free bridges
+mod sums; // sums.rt: needs by their sums, and by how much they exceed the capacities
 // The causes of a frame, and the limits within which the parts look at one:
 pub mod check; // check.rt: the first cause that a running frame meets
 pub mod limits; // limits.rt: the limits, and the motors that the supply feeds

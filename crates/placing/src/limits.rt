@@ -16,23 +16,16 @@ pub(crate) fn motors(head: Head) -> usize
     ensures { result ≡ motors_in head }
 {
     if head.supply == 0 {
-        return head.bridges;
+        head.bridges
+    } else {
+        head.supply
     }
-    head.supply
 }
 
 // Whether a frame of `slots` slots and `bridges` bridges with `n` presets, and a table of `cells` cells, are within the limits.
+#[tactic(auto, unfolding(crate::specs::method::Limits::sizes_in_limits))]
 pub(crate) fn in_limits(slots: usize, bridges: usize, n: usize, cells: usize) -> bool
     ensures { result ≡ sizes_in_limits slots bridges n cells }
 {
-    if MOST_SLOTS < slots {
-        return false;
-    }
-    if MOST_BRIDGES < bridges {
-        return false;
-    }
-    if MOST_PRESETS < n {
-        return false;
-    }
-    LEAST_CELLS <= cells
+    slots <= MOST_SLOTS && bridges <= MOST_BRIDGES && n <= MOST_PRESETS && LEAST_CELLS <= cells
 }

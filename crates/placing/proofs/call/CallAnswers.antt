@@ -25,22 +25,20 @@ use Rattle.station.specs.declared.types.Head as record-of-head
 use Rattle.station.specs.declared.types.Refusal as refusal
 use Rattle.station.specs.declared.types.Refusal.TheVariants.{CallNotFeasible}
 use Rattle.placing.specs.declared.search.Evicted.{Evicted}
-use Rattle.placing.specs.declared.check.Cause as cause
-use Rattle.placing.specs.declared.check.Cause.TheVariants.{Met, Passed}
-use Rattle.placing.specs.declared.call.CallAnswer as reply
-use Rattle.placing.specs.declared.call.CallAnswer.TheVariants.{Taken, Refused}
+use Rattle.std.specs.Prelude.{Result, Ok, Err}
 use Rattle.placing.specs.Table.{WellFormed, cell, call_cell}
 use Rattle.placing.specs.State.{State, state_of}
 use Rattle.placing.specs.Valid.{job_at}
 use Rattle.placing.specs.Plan.{tie_of}
 use Rattle.placing.specs.Call.{lengths, call_fits, call_free, call_free_count}
 use Rattle.placing.specs.Types.{jobs_in}
+use Rattle.placing.specs.declared.counts.Counts.{Counts}
 use Rattle.placing.specs.method.Jobs.{job_number}
 use Rattle.placing.specs.method.Limits.{sizes_in_limits, motors_in}
 use Rattle.placing.specs.method.Rule.{free_in, Fillable, placeable, placed_in, placed_within}
-use Rattle.placing.specs.method.Search.{Evicts}
+use Rattle.placing.specs.method.Search.{Evicting}
 use Rattle.placing.specs.Outcomes.{cost, cost_of, frame_causes, jobs_outside, job_causes, call_causes, CallAnswer, CallOutcome, called_state, call_of}
-use Rattle.placing.specs.Causes.{cause_in, call_jobs, causes_of, frame_causes_of}
+use Rattle.placing.specs.Causes.{call_jobs, causes_of, frame_causes_of}
 use Rattle.placing.specs.CallDone.{call_meant, CallDone}
 use Rattle.placing.proofs.Causes.{of_running}
 use Rattle.placing.proofs.check.FrameCauses.{causes_none, eleven, same_frame}
@@ -84,7 +82,7 @@ module _ (h : Head) (jobs : List Job) (st : State) where
   unfolding call_carried_out
   carried_yes e = rw e refl
 
-  pub carried_refused : call_fits h st.clock jobs (cell h st.table) ≡ false → CallCarriedOut h jobs st st.table (Refused 0 CallNotFeasible)
+  pub carried_refused : call_fits h st.clock jobs (cell h st.table) ≡ false → CallCarriedOut h jobs st st.table (Err CallNotFeasible)
   carried_refused e =
       record {
         answer = sym (ap (λ (o : CallOutcome). o.answer) (carried_no e));
@@ -92,40 +90,37 @@ module _ (h : Head) (jobs : List Job) (st : State) where
       }
 
   -- what the search counts for each slot is what the rule fills there
-  counts_are : (found : Evicted) → Evicts h st.clock jobs (cell h st.table) found → Valid h → WellFormed h (cell h st.table)
-      → (s : ℕ) → s < h.slots → at found.counts s ≡ call_free_count h st.clock jobs (cell h st.table) s
+  counts_are : (found : Evicted) → Evicting h st.clock jobs (cell h st.table) found → Valid h → WellFormed h (cell h st.table)
+      → (s : ℕ) → s < h.slots → at found.offer.counts s ≡ call_free_count h st.clock jobs (cell h st.table) s
   counts_are found ev valid formed s l = ev.counts s l ∙ sym (call_free_count_lem h st.clock jobs (cell h st.table) valid formed s l)
 
   -- no more than are free
-  pub call_fillable : (found : Evicted) → Evicts h st.clock jobs (cell h st.table) found → Valid h → WellFormed h (cell h st.table)
-      → Fillable h.slots h.bridges found.free found.counts
+  pub call_fillable : (found : Evicted) → Evicting h st.clock jobs (cell h st.table) found → Valid h → WellFormed h (cell h st.table)
+      → Fillable h.slots h.bridges found.offer.free found.offer.counts
   call_fillable found ev valid formed s l =
       omega (
         arith,
         counts_are found ev valid formed s l,
         call_free_least h st.clock jobs (cell h st.table) s,
-        count_ext h.bridges (free_in found.free s) (λ b. call_free h st.clock jobs (cell h st.table) s b)
+        count_ext h.bridges (free_in found.offer.free s) (λ b. call_free h st.clock jobs (cell h st.table) s b)
             (λ b m. ap (λ (n : ℕ). has_bit n b) (ev.free s l) ∙ has_bit_mask h.bridges (λ a. call_free h st.clock jobs (cell h st.table) s a) b m),
       )
 
-  pub carried_taken : (found : Evicted) → Evicts h st.clock jobs (cell h st.table) found → Valid h → WellFormed h (cell h st.table) → found.fits ≡ true → (needs : List ℕ) (k : ℕ) (late : List ℕ) {u : List ℕ}
+  pub carried_taken : (found : Evicted) → Evicting h st.clock jobs (cell h st.table) found → Valid h → WellFormed h (cell h st.table) → (needs : List ℕ) (k : ℕ) (late : List ℕ) {u : List ℕ}
       → placeable h.slots h.bridges needs k (length st.table) ≡ true
       → lengths jobs ≡ take k needs
       → ((i : ℕ) → i < length jobs → at late i ≡ call_cell (job_at jobs i).number)
-      → u ≡ placed_within (tie_of st.hold) h.slots h.bridges found.free found.counts needs k (replicate 64 0) late late st.table
-      → CallCarriedOut h jobs st u (Taken found.count)
-  carried_taken found ev valid formed fits needs k late {u} limits en el eu =
+      → u ≡ placed_within (tie_of st.hold) h.slots h.bridges found.offer.free found.offer.counts needs k (replicate 64 0) late late st.table
+      → CallCarriedOut h jobs st u (Ok found.count)
+  carried_taken found ev valid formed needs k late {u} limits en el eu =
       record {
-        answer = ap (λ (n : ℕ). CallAnswer.taken (cost n)) ev.count ∙ sym (ap (λ (o : CallOutcome). o.answer) (carried_yes yes));
+        answer = ap (λ (n : ℕ). CallAnswer.taken (cost n)) ev.count ∙ sym (ap (λ (o : CallOutcome). o.answer) (carried_yes ev.fits));
         table = eu
-            ∙ placed_within_lem (tie_of st.hold) h.slots h.bridges found.free found.counts needs k (replicate 64 0) late late st.table limits
-            ∙ ap (λ (c : List ℕ). placed_in (tie_of st.hold) h.slots h.bridges found.free found.counts c (replicate 64 0) late late st.table) (sym en)
-            ∙ placed_called (tie_of st.hold) h st.clock jobs found.free found.counts (replicate 64 0) late late st.table ev.free (counts_are found ev valid formed) (λ i l. zeros 64 i) el
-            ∙ sym (ap (λ (o : CallOutcome). o.after.table) (carried_yes yes));
+            ∙ placed_within_lem (tie_of st.hold) h.slots h.bridges found.offer.free found.offer.counts needs k (replicate 64 0) late late st.table limits
+            ∙ ap (λ (c : List ℕ). placed_in (tie_of st.hold) h.slots h.bridges found.offer.free found.offer.counts c (replicate 64 0) late late st.table) (sym en)
+            ∙ placed_called (tie_of st.hold) h st.clock jobs found.offer.free found.offer.counts (replicate 64 0) late late st.table ev.free (counts_are found ev valid formed) (λ i l. zeros 64 i) el
+            ∙ sym (ap (λ (o : CallOutcome). o.after.table) (carried_yes ev.fits));
       }
-    where
-      yes : call_fits h st.clock jobs (cell h st.table) ≡ true
-      yes = sym ev.fits ∙ fits
 
 -- ---- the outcome
 
@@ -168,13 +163,13 @@ module _ (head : record-of-head.Head) (ps : List record-of-preset.Preset) (jobs 
   -- ---- a law for each answer
 
   refused_done : (q : refusal.Refusal) → call_meant head ps jobs st ≡ record { answer = CallAnswer.refused 0 (refusal_in q); after = st }
-      → CallDone head ps jobs st st.table (Refused 0 q)
+      → CallDone head ps jobs st st.table (Err q)
   refused_done q e =
       record { answer = sym (ap (λ (o : CallOutcome). o.answer) e); table = sym (ap (λ (o : CallOutcome). o.after.table) e) }
 
   -- a cause of the frame is met
-  pub frame_refused : {w : cause.Cause} (q : refusal.Refusal) → cause_in w ≡ first_of (frame_causes_of head ps st) → w ≡ Met q → CallDone head ps jobs st st.table (Refused 0 q)
-  frame_refused q e m = refused_done q (call_stopped (refusal_in q) (sym e ∙ ap cause_in m))
+  pub frame_refused : (q : refusal.Refusal) → some (refusal_in q) ≡ first_of (frame_causes_of head ps st) → CallDone head ps jobs st st.table (Err q)
+  frame_refused q e = refused_done q (call_stopped (refusal_in q) (sym e))
 
   module _ (v : valid_record head ps ≡ true) (run : Running h'' st) where
     abbrev own : List (Option Refusal)
@@ -187,8 +182,8 @@ module _ (head : record-of-head.Head) (ps : List record-of-preset.Preset) (jobs 
     meant = meant_call (causes_none head ps st.table run.long v)
 
     -- a cause of the call is met
-    pub counted_refused : {w : cause.Cause} (q : refusal.Refusal) → cause_in w ≡ first_of own → w ≡ Met q → CallDone head ps jobs st st.table (Refused 0 q)
-    counted_refused q e m = refused_done q (meant ∙ of_stopped h'' jobs st (refusal_in q) (only_own ∙ sym e ∙ ap cause_in m))
+    pub counted_refused : (q : refusal.Refusal) → some (refusal_in q) ≡ first_of own → CallDone head ps jobs st st.table (Err q)
+    counted_refused q e = refused_done q (meant ∙ of_stopped h'' jobs st (refusal_in q) (only_own ∙ sym e))
 
     -- none is, so that the call fits
     fits : first_of own ≡ none → call_fits h'' st.clock jobs (cell h'' st.table) ≡ true
@@ -199,10 +194,10 @@ module _ (head : record-of-head.Head) (ps : List record-of-preset.Preset) (jobs 
         seven : List (Option Refusal)
         seven = try call_not_feasible (not (call_fits h'' st.clock jobs (cell h'' st.table))) ∷ []
 
-    pub counted_done : {w : cause.Cause} {js : List Job} {u : List ℕ} {r : reply.CallAnswer} → cause_in w ≡ first_of own → w ≡ Passed → jobs ≡ js
+    pub counted_done : {js : List Job} {u : List ℕ} {r : Result ℕ refusal.Refusal} → none ≡ first_of own → jobs ≡ js
         → CallCarriedOut h'' js st u r → CallDone head ps jobs st u r
-    counted_done {w} {js} {u} {r} e m same d =
-        let free = sym e ∙ ap cause_in m in
+    counted_done {js} {u} {r} e same d =
+        let free = sym e in
         let o : call_meant head ps jobs st ≡ call_carried_out h'' js st =
         meant
         ∙ of_passed h'' jobs st (only_own ∙ free)
@@ -214,10 +209,14 @@ module _ (head : record-of-head.Head) (ps : List record-of-preset.Preset) (jobs 
         }
 
     -- the answer and the table of a call that none is met by
-    counted_answer : {w : cause.Cause} → cause_in w ≡ first_of own → w ≡ Passed → (call_of h'' jobs st).answer ≡ CallAnswer.taken (cost_of h'' jobs st)
-    counted_answer e m = ap (λ (o : CallOutcome). o.answer) (of_passed h'' jobs st (only_own ∙ sym e ∙ ap cause_in m))
+    counted_answer : none ≡ first_of own → (call_of h'' jobs st).answer ≡ CallAnswer.taken (cost_of h'' jobs st)
+    counted_answer e = ap (λ (o : CallOutcome). o.answer) (of_passed h'' jobs st (only_own ∙ sym e))
 
-    counted_table : {u : List ℕ} {r : reply.CallAnswer} → CallDone head ps jobs st u r → u ≡ (call_of h'' jobs st).after.table
+    -- and it is not refused
+    pub counted_taken : {u : List ℕ} {q : refusal.Refusal} → none ≡ first_of own → CallDone head ps jobs st u (Err q) → ⊥
+    counted_taken e d = let both = sym (d.answer ∙ ap (λ (o : CallOutcome). o.answer) meant) ∙ refl in let taken = counted_answer e in cc
+
+    counted_table : {u : List ℕ} {r : Result ℕ refusal.Refusal} → CallDone head ps jobs st u r → u ≡ (call_of h'' jobs st).after.table
     counted_table d = d.table ∙ ap (λ (o : CallOutcome). o.after.table) meant
 
 -- ---- the counts afterwards
@@ -225,25 +224,26 @@ module _ (head : record-of-head.Head) (ps : List record-of-preset.Preset) (jobs 
 -- the numbers of the jobs were marked and counted, and the slots counted anew
 pub counted_after : (head : record-of-head.Head) (ps : List record-of-preset.Preset) (js : List record-of-job.Job) (n : ℕ) (st : State) → length js ≡ 8
     → valid_record head ps ≡ true → Running (head_in head ps) st
-    → {w : cause.Cause} → cause_in w ≡ first_of (call_causes (head_in head ps) st.clock (call_jobs n js) (cell (head_in head ps) st.table)) → w ≡ Passed
-    → {u : List ℕ} {r : reply.CallAnswer} → CallDone head ps (call_jobs n js) st u r
-    → {marks after xs ys : List ℕ} {admitted : ℕ} → CountsOf (head_in head ps) st.clock (cell (head_in head ps) st.table) marks admitted xs
-    → (length marks ≡ 256 → n ≤ 8 → MarkedBeside (λ i. job_number js i % 256) marks n after)
-    → (sizes_in_limits head.slots head.bridges 0 (length u) ≡ true → AtLeast ys head.slots (slot_free u head.bridges (motors_in head) st.clock))
-    → CountsOf (head_in head ps) st.clock (cell (head_in head ps) u) after (admitted + n) ys
-counted_after head ps js n st long v run e m {u} d {after = after} {ys = ys} {admitted = admitted} was marks counted =
+    → none ≡ first_of (call_causes (head_in head ps) st.clock (call_jobs n js) (cell (head_in head ps) st.table))
+    → {u : List ℕ} {r : Result ℕ refusal.Refusal} → CallDone head ps (call_jobs n js) st u r
+    → {before after : Counts} → CountsOf (head_in head ps) st.clock (cell (head_in head ps) st.table) before
+    → (length before.used ≡ 256 → n ≤ 8 → MarkedBeside (λ i. job_number js i % 256) before.used n after.used)
+    → after.admitted ≡ before.admitted + n
+    → (sizes_in_limits head.slots head.bridges 0 (length u) ≡ true → AtLeast after.at_least head.slots (slot_free u head.bridges (motors_in head) st.clock))
+    → CountsOf (head_in head ps) st.clock (cell (head_in head ps) u) after
+counted_after head ps js n st long v run e {u} d {after = after} was marks more counted =
     let h = head_in head ps in
     let valid = record_valid head ps v in
-    let known = cause_known js long n h st.clock (cell h st.table) (sym e ∙ ap cause_in m) in
+    let known = cause_known js long n h st.clock (cell h st.table) (sym e) in
     let same = call_jobs_lem js long n known.0 in
     let table : u ≡ (call_of h (jobs_in n js) st).after.table =
     counted_table head ps (call_jobs n js) st v run d ∙ ap (λ (l : List Job). (call_of h l st).after.table) same in
-    let taken = ap (λ (l : List Job). (call_of h l st).answer) (sym same) ∙ counted_answer head ps (call_jobs n js) st v run e m in
+    let taken = ap (λ (l : List Job). (call_of h l st).answer) (sym same) ∙ counted_answer head ps (call_jobs n js) st v run e in
     let size : 512 ≤ length u = omega (arith, ap length table, (call_claim_lem h (jobs_in n js) st).past.long, run.long) in
     let free = counted (in_limits head.slots head.bridges 0 (length u) valid.slots_high valid.bridges_high (omega arith) size) in
-    subst (λ (l : List ℕ). CountsOf h st.clock (cell h l) after (admitted + n) ys) (sym table)
-    (counts_taken h st js long n known.0 known.1 taken was (marks was.marks_long known.0)
-    (subst (λ (l : List ℕ). AtLeast ys head.slots (slot_free l head.bridges (motors_in head) st.clock)) table free))
+    subst (λ (l : List ℕ). CountsOf h st.clock (cell h l) after) (sym table)
+    (counts_taken h st js long n known.0 known.1 taken was (marks was.marks_long known.0) more
+    (subst (λ (l : List ℕ). AtLeast after.at_least head.slots (slot_free l head.bridges (motors_in head) st.clock)) table free))
 
 -- ---- the frame afterwards
 
@@ -263,7 +263,7 @@ call_running h jobs st run = go (first_of (frame_causes h st ++ call_causes h st
         }
     go (some r) e = rw (of_stopped h jobs st r e) run
 
-pub done_running : (head : record-of-head.Head) (ps : List record-of-preset.Preset) (jobs : List Job) (st : State) {u : List ℕ} {r : reply.CallAnswer}
+pub done_running : (head : record-of-head.Head) (ps : List record-of-preset.Preset) (jobs : List Job) (st : State) {u : List ℕ} {r : Result ℕ refusal.Refusal}
     → CallDone head ps jobs st u r → Running (head_in head ps) st → Running (head_in head ps) (state_of u st.clock st.hold)
 done_running head ps jobs st {u} d run = go (first_of (causes_of head ps st.table)) refl
   where

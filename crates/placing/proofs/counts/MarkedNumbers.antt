@@ -3,7 +3,7 @@
 -- In order: numbers that are marked, by one cell (`mark-..`) and by those so far (`marked-..`); numbers marked beside others (`beside-..`); the counts of the frame (`counts_of`). Those of what an event
 -- leaves are in counts/LeftByEvent.antt, the slots by what a call may fill in them in counts/usable/UsableCells.antt.
 -- Assumes nothing.
-use Prim.Native.Nat.{ℕ, ◌+◌, ◌*◌, ◌≤◌, ◌<◌}
+use Prim.Native.Nat.{ℕ, zero, suc, ◌+◌, ◌*◌, ◌≤◌, ◌<◌}
 use native.Mathlib.Omega.{arith}
 use mathlib.Core.Path.{◌≡◌, refl, sym, ◌∙◌, ap, ap₂}
 use mathlib.Core.Bool.{Bool, true, false, ◌||◌, or-false, or_comm}
@@ -14,14 +14,14 @@ use lib.Dec.{ltb, eqb}
 use Rattle.laws.specs.Sums.{bit, sum, count}
 use Rattle.laws.specs.method.Capacities.{AtLeast}
 use Rattle.laws.proofs.Tests.{Is, is, is_true, is_false, or_left, or_right}
-use Rattle.laws.proofs.Comparisons.{eq_of, ne_of, ge_of, ltb_yes, ltb_no, eqb_yes, eqb_no, eqb_self}
+use Rattle.laws.proofs.Comparisons.{eq_of, ne_of, ge_of, eqb_yes, eqb_no, eqb_self}
 use Rattle.laws.proofs.Sums.{sum_but, sum_split, sum_rows}
 use Rattle.laws.proofs.Counts.{count_ext, count_none, count_some}
-use Rattle.laws.proofs.Stores.{zeros}
 use Rattle.laws.proofs.Loops.{some_none, some_more}
 use Rattle.station.specs.Head.{Head}
 use Rattle.placing.specs.Table.{cell, kind_of, number_in, is_call, call_cell, has_job, has_preset, motors}
 use Rattle.placing.proofs.CountedCells.{kind_of_call, number_in_call, is_call_call}
+use Rattle.placing.specs.declared.counts.Counts.{Counts}
 use Rattle.placing.specs.method.Jobs.{marked}
 use Rattle.placing.specs.method.Counts.{CountsOf, Marked, Marks, slot_free, MarkedBeside}
 use Rattle.placing.proofs.counts.usable.UsableCells.{entries_are}
@@ -29,20 +29,20 @@ use Rattle.placing.proofs.counts.usable.UsableCells.{entries_are}
 -- ---- numbers that are marked
 
 -- one number more
-marked_set : (u : List ℕ) (m : ℕ) → m < length u → (n : ℕ) → marked (set u m 1) n ≡ (marked u n || eqb m n)
+marked_set : (u : List Bool) (m : ℕ) → m < length u → (n : ℕ) → marked (set u m true) n ≡ (marked u n || eqb m n)
 marked_set u m inside n = go (is (eqb m n))
   where
-    go : Is (eqb m n) → marked (set u m 1) n ≡ (marked u n || eqb m n)
+    go : Is (eqb m n) → marked (set u m true) n ≡ (marked u n || eqb m n)
     go (is_true e) =
-        ap (marked (set u m 1)) (sym (eq_of m n e))
-        ∙ ap (λ (x : ℕ). ltb 0 x) (get_or-set_same u m 1 0 inside)
+        ap (marked (set u m true)) (sym (eq_of m n e))
+        ∙ get_or-set_same u m true false inside
         ∙ sym (or_right (marked u n) (eqb m n) e)
     go (is_false e) =
-        ap (λ (x : ℕ). ltb 0 x) (get_or-set_other u m n 1 0 (λ q. ne_of m n e (sym q)))
+        get_or-set_other u m n true false (λ q. ne_of m n e (sym q))
         ∙ sym (ap (λ (b : Bool). marked u n || b) e ∙ or-false (marked u n))
 
 -- a cell that is no call's marks nothing, and one whose number is marked neither
-pub mark_other : (v : ℕ) (u : List ℕ) → is_call v ≡ false → Marks v u u 0
+pub mark_other : (v : ℕ) (u : List Bool) → is_call v ≡ false → Marks v u u 0
 mark_other v u other =
     record {
       long = refl;
@@ -51,7 +51,7 @@ mark_other v u other =
       one = omega arith;
     }
 
-module _ (v : ℕ) (u : List ℕ) (long : length u ≡ 256) (call : is_call v ≡ true) where
+module _ (v : ℕ) (u : List Bool) (long : length u ≡ 256) (call : is_call v ≡ true) where
   number_lt : number_in v < 256
   number_lt = omega arith
 
@@ -62,26 +62,26 @@ module _ (v : ℕ) (u : List ℕ) (long : length u ≡ 256) (call : is_call v �
       go (is_true e) = e ∙ sym (eqb_yes v (call_cell n) (let q : number_in v ≡ n = eq_of (number_in v) n e in omega (arith, eq_of (kind_of v) 4 call)))
       go (is_false e) = e ∙ sym (eqb_no v (call_cell n) (λ q. ne_of (number_in v) n e (ap number_in q ∙ number_in_call n l)))
 
-  pub mark_again : (get_or u (number_in v) 0 ≡ 0 → ⊥) → Marks v u u 0
+  pub mark_again : marked u (number_in v) ≡ true → Marks v u u 0
   mark_again some =
       record { long = refl; which = λ n l. go n (is (eqb (number_in v) n)) ∙ ap (λ (b : Bool). marked u n || b) (is_call_lem n l); more = omega arith; one = omega arith }
     where
       go : (n : ℕ) → Is (eqb (number_in v) n) → marked u n ≡ (marked u n || eqb (number_in v) n)
       go n (is_true e) =
-          let m : marked u n ≡ true = ap (marked u) (sym (eq_of (number_in v) n e)) ∙ ltb_yes 0 (get_or u (number_in v) 0) (omega (arith, some)) in
+          let m : marked u n ≡ true = ap (marked u) (sym (eq_of (number_in v) n e)) ∙ some in
           m ∙ sym (or_left (marked u n) (eqb (number_in v) n) m)
       go n (is_false e) = sym (ap (λ (b : Bool). marked u n || b) e ∙ or-false (marked u n))
 
-  pub mark_new : get_or u (number_in v) 0 ≡ 0 → Marks v u (set u (number_in v) 1) 1
+  pub mark_new : marked u (number_in v) ≡ false → Marks v u (set u (number_in v) true) 1
   mark_new none =
       record {
-        long = length-set u (number_in v) 1;
+        long = length-set u (number_in v) true;
         which = λ n l. marked_set u (number_in v) inside n ∙ ap (λ (b : Bool). marked u n || b) (is_call_lem n l);
         more = omega (
           arith,
-          sum_but 256 (λ n. bit (marked (set u (number_in v) 1) n)) (λ n. bit (marked u n)) (number_in v) number_lt (λ n l ne. ap bit (other n ne)),
+          sum_but 256 (λ n. bit (marked (set u (number_in v) true) n)) (λ n. bit (marked u n)) (number_in v) number_lt (λ n l ne. ap bit (other n ne)),
           ap bit here,
-          ap bit (ltb_no 0 (get_or u (number_in v) 0) (omega (arith, none))),
+          ap bit none,
         );
         one = omega arith;
       }
@@ -89,27 +89,32 @@ module _ (v : ℕ) (u : List ℕ) (long : length u ≡ 256) (call : is_call v �
       inside : number_in v < length u
       inside = omega (arith, long, number_lt)
 
-      here : marked (set u (number_in v) 1) (number_in v) ≡ true
+      here : marked (set u (number_in v) true) (number_in v) ≡ true
       here = marked_set u (number_in v) inside (number_in v) ∙ or_right (marked u (number_in v)) (eqb (number_in v) (number_in v)) (eqb_self (number_in v))
 
-      other : (n : ℕ) → (n ≡ number_in v → ⊥) → marked (set u (number_in v) 1) n ≡ marked u n
+      other : (n : ℕ) → (n ≡ number_in v → ⊥) → marked (set u (number_in v) true) n ≡ marked u n
       other n ne =
           marked_set u (number_in v) inside n
           ∙ ap (λ (b : Bool). marked u n || b) (eqb_no (number_in v) n (λ q. ne (sym q)))
           ∙ or-false (marked u n)
 
 -- the numbers of the cells so far, no cell and one more
-pub marked_none : (t : List ℕ) → Marked t 0 (replicate 256 0)
+none_at : (n i : ℕ) → marked (replicate n false) i ≡ false
+none_at zero i = refl
+none_at (suc n) zero = refl
+none_at (suc n) (suc i) = none_at n i
+
+pub marked_none : (t : List ℕ) → Marked t 0 (replicate 256 false)
 marked_none t =
     record {
       long = refl;
-      which = λ n l. ap (λ (x : ℕ). ltb 0 x) (zeros 256 n) ∙ sym (some_none (λ j. eqb (get_or t j 0) (call_cell n)));
+      which = λ n l. none_at 256 n ∙ sym (some_none (λ j. eqb (get_or t j 0) (call_cell n)));
     }
 
-pub none_marked : count 256 (marked (replicate 256 0)) ≡ 0
-none_marked = count_none 256 (marked (replicate 256 0)) (λ n l. ap (λ (x : ℕ). ltb 0 x) (zeros 256 n))
+pub none_marked : count 256 (marked (replicate 256 false)) ≡ 0
+none_marked = count_none 256 (marked (replicate 256 false)) (λ n l. none_at 256 n)
 
-pub marked_more : {t : List ℕ} {i v : ℕ} {u w : List ℕ} {r : ℕ} (j : ℕ) → Marked t i u → v ≡ get_or t i 0 → Marks v u w r → j ≡ i + 1 → Marked t j w
+pub marked_more : {t : List ℕ} {i v : ℕ} {u w : List Bool} {r : ℕ} (j : ℕ) → Marked t i u → v ≡ get_or t i 0 → Marks v u w r → j ≡ i + 1 → Marked t j w
 marked_more {t} {i} {v} {u} {w} j m e k q =
     record {
       long = k.long ∙ m.long;
@@ -121,7 +126,7 @@ marked_more {t} {i} {v} {u} {w} j m e k q =
     }
 
 -- cells of which none is a call's mark nothing
-pub marked_past : {t : List ℕ} {i : ℕ} {u : List ℕ} (m : ℕ) → Marked t i u → m ≤ 8 → ltb 0 (count 8 (λ b. is_call (get_or t (i + b) 0))) ≡ false → Marked t (i + m) u
+pub marked_past : {t : List ℕ} {i : ℕ} {u : List Bool} (m : ℕ) → Marked t i u → m ≤ 8 → ltb 0 (count 8 (λ b. is_call (get_or t (i + b) 0))) ≡ false → Marked t (i + m) u
 marked_past {t} {i} {u} m k few none =
     record {
       long = k.long;
@@ -142,13 +147,13 @@ marked_past {t} {i} {u} m k few none =
 
 -- ---- numbers marked beside others
 
-pub beside_none : (f : ℕ → ℕ) (u : List ℕ) → length u ≡ 256 → MarkedBeside f u 0 u
+pub beside_none : (f : ℕ → ℕ) (u : List Bool) → length u ≡ 256 → MarkedBeside f u 0 u
 beside_none f u long = record { long = long; which = λ n l. sym (ap (λ (b : Bool). b || marked u n) (some_none (λ j. eqb (f j) n))) }
 
-pub beside_more : {f : ℕ → ℕ} {u w : List ℕ} {i : ℕ} (m : ℕ) → MarkedBeside f u i w → m < 256 → m ≡ f i → MarkedBeside f u (i + 1) (set w m 1)
+pub beside_more : {f : ℕ → ℕ} {u w : List Bool} {i : ℕ} (m : ℕ) → MarkedBeside f u i w → m < 256 → m ≡ f i → MarkedBeside f u (i + 1) (set w m true)
 beside_more {f} {u} {w} {i} m b small e =
     record {
-      long = length-set w m 1 ∙ b.long;
+      long = length-set w m true ∙ b.long;
       which = λ n l.
           marked_set w m (omega (arith, b.long)) n
           ∙ ap₂ (λ (c d : Bool). c || d) (b.which n l) (ap (λ (k : ℕ). eqb k n) e)
@@ -162,13 +167,13 @@ beside_more {f} {u} {w} {i} m b small e =
 
 -- ---- the counts of the frame
 
-module _ (h : Head) (clock : ℕ) (t : List ℕ) {u : List ℕ} (m : Marked t (h.slots * h.bridges) u) where
+module _ (h : Head) (clock : ℕ) (t : List ℕ) {u : List Bool} (m : Marked t (h.slots * h.bridges) u) where
   job_marked : (n : ℕ) → n < 256 → marked u n ≡ has_job h (cell h t) n
   job_marked n l =
       m.which n l ∙ ap (λ (k : ℕ). ltb 0 k) (sum_rows h.slots h.bridges (λ i. bit (eqb (get_or t i 0) (call_cell n))))
 
-  pub counts_of : {w xs : List ℕ} {admitted : ℕ} → length w ≡ 256 → ((n : ℕ) → n < 256 → marked w n ≡ (has_preset h n || marked u n)) → admitted ≡ count 256 (marked u)
-      → AtLeast xs h.slots (slot_free t h.bridges (motors h) clock) → CountsOf h clock (cell h t) w admitted xs
+  pub counts_of : {c : Counts} → length c.used ≡ 256 → ((n : ℕ) → n < 256 → marked c.used n ≡ (has_preset h n || marked u n)) → c.admitted ≡ count 256 (marked u)
+      → AtLeast c.at_least h.slots (slot_free t h.bridges (motors h) clock) → CountsOf h clock (cell h t) c
   counts_of size numbers many x =
       record {
         marks_long = size;

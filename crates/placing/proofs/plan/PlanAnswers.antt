@@ -1,21 +1,21 @@
 -- `plan_by_value`, law by law.
 --
--- In order: a table whose first cells were made busy (`busy-..`); an array that is filled, as a list (`filled_list`); the table that the code
+-- In order: an array that is filled, as a list (`filled_list`); the table that the code
 -- writes (`plan_written`); the outcome, case by case (`meant-..`, `plan-..`), and a law for each answer (`plan_refused`, `plan_done`).
 -- Assumes nothing.
-use Prim.Native.Nat.{ℕ, zero, suc, ◌+◌, ◌-◌, ◌*◌, ◌/◌, ◌%◌, ◌≤◌, ◌<◌}
-use native.Mathlib.Numerals.{add-one}
+use Prim.Native.Nat.{ℕ, ◌+◌, ◌-◌, ◌*◌, ◌/◌, ◌%◌, ◌≤◌, ◌<◌}
 use native.Mathlib.Omega.{arith}
 use mathlib.Core.Path.{◌≡◌, refl, sym, ◌∙◌, ap, ap₂}
 use mathlib.Core.Bool.{true, false, not}
 use mathlib.Core.Option.{none, some}
 use mathlib.Core.List.{List, [], ◌∷◌, ◌++◌}
-use lib.ListN.{get_or, length, set, take, drop, replicate, length-set, length-drop}
-use lib.Seq.{get_or-set_same, get_or-set_other, get_or-drop, ext_get_or}
-use lib.Dec.{eqb, ltb}
+use lib.ListN.{get_or, length, take, drop, replicate, length-drop, length-replicate, get_or-append, get_or-replicate}
+use Rattle.std.proofs.lemmas.List.{length-append}
+use Rattle.std.proofs.lemmas.Slice.{drop-append-drop}
+use lib.Dec.{ltb}
 use Rattle.laws.specs.Lists.{at, tabulate}
-use Rattle.laws.proofs.Tests.{Is, is, is_true, is_false, not_is_true, not_is_false}
-use Rattle.laws.proofs.Comparisons.{eq_of, ne_of, ltb_yes, ltb_no}
+use Rattle.laws.proofs.Tests.{not_is_true, not_is_false}
+use Rattle.laws.proofs.Comparisons.{ltb_yes, ltb_no}
 use Rattle.laws.proofs.Lists.{length_tabulate, at_tabulate}
 use Rattle.station.specs.Head.{Head, Preset, preset_at, has_bit}
 use Rattle.station.specs.Refusal.{Refusal, out_of_limits, too_short, mandatory_not_feasible, try, first_of}
@@ -28,17 +28,16 @@ use Rattle.station.specs.declared.types.Refusal.TheVariants.{OutOfLimits, Mandat
 use Rattle.placing.specs.Table.{busy_cell, Each, cell, preset_count, mandatory_cell, optional_cell}
 use Rattle.placing.specs.Plan.{plan_free_count, mandatories, plan_free, plan_fits, needs, grants, tie_of, planned}
 use Rattle.placing.specs.method.Records.{record_at}
-use Rattle.placing.specs.method.Grants.{free_masks, GrantedTo}
+use Rattle.placing.specs.method.Grants.{free_masks, GrantedTo, GrantRefused, invalid, full}
 use Rattle.laws.proofs.Counts.{count_ext}
 use Rattle.placing.proofs.FreeNumber.{plan_free_is}
 use Rattle.placing.proofs.MaskBits.{has_bit_mask}
 use Rattle.placing.specs.method.Rule.{free_in, Fillable, placed_in, placed_within}
 use Rattle.placing.specs.Outcomes.{PlanAnswer, PlanOutcome, plan_causes, plan_of, written}
 use Rattle.placing.specs.Causes.{causes_of}
-use Rattle.placing.specs.PlanDone.{plan_meant, PlanDone, replied_in, grants_in}
+use Rattle.placing.specs.PlanDone.{plan_meant, PlanDone, grants_in}
 use Rattle.placing.specs.declared.grants.Granted as answer
-use Rattle.placing.specs.declared.plan.Planned as result
-use Rattle.placing.specs.declared.plan.PlanAnswer.TheVariants.{Granted, Refused}
+use Rattle.std.specs.Prelude.{Ok, Err}
 use Rattle.placing.proofs.Causes.{met, record_causes, no_record_cause}
 use Rattle.placing.proofs.check.FrameCauses.{causes_none}
 use Rattle.placing.proofs.PlanTheorem.{at_mandatories}
@@ -50,42 +49,6 @@ use Rattle.placing.proofs.HeadRecord.{count_high, record_valid, presets_count, p
 use Rattle.placing.proofs.grants.Computed.{free_at, granted_at, granted_needs, needs_length, needs_high}
 use Rattle.placing.proofs.grants.Arrays.{filled_at, filled_ext, take_filled}
 use Rattle.placing.specs.Types.{filled}
-use Rattle.placing.specs.method.PlanParts.{busy_to}
-
--- ---- a table whose first cells were made busy
-
-pub busy_length : (t : List ℕ) (n : ℕ) → length (busy_to t n) ≡ length t
-unfolding busy_to
-busy_length t zero = refl
-busy_length t (suc n) = length-set (busy_to t n) n busy_cell ∙ busy_length t n
-
-pub busy_more : (t : List ℕ) (n : ℕ) {u : List ℕ} → u ≡ busy_to t n → set u n busy_cell ≡ busy_to t (n + 1)
-unfolding busy_to
-busy_more t n {u} e = rw (e, add-one n) refl
-
-pub busy_at_lem : (t : List ℕ) (n i : ℕ) → i < n → n ≤ length t → at (busy_to t n) i ≡ busy_cell
-unfolding busy_to
-busy_at_lem t zero i l m = absurd (let z : i < 0 = l in omega arith)
-busy_at_lem t (suc n) i l m = go (is (eqb i n)) (λ q. busy_at_lem t n i q (omega arith))
-  where
-    go : Is (eqb i n) → (i < n → at (busy_to t n) i ≡ busy_cell) → at (set (busy_to t n) n busy_cell) i ≡ busy_cell
-    go (is_true e) ih =
-        let same : i ≡ n = eq_of i n e in
-        ap (at (set (busy_to t n) n busy_cell)) same ∙ get_or-set_same (busy_to t n) n busy_cell 0 (omega (arith, busy_length t n))
-    go (is_false e) ih =
-        let other : i ≡ n → ⊥ = ne_of i n e in
-        get_or-set_other (busy_to t n) n i busy_cell 0 other ∙ ih (omega arith)
-
-pub busy_past : (t : List ℕ) (n i : ℕ) → n ≤ i → at (busy_to t n) i ≡ at t i
-unfolding busy_to
-busy_past t zero i l = refl
-busy_past t (suc n) i l = get_or-set_other (busy_to t n) n i busy_cell 0 (λ e. omega arith) ∙ busy_past t n i (omega arith)
-
-pub busy_drop : (t : List ℕ) (n : ℕ) → drop n (busy_to t n) ≡ drop n t
-busy_drop t n =
-    ext_get_or 0 (drop n (busy_to t n)) (drop n t)
-    (omega (arith, length-drop n (busy_to t n), length-drop n t, busy_length t n))
-    (λ i l. get_or-drop n (busy_to t n) i 0 ∙ busy_past t n (n + i) (omega arith) ∙ sym (get_or-drop n t i 0))
 
 -- ---- an array that is filled, as a list
 
@@ -97,7 +60,7 @@ filled_list m n f =
 -- ---- the table that the code writes
 
 module _ (head : record-of-head.Head) (ps : List record-of-preset.Preset) (long : length ps ≡ 32) (v : valid_record head ps ≡ true)
-    (r : answer.Granted) (g : GrantedTo (head_in head ps) r) (fits : r.fits ≡ true) where
+    (r : answer.Granted) (g : GrantedTo (head_in head ps) r) where
   abbrev h : Head
   h = head_in head ps
 
@@ -106,9 +69,6 @@ module _ (head : record-of-head.Head) (ps : List record-of-preset.Preset) (long 
 
   few : preset_count h ≤ 32
   few = omega (arith, same, count_high head ps v)
-
-  start : plan_fits h (mandatories h) ≡ true
-  start = sym g.fits ∙ fits
 
   -- what stands in an array filled from the preset records
   of_preset : (f : Preset → ℕ) (p : record-of-preset.Preset → ℕ) → ((i : ℕ) → i < head.count → p (record_at ps i) ≡ f (preset_at h i))
@@ -130,7 +90,7 @@ module _ (head : record-of-head.Head) (ps : List record-of-preset.Preset) (long 
       )
 
   pub plan_written : (t counts : List ℕ) {u masks first early late : List ℕ} → 512 ≤ length t
-      → u ≡ busy_to t (head.slots * head.bridges)
+      → u ≡ replicate (head.slots * head.bridges) busy_cell ++ drop (head.slots * head.bridges) t
       → masks ≡ free_masks head.slots head.bridges head.busy
       → ((s : ℕ) → s < head.slots → get_or counts s 0 ≡ plan_free_count h s)
       → first ≡ filled 64 head.count (λ i. (record_at ps i).mandatory)
@@ -141,23 +101,29 @@ module _ (head : record-of-head.Head) (ps : List record-of-preset.Preset) (long 
   plan_written t counts {u} {masks} {first} {early} {late} enough eu em ec ef ee el =
       placed_within_lem (tie_of h.hold) head.slots head.bridges masks counts r.needs head.count first early late u
       (is_placeable head.slots head.bridges r.needs head.count (length u) (record_valid head ps v).slots_high (record_valid head ps v).bridges_high
-      (omega (arith, count_high head ps v)) (omega (arith, ap length eu, busy_length t (head.slots * head.bridges))) low)
+      (omega (arith, count_high head ps v)) (omega (arith, enough, within, ap length eu, length-append (replicate (head.slots * head.bridges) busy_cell) (drop (head.slots * head.bridges) t), long_busy, length-drop (head.slots * head.bridges) t)) low)
       ∙ ap (λ (c : List ℕ). placed_in (tie_of h.hold) head.slots head.bridges masks counts c first early late u) needs_are
-      ∙ placed_planned (tie_of h.hold) h masks counts first early late u (needs_length h r g start few)
+      ∙ placed_planned (tie_of h.hold) h masks counts first early late u (needs_length h r g few)
       (λ s l. ap (λ (q : List ℕ). at q s) em ∙ free_at head ps s (record_valid head ps v).slots_high l) ec
       (of_preset (λ (p : Preset). p.mandatory) (λ (p : record-of-preset.Preset). p.mandatory) (λ i l. ap (λ (p : Preset). p.mandatory) (sym (preset_of_lem head ps i l))) ef)
       (of_preset (λ (p : Preset). mandatory_cell p.number) (λ (p : record-of-preset.Preset). 512 + p.number) (λ i l. ap (λ (p : Preset). mandatory_cell p.number) (sym (preset_of_lem head ps i l))) ee)
       (of_preset (λ (p : Preset). optional_cell p.number) (λ (p : record-of-preset.Preset). 768 + p.number) (λ i l. ap (λ (p : Preset). optional_cell p.number) (sym (preset_of_lem head ps i l))) el)
       busy
-      ∙ ap (λ (q : List ℕ). front ++ q) (ap (drop (head.slots * head.bridges)) eu ∙ busy_drop t (head.slots * head.bridges))
+      ∙ ap (λ (q : List ℕ). front ++ q) (ap (drop (head.slots * head.bridges)) eu ∙ drop-append-drop (head.slots * head.bridges) t (replicate (head.slots * head.bridges) busy_cell) (head.slots * head.bridges) (omega arith) long_busy)
     where
+      within : head.slots * head.bridges ≤ 512
+      within = frame_within head.slots head.bridges (record_valid head ps v).slots_high (record_valid head ps v).bridges_high
+
+      long_busy : length (replicate (head.slots * head.bridges) busy_cell) ≡ head.slots * head.bridges
+      long_busy = length-replicate (head.slots * head.bridges) busy_cell
+
       low : (i : ℕ) → i < head.count → at r.needs i ≤ 64
       low i l =
           let m : i < preset_count h = omega (arith, same) in
-          omega (arith, granted_at h r g start few i m, needs_high h start i m, (record_valid head ps v).slots_high)
+          omega (arith, granted_at h r g few i m, needs_high h g.fits i m, (record_valid head ps v).slots_high)
 
       needs_are : take head.count r.needs ≡ needs h
-      needs_are = ap (λ (k : ℕ). take k r.needs) (sym same) ∙ granted_needs h r g start few
+      needs_are = ap (λ (k : ℕ). take k r.needs) (sym same) ∙ granted_needs h r g few
 
       front : List ℕ
       front = tabulate (h.slots * h.bridges) (λ i. planned (tie_of h.hold) h (i / h.bridges) (i % h.bridges))
@@ -165,8 +131,11 @@ module _ (head : record-of-head.Head) (ps : List record-of-preset.Preset) (long 
       busy : Each h (λ s b. plan_free h s b ≡ false → cell h u s b ≡ busy_cell)
       busy s b ls lb e =
           ap (λ (q : List ℕ). at q (s * head.bridges + b)) eu
-          ∙ busy_at_lem t (head.slots * head.bridges) (s * head.bridges + b) (place_below head.slots head.bridges s b ls lb)
-          (omega (arith, frame_within head.slots head.bridges (record_valid head ps v).slots_high (record_valid head ps v).bridges_high))
+          ∙ get_or-append (replicate (head.slots * head.bridges) busy_cell) (drop (head.slots * head.bridges) t) 0 (s * head.bridges + b) (omega (arith, inside, long_busy))
+          ∙ get_or-replicate (head.slots * head.bridges) (s * head.bridges + b) busy_cell 0 inside
+        where
+          inside : s * head.bridges + b < head.slots * head.bridges
+          inside = place_below head.slots head.bridges s b ls lb
 
   -- the array of the grants
   pub grants_are : {n m l : List ℕ} → n ≡ r.needs → m ≡ filled 64 head.count (λ i. (record_at ps i).mandatory)
@@ -177,7 +146,7 @@ module _ (head : record-of-head.Head) (ps : List record-of-preset.Preset) (long 
       (λ i k.
       let j : i < preset_count h = omega (arith, same) in
       ap₂ ◌-◌
-      (ap (λ (q : List ℕ). at q i) en ∙ granted_at h r g start few i j)
+      (ap (λ (q : List ℕ). at q i) en ∙ granted_at h r g few i j)
       (of_preset (λ (p : Preset). p.mandatory) (λ (p : record-of-preset.Preset). p.mandatory) (λ a b. ap (λ (p : Preset). p.mandatory) (sym (preset_of_lem head ps a b))) em i j
       ∙ sym (at_mandatories h i)))
 
@@ -255,25 +224,28 @@ module _ (head : record-of-head.Head) (ps : List record-of-preset.Preset) (t : L
 
 -- ---- a law for each answer
 
-module _ (head : record-of-head.Head) (ps : List record-of-preset.Preset) (t : List ℕ) {r : result.Planned} where
-  pub plan_refused : (q : cause.Refusal) → plan_meant head ps t ≡ refused_by q t → r.answer ≡ Refused 0 q → r.grants ≡ replicate 32 0 → PlanDone head ps t t r
-  unfolding filled
-  plan_refused q e a z =
+module _ (head : record-of-head.Head) (ps : List record-of-preset.Preset) (t : List ℕ) where
+  pub plan_refused : {q : cause.Refusal} → plan_meant head ps t ≡ refused_by q t → PlanDone head ps t t (Err q)
+  plan_refused e =
       record {
-        answer = ap (replied_in (take head.count r.grants)) a ∙ sym (ap (λ (o : PlanOutcome). o.answer) e);
-        grants = z ∙ sym (ap (λ (o : PlanOutcome). filled 32 (length (grants_in o.answer)) (at (grants_in o.answer))) e);
+        answer = sym (ap (λ (o : PlanOutcome). o.answer) e);
+        grants = tt;
         table = sym (ap (λ (o : PlanOutcome). o.table) e);
       }
 
-  pub plan_done : {u : List ℕ}
+  pub plan_not_granted : {q : cause.Refusal} → 512 ≤ length t → GrantRefused head ps q → PlanDone head ps t t (Err q)
+  plan_not_granted l (invalid v) = plan_refused (meant_invalid head ps t l v)
+  plan_not_granted l (full v f) = plan_refused (meant_full head ps t l v f)
+
+  pub plan_done : {u g : List ℕ}
       → plan_meant head ps t
       ≡ record { answer = PlanAnswer.granted (grants (head_in head ps)); table = written (head_in head ps) (planned (tie_of (head_in head ps).hold) (head_in head ps)) t }
-      → r.answer ≡ Granted → take head.count r.grants ≡ grants (head_in head ps)
-      → r.grants ≡ filled 32 (length (grants (head_in head ps))) (at (grants (head_in head ps)))
-      → u ≡ written (head_in head ps) (planned (tie_of (head_in head ps).hold) (head_in head ps)) t → PlanDone head ps t u r
-  plan_done {u} e a g l w =
+      → take head.count g ≡ grants (head_in head ps)
+      → g ≡ filled 32 (length (grants (head_in head ps))) (at (grants (head_in head ps)))
+      → u ≡ written (head_in head ps) (planned (tie_of (head_in head ps).hold) (head_in head ps)) t → PlanDone head ps t u (Ok g)
+  plan_done {u} e q l w =
       record {
-        answer = ap (replied_in (take head.count r.grants)) a ∙ ap PlanAnswer.granted g ∙ sym (ap (λ (o : PlanOutcome). o.answer) e);
+        answer = ap PlanAnswer.granted q ∙ sym (ap (λ (o : PlanOutcome). o.answer) e);
         grants = l ∙ sym (ap (λ (o : PlanOutcome). filled 32 (length (grants_in o.answer)) (at (grants_in o.answer))) e);
         table = w ∙ sym (ap (λ (o : PlanOutcome). o.table) e);
       }

@@ -1,6 +1,6 @@
 -- Laws of the table slot by slot, as the code places the jobs.
 --
--- In order: the first slots of the table placed (`SlotsPlaced`): none, one more, all; one turn of the loop (`progress_more`, `progress_over`) and the slots after all
+-- In order: a row of a table, by itself and written (`row_..`); the first slots of the table placed (`SlotsPlaced`): none, one more, all; one turn of the loop (`progress_more`, `progress_over`) and the slots after all
 -- jobs have their cells (`progress_idle`); within the limits and beyond them (`placed_within_lem`, `placed_beyond`).
 -- Assumes nothing.
 use Prim.Native.Nat.{ℕ, zero, suc, ◌+◌, ◌-◌, ◌*◌, ◌/◌, ◌%◌, ◌≤◌, ◌<◌, zero-le}
@@ -11,6 +11,8 @@ use mathlib.Core.Path.{◌≡◌, refl, sym, ◌∙◌, ap}
 use mathlib.Core.Bool.{Bool, true, false, cond, ◌&&◌, and-false}
 use mathlib.Core.List.{List, ◌++◌}
 use lib.ListN.{length, take, drop, length-take, length-append, length-drop, get_or-append}
+use Rattle.std.proofs.lemmas.List.{get_or-append_right}
+use borrow.Rule.Slice.PartMut.{put_mid}
 use lib.Seq.{length-take-le, ext_get_or, get_or-append-add, get_or-drop, get_or-take}
 use lib.Dec.{ltb, leb, eqb}
 use Rattle.laws.specs.Sums.{bit, only, sum, position, every}
@@ -27,12 +29,64 @@ use Rattle.laws.proofs.Placement.{left_length, left_step, left_got, held_step}
 use Rattle.station.specs.Head.{has_bit}
 use Rattle.placing.specs.Plan.{placing, tie_of}
 use Rattle.placing.specs.method.Limits.{sizes_in_limits}
-use Rattle.placing.specs.method.Rule.{due_cells, RowWritten, EmptyRow, Levelled, free_in, cell_in, cells_in, placeable, placed_in, placed_within}
+use Rattle.placing.specs.method.Rule.{due_cells, RowWritten, Levelled, free_in, cell_in, cells_in, placeable, placed_in, placed_within}
 use Rattle.placing.proofs.limits.Within.{in_limits, limits_of}
 use Rattle.placing.proofs.WrittenTable.{place_below}
 use Rattle.placing.proofs.MaskBits.{has_bit_zero}
 use Rattle.placing.proofs.rule.levels.Choice.{chosen_past}
-use Rattle.placing.proofs.rule.row.RowWritten.{due_cell, row_as_it_was, slot_cell_ext, takes_not_chosen}
+use Rattle.placing.proofs.rule.row.RowWritten.{due_cell, slot_cell_ext, takes_not_chosen}
+
+-- ---- a row of a table
+
+-- u is t with the n cells from `start` on written: cell b of them is w b.
+pub record RowIn (t u : List ℕ) (start n : ℕ) (w : ℕ → ℕ) : Type 0 where
+  pub long : length u ≡ length t
+  pub inside : (b : ℕ) → b < n → at u (start + b) ≡ w b
+  pub before : (i : ℕ) → i < start → at u i ≡ at t i
+  pub after : (i : ℕ) → start + n ≤ i → at u i ≡ at t i
+
+-- the n cells from a on, by themselves, and written
+module _ (t : List ℕ) (a n m : ℕ) (e : m ≡ n) (l : a + n ≤ length t) where
+  abbrev row_of : List ℕ
+  row_of = take m (drop a t)
+
+  pub row_long : length row_of ≡ n
+  row_long = length-take-le m (drop a t) (omega (arith, length-drop a t)) ∙ e
+
+  pub row_at : (b : ℕ) → b < n → at row_of b ≡ at t (a + b)
+  row_at b h = get_or-take m (drop a t) b 0 (omega (arith, e)) ∙ get_or-drop a t b 0
+
+  pub row_in : {r : List ℕ} (chosen free : ℕ → Bool) (v : ℕ → ℕ) → RowWritten row_of r (length row_of) (slot_cell 64 chosen free v (at row_of))
+      → RowIn t (put_mid a m t r) a n (slot_cell 64 chosen free v (λ b. at t (a + b)))
+  row_in {r} chosen free v done =
+      record {
+        long = omega (arith, length-append front (r ++ back), length-append r back, long_front, long_row, length-drop m (drop a t), length-drop a t, e);
+        inside = λ b h.
+            get_or-append_right front (r ++ back) a (a + b) 0 long_front (omega arith)
+            ∙ ap (at (r ++ back)) (omega arith)
+            ∙ get_or-append r back 0 b (omega (arith, long_row))
+            ∙ done.inside b (omega (arith, row_long))
+            ∙ slot_cell_ext 64 chosen free v (at row_of) b chosen v (λ d. at t (a + d)) (λ i k. refl) (λ i k. refl) (row_at b h);
+        before = λ i h. get_or-append front (r ++ back) 0 i (omega (arith, long_front)) ∙ get_or-take a t i 0 h;
+        after = λ i h.
+            get_or-append_right front (r ++ back) a i 0 long_front (omega arith)
+            ∙ get_or-append_right r back n (i - a) 0 long_row (omega arith)
+            ∙ get_or-drop m (drop a t) (i - a - n) 0
+            ∙ get_or-drop a t (m + (i - a - n)) 0
+            ∙ ap (at t) (omega (arith, e));
+      }
+    where
+      front : List ℕ
+      front = take a t
+
+      back : List ℕ
+      back = drop m (drop a t)
+
+      long_front : length front ≡ a
+      long_front = length-take-le a t (omega arith)
+
+      long_row : length r ≡ n
+      long_row = done.long ∙ row_long
 
 -- ---- the table, slot by slot
 
@@ -56,7 +110,7 @@ module _ (B : ℕ) (w : ℕ → ℕ → ℕ) (t : List ℕ) where
   pub slots_none : SlotsPlaced B w t t 0
   slots_none = record { long = refl; inside = λ s b h. absurd (omega arith); after = λ i h. refl }
 
-  pub slots_more : (u v : List ℕ) (n : ℕ) (row : ℕ → ℕ) → SlotsPlaced B w t u n → RowWritten u v (n * B) B row
+  pub slots_more : (u v : List ℕ) (n : ℕ) (row : ℕ → ℕ) → SlotsPlaced B w t u n → RowIn u v (n * B) B row
       → ((b : ℕ) → b < B → row b ≡ w n b) → SlotsPlaced B w t v (n + 1)
   slots_more u v n row done r e =
       record {
@@ -216,7 +270,7 @@ module _ (hold : Bool) (B : ℕ) (masks counts array first early late t : List �
     wrote i h = due_cell l early late i (at c i) (at (left ties nobody c free s) i) (at first i) (so_far.due i (omega (arith, long, h)))
 
     pub progress_more : (v m levels' : List ℕ) (top' : ℕ) → ((i : ℕ) → i < 64 → at (left ties nobody c free s) i ≤ top')
-        → RowWritten u v (s * B) B (slot_cell 64 (has_bit got) (has_bit (at masks s)) (due_cells l early late) (λ b. at u (s * B + b)))
+        → RowIn u v (s * B) B (slot_cell 64 (has_bit got) (has_bit (at masks s)) (due_cells l early late) (λ b. at u (s * B + b)))
         → ((i : ℕ) → at m i ≡ at l i - bit (has_bit got i))
         → Levelled levels' (λ i. at (left ties nobody c free s) i - bit (has_bit got i))
         → Progress hold B masks counts c first early late t k (s + 1) v m levels' top' (cond hold got 0)
@@ -244,7 +298,7 @@ module _ (hold : Bool) (B : ℕ) (masks counts array first early late t : List �
       → Progress hold B masks counts c first early late t k (s + 1) u l levels top' (cond hold 0 0)
   progress_over enough few s u l levels top held top' so_far empty unfilled most =
       progress_more enough few s u l levels top held so_far 0 idle u l levels top' most
-      (row_as_it_was u (s * B) _ B (λ b h. sym (rw (off b) refl))) (λ i. omega (arith, ap bit (has_bit_zero i)))
+      (record { long = refl; inside = λ b h. sym (rw (off b) refl); before = λ i l. refl; after = λ i l. refl }) (λ i. omega (arith, ap bit (has_bit_zero i)))
       (λ q i p r j. so_far.levelled q i p r j ∙ ap (λ (n : ℕ). eqb n q) (omega (arith, ap bit (has_bit_zero i))))
     where
       off : (b : ℕ) → free_in masks s b ≡ false
@@ -282,7 +336,7 @@ module _ (hold : Bool) (B : ℕ) (masks counts array first early late t : List �
             (takes_not_chosen (λ j. lrtf ties nobody c free j q) (λ d. free_in masks q d) i b (rw (idle i h q m) refl))))
         go (is_false e) = sym (rw e refl)
 
-    pub progress_idle : (n : ℕ) → s ≤ n → ((q : ℕ) → s ≤ q → q < n → EmptyRow t (q * B) B (free_in masks q))
+    pub progress_idle : (n : ℕ) → s ≤ n → ((q b : ℕ) → s ≤ q → q < n → b < B → free_in masks q b ≡ true → at t (q * B + b) ≡ 0)
         → SlotsPlaced B (cell_of ties B masks counts c first early late t) t u n
     progress_idle n more clean =
         record {
@@ -295,7 +349,7 @@ module _ (hold : Bool) (B : ℕ) (masks counts array first early late t : List �
         go q b h m (is_true e) = so_far.table.inside q b (lt_of q s e) m
         go q b h m (is_false e) =
             let past : s ≤ q = ge_of q s e in
-            so_far.table.after (q * B + b) (omega (arith, mul-le-mul_right {m = s} {n = q} B past)) ∙ as_it_was q b past (clean q past h b m)
+            so_far.table.after (q * B + b) (omega (arith, mul-le-mul_right {m = s} {n = q} B past)) ∙ as_it_was q b past (clean q b past h m)
 
 -- ---- within the limits, and beyond them
 

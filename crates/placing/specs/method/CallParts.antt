@@ -1,9 +1,9 @@
 -- What the part of a call's code is held to that carries it out where none of the causes before 7 is met.
 -- Assumes nothing.
-use Rattle.std.specs.Prelude.{ℕ, ◌≡◌, cond, List}
+use Rattle.std.specs.Prelude.{ℕ, ◌≡◌, cond, List, Result}
 use Rattle.station.specs.Head.{Head, Job}
 use Rattle.station.specs.Refusal.{call_not_feasible}
-use Rattle.placing.specs.declared.call.CallAnswer as reply
+use Rattle.station.specs.declared.types.Refusal as cause
 use Rattle.placing.specs.Table.{cell}
 use Rattle.placing.specs.State.{State}
 use Rattle.placing.specs.Call.{call_fits}
@@ -18,6 +18,6 @@ call_carried_out h jobs st =
     (record { answer = refused 0 call_not_feasible; after = st })
 
 -- what the carrying out answers, and the table u that it leaves
-pub record CallCarriedOut (h : Head) (jobs : List Job) (st : State) (u : List ℕ) (r : reply.CallAnswer) : Type 0 where
+pub record CallCarriedOut (h : Head) (jobs : List Job) (st : State) (u : List ℕ) (r : Result ℕ cause.Refusal) : Type 0 where
   pub answer : call_answer_in r ≡ (call_carried_out h jobs st).answer
   pub table : u ≡ (call_carried_out h jobs st).after.table

@@ -3,7 +3,7 @@
 -- In order: the counts (`CountsOf`), and what they decide (`OwnCause`, `FitBeside`, `CountedCause`); the parts that the code counts by: numbers that are marked, and the cells of a
 -- slot that a call may use.
 -- Assumes nothing.
-use Rattle.std.specs.Prelude.{ℕ, ◌+◌, ◌-◌, ◌*◌, ◌≤◌, ◌<◌, min, ◌≡◌, Bool, not, ◌&&◌, ◌||◌, List, length, ltb, eqb}
+use Rattle.std.specs.Prelude.{ℕ, ◌+◌, ◌-◌, ◌*◌, ◌≤◌, ◌<◌, min, ◌≡◌, Bool, not, ◌&&◌, ◌||◌, List, Result, length, ltb, eqb}
 use Rattle.laws.specs.Sums.{sum, count, only}
 use Rattle.laws.specs.Placement.{excess}
 use Rattle.laws.specs.method.Capacities.{AtLeast}
@@ -15,22 +15,23 @@ use Rattle.placing.specs.Valid.{usable, job_at}
 use Rattle.placing.specs.Call.{usable_count, call_fits}
 use Rattle.placing.specs.Outcomes.{job_causes, call_causes}
 use Rattle.placing.specs.Causes.{cause_in}
-use Rattle.placing.specs.declared.check.Cause as cause
+use Rattle.station.specs.declared.types.Refusal as cause
+use Rattle.placing.specs.declared.counts.Counts.{Counts}
 use Rattle.placing.specs.method.Jobs.{marked}
 use Rattle.placing.specs.method.Grants.{Sums}
 
 -- The counts are those of the head h, the clock and the cells t: "A number is used if a preset of the head or a call cell has it"; the job numbers of the table; and how many
 -- slots have at least one, two, up to eight cells that a call may fill.
-pub record CountsOf (h : Head) (clock : ℕ) (t : Cells) (marks : List ℕ) (admitted : ℕ) (xs : List ℕ) : Type 0 where
-  pub marks_long : length marks ≡ 256
-  pub used : (n : ℕ) → n < 256 → marked marks n ≡ is_used h t n
-  pub jobs : admitted ≡ job_count h t
-  pub entries : AtLeast xs h.slots (usable_count h clock t)
+pub record CountsOf (h : Head) (clock : ℕ) (t : Cells) (c : Counts) : Type 0 where
+  pub marks_long : length c.used ≡ 256
+  pub used : (n : ℕ) → n < 256 → marked c.used n ≡ is_used h t n
+  pub jobs : c.admitted ≡ job_count h t
+  pub entries : AtLeast c.at_least h.slots (usable_count h clock t)
 
 -- What `own_cause` answers: for every table that has these used numbers and so many job numbers, the first of the causes 2, 4, 9 of the jobs.
-abbrev pub OwnCause : List ℕ → ℕ → List Job → cause.Cause → Type 0
-OwnCause marks admitted jobs r =
-    (h : Head) (t : Cells) → ((n : ℕ) → n < 256 → marked marks n ≡ is_used h t n) → admitted ≡ job_count h t → cause_in r ≡ first_of (job_causes h jobs t)
+abbrev pub OwnCause : Counts → List Job → Result Unit cause.Refusal → Type 0
+OwnCause c jobs r =
+    (h : Head) (t : Cells) → ((n : ℕ) → n < 256 → marked c.used n ≡ is_used h t n) → c.admitted ≡ job_count h t → cause_in r ≡ first_of (job_causes h jobs t)
 
 -- What is unfinished beside some jobs: the first k of the needs c, the others being the jobs'. The sums of the r largest and the total are those of the k alone.
 pub record Unfinished (k : ℕ) (c : ℕ → ℕ) (jobs : List Job) (sums : List ℕ) (total : ℕ) : Type 0 where
@@ -45,9 +46,9 @@ FitBeside sums total xs jobs r =
     → AtLeast xs n x → r ≡ eqb (excess (k + length jobs) c n x) 0
 
 -- What `cause_by_counts` answers: on every well-formed table of which these are the counts, the first of the causes of the call itself.
-abbrev pub CountedCause : List ℕ → ℕ → List ℕ → List Job → cause.Cause → Type 0
-CountedCause marks admitted xs jobs r =
-    (h : Head) (clock : ℕ) (t : Cells) → Valid h → WellFormed h t → CountsOf h clock t marks admitted xs → cause_in r ≡ first_of (call_causes h clock jobs t)
+abbrev pub CountedCause : Counts → List Job → Result Unit cause.Refusal → Type 0
+CountedCause c jobs r =
+    (h : Head) (clock : ℕ) (t : Cells) → Valid h → WellFormed h t → CountsOf h clock t c → cause_in r ≡ first_of (call_causes h clock jobs t)
 
 -- whether the jobs fit, likewise, by these slots alone
 abbrev pub CountedFit : List ℕ → List Job → Bool → Type 0
@@ -57,19 +58,19 @@ CountedFit xs jobs r =
 -- ---- numbers that are marked
 
 -- the numbers of the call cells among the first i cells of a table are marked, and no others
-pub record Marked (t : List ℕ) (i : ℕ) (used : List ℕ) : Type 0 where
+pub record Marked (t : List ℕ) (i : ℕ) (used : List Bool) : Type 0 where
   pub long : length used ≡ 256
   pub which : (n : ℕ) → n < 256 → marked used n ≡ ltb 0 (count i (λ j. eqb (cell_at t j) (call_cell n)))
 
 -- what one cell v marks: its number, if it is a call cell
-pub record Marks (v : ℕ) (before after : List ℕ) (r : ℕ) : Type 0 where
+pub record Marks (v : ℕ) (before after : List Bool) (r : ℕ) : Type 0 where
   pub long : length after ≡ length before
   pub which : (n : ℕ) → n < 256 → marked after n ≡ (marked before n || eqb v (call_cell n))
   pub more : count 256 (marked after) ≡ count 256 (marked before) + r
   pub one : r ≤ 1
 
 -- the numbers f 0, .., f (i - 1) are marked beside those that were
-pub record MarkedBeside (f : ℕ → ℕ) (before : List ℕ) (i : ℕ) (after : List ℕ) : Type 0 where
+pub record MarkedBeside (f : ℕ → ℕ) (before : List Bool) (i : ℕ) (after : List Bool) : Type 0 where
   pub long : length after ≡ 256
   pub which : (n : ℕ) → n < 256 → marked after n ≡ (ltb 0 (count i (λ j. eqb (f j) n)) || marked before n)
 

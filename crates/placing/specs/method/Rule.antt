@@ -8,6 +8,9 @@ use Rattle.laws.specs.Placement.{Ties, tie_hold, nobody, chosen, left, lrtf}
 use Rattle.station.specs.Limits.{most_length}
 use Rattle.station.specs.Head.{has_bit}
 use Rattle.placing.specs.method.Limits.{most_placed, level_count, sizes_in_limits}
+use Rattle.station.specs.declared.types.Head as record-of-head
+use Rattle.placing.specs.declared.rule.Offer as offer
+use Rattle.placing.specs.declared.rule.Work as work
 use Rattle.placing.specs.Table.{Cells}
 use Rattle.placing.specs.Plan.{placing}
 
@@ -43,20 +46,18 @@ job_cell need rest first early late = cond (ltb (need - rest) first) early late
 abbrev pub due_cells : List ℕ → List ℕ → List ℕ → ℕ → ℕ
 due_cells due early late i = cond (ltb 0 (at due i)) (at early i) (at late i)
 
--- u is t with the n cells from `start` on written: cell b of them is w b.
-pub record RowWritten (t u : List ℕ) (start n : ℕ) (w : ℕ → ℕ) : Type 0 where
+-- u is the row t with its n cells written: cell b of them is w b.
+pub record RowWritten (t u : List ℕ) (n : ℕ) (w : ℕ → ℕ) : Type 0 where
   pub long : length u ≡ length t
-  pub inside : (b : ℕ) → b < n → at u (start + b) ≡ w b
-  pub before : (i : ℕ) → i < start → at u i ≡ at t i
-  pub after : (i : ℕ) → start + n ≤ i → at u i ≡ at t i
+  pub inside : (b : ℕ) → b < n → at u b ≡ w b
 
 -- what cell b of a slot holds after its free cells were made empty: any other cell what it held
 abbrev pub emptied : (ℕ → Bool) → (ℕ → ℕ) → ℕ → ℕ
 emptied f t b = cond (f b) 0 (t b)
 
--- the free ones of the n cells from `start` on are empty
-abbrev pub EmptyRow : List ℕ → ℕ → ℕ → (ℕ → Bool) → Type 0
-EmptyRow t start n f = (b : ℕ) → b < n → f b ≡ true → at t (start + b) ≡ 0
+-- the free ones of the n cells of a row are empty
+abbrev pub EmptyRow : List ℕ → ℕ → (ℕ → Bool) → Type 0
+EmptyRow t n f = (b : ℕ) → b < n → f b ≡ true → at t b ≡ 0
 
 -- the free bridges that a list of masks gives, one mask a slot
 abbrev pub free_in : List ℕ → ℕ → ℕ → Bool
@@ -72,7 +73,7 @@ cells_in bridges t s b = at t (s * bridges + b)
 
 -- from slot `clean` on the free cells of the frame are empty
 abbrev pub CleanFrom : ℕ → ℕ → ℕ → List ℕ → List ℕ → Type 0
-CleanFrom clean slots bridges masks t = (s : ℕ) → clean ≤ s → s < slots → EmptyRow t (s * bridges) bridges (free_in masks s)
+CleanFrom clean slots bridges masks t = (s b : ℕ) → clean ≤ s → s < slots → b < bridges → free_in masks s b ≡ true → cells_in bridges t s b ≡ 0
 
 -- no slot of the frame is given more jobs than it has free cells
 abbrev pub Fillable : ℕ → ℕ → List ℕ → List ℕ → Type 0
@@ -94,3 +95,7 @@ placeable slots bridges needs k cells = leb k most_placed && every k (λ i. leb 
 unfoldable pub placed_within : Ties → ℕ → ℕ → List ℕ → List ℕ → List ℕ → ℕ → List ℕ → List ℕ → List ℕ → List ℕ → List ℕ
 placed_within ties slots bridges masks counts needs k first early late t =
     cond (placeable slots bridges needs k (length t)) (placed_in ties slots bridges masks counts (take k needs) first early late t) t
+
+-- the same by the records of the code: the head, where jobs may go, and what is placed
+abbrev pub placed_by : Ties → record-of-head.Head → offer.Offer → work.Work → List ℕ → List ℕ
+placed_by ties head o w t = placed_within ties head.slots head.bridges o.free o.counts w.needs w.count w.first w.early w.late t

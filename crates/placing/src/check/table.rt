@@ -13,14 +13,15 @@ use station::limits::{MOST_FRAME_JOBS, MOST_PRESETS};
 use station::types::{Head, Preset};
 
 // The cells that have numbers are counted by value, from the first mandatory cell on: how many counts there are, and where those of the optional and of the
-// call cells begin.
+// call cells begin. They are one array and not one for each kind, so that a cell is counted where its value says, whatever its kind.
 const COUNTS: usize = 768;
 
 const OPTIONALS: usize = 256;
 
 const CALLS: usize = 512;
 
-// Whether a cell may hold v, by the counts of the presets' numbers and of the cells before it: busy just where the head says so.
+// Whether a cell may hold v, by the counts of the presets' numbers and of the cells before it: busy just where the head says so. By values and not by a match on the kind, which was
+// tried: the check of a table then takes a twentieth longer.
 fn cell_fits(v: Cell, busy: bool, numbers: &[u8; 256], counts: &[u16; COUNTS]) -> bool
     ensures { result ≡ cell_fits numbers.now counts.now busy v }
 {
@@ -32,22 +33,9 @@ fn cell_fits(v: Cell, busy: bool, numbers: &[u8; 256], counts: &[u16; COUNTS]) -
     }
     let n = number_in(v);
     if CALL <= v {
-        if v == CALL {
-            return false;
-        }
-        if VALUES <= v {
-            return false;
-        }
-        return numbers[n] == 0;
+        return v != CALL && v < VALUES && numbers[n] == 0;
     }
-    if numbers[n] == 0 {
-        return false;
-    }
-    if OPTIONAL <= v {
-        return true;
-    }
-    let optional = (v - MANDATORY) as usize + OPTIONALS;
-    counts[optional] == 0
+    numbers[n] != 0 && (OPTIONAL <= v || counts[OPTIONALS + n] == 0)
 }
 
 // The first cell at fault, slot by slot and in each slot bridge by bridge, as its place in the table; the number of the frame's cells where none is. Each cell is
@@ -64,26 +52,26 @@ fn scan(head: Head, numbers: &[u8; 256], table: &[Cell], counts: &mut [u16; COUN
     let busy = head.busy;
     let mut last = [0u8; 256];
     let mut at = 0;
-    'frame: for s in 0..slots {
+    for s in 0..slots {
         let mark = s as u8 + 1;
         let mut held = 0;
         for b in 0..bridges {
             let v = table[at];
             let taken = (busy[b] >> s) % 2 == 1;
             if !cell_fits(v, taken, numbers, counts) {
-                break 'frame;
+                return at;
             }
             if MANDATORY <= v {
                 if fed <= held {
-                    break 'frame;
+                    return at;
                 }
                 held += 1;
                 let n = number_in(v);
                 if last[n] == mark {
-                    break 'frame;
+                    return at;
                 }
                 last[n] = mark;
-                let place = (v - MANDATORY) as usize;
+                let place = usize::from(v - MANDATORY);
                 counts[place] += 1;
             }
             at += 1;
@@ -97,14 +85,9 @@ fn preset_numbers(head: Head, presets: [Preset; MOST_PRESETS]) -> [u8; 256]
     requires { head.count ≤ most_presets }
     ensures { result ≡ numbered (head_in head presets).presets head.count }
 {
-    let count = head.count;
     let mut numbers = [0u8; 256];
-    let mut i = 0;
-    while i < count {
-        let preset = presets[i];
-        let n = preset.number as usize;
-        numbers[n] += 1;
-        i += 1;
+    for i in 0..head.count {
+        numbers[usize::from(presets[i].number)] += 1;
     }
     numbers
 }
@@ -113,12 +96,8 @@ fn preset_numbers(head: Head, presets: [Preset; MOST_PRESETS]) -> [u8; 256]
 fn preset_met(preset: Preset, counts: &[u16; COUNTS]) -> bool
     ensures { result ≡ is_met counts.now (preset_in preset) }
 {
-    let mandatory = preset.number as usize;
-    if counts[mandatory] != preset.mandatory as u16 {
-        return false;
-    }
-    let optional = OPTIONALS + preset.number as usize;
-    counts[optional] <= preset.optional as u16
+    let n = usize::from(preset.number);
+    counts[n] == u16::from(preset.mandatory) && counts[OPTIONALS + n] <= u16::from(preset.optional)
 }
 
 // The same of every preset.
@@ -126,29 +105,18 @@ fn presets_met(head: Head, presets: [Preset; MOST_PRESETS], counts: &[u16; COUNT
     requires { head.count ≤ most_presets }
     ensures { result ≡ every head.count (preset_met (head_in head presets).presets counts.now) }
 {
-    let count = head.count;
-    let mut i = 0;
-    while i < count {
-        if !preset_met(presets[i], counts) {
-            return false;
-        }
-        i += 1;
-    }
-    true
+    presets[..head.count]
+        .iter()
+        .all(|preset| preset_met(*preset, counts))
 }
 
-// How many job numbers the table has.
+// How many job numbers the table has. By `filter` and `count`, which was tried, the check of a table takes a tenth longer.
 fn job_count(counts: &[u16; COUNTS]) -> usize
     ensures { result ≡ count 256 (has_call counts.now) }
 {
     let mut jobs = 0;
-    let mut n = 0;
-    while n < 256 {
-        let call = CALLS + n;
-        if 0 < counts[call] {
-            jobs += 1;
-        }
-        n += 1;
+    for n in 0..256 {
+        jobs += usize::from(0 < counts[CALLS + n]);
     }
     jobs
 }
@@ -161,11 +129,7 @@ pub(crate) fn well_formed(head: Head, presets: [Preset; MOST_PRESETS], table: &[
     let cells = head.slots * head.bridges;
     let numbers = preset_numbers(head, presets);
     let mut counts = [0u16; COUNTS];
-    if scan(head, &numbers, table, &mut counts) < cells {
-        return false;
-    }
-    if !presets_met(head, presets, &counts) {
-        return false;
-    }
-    job_count(&counts) <= MOST_FRAME_JOBS
+    cells <= scan(head, &numbers, table, &mut counts)
+        && presets_met(head, presets, &counts)
+        && job_count(&counts) <= MOST_FRAME_JOBS
 }

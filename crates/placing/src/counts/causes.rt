@@ -8,148 +8,97 @@ ghost use Rattle.placing.specs.Types.{jobs_in};
 ghost use Rattle.placing.specs.Outcomes.{jobs_outside};
 ghost use Rattle.placing.specs.Causes.{cause_in, call_jobs};
 ghost use Rattle.placing.specs.method.Limits.{capacity_count};
-ghost use Rattle.placing.specs.method.Jobs.{job_number, is_other, job_new};
+ghost use Rattle.placing.specs.method.Jobs.{IsCall, job_number, is_other, job_new};
 ghost use Rattle.placing.specs.method.Counts.{FitBeside, CountedFit, OwnCause, CountedCause};
 
-use crate::capacities::lacks;
-use crate::check::Cause;
-use crate::grants::raise_sums;
-use crate::limits::CAPACITY_COUNT;
-use crate::numbers::wide;
+use crate::counts::Counts;
+use crate::sums::{NO_SUMS, Sums};
 use station::check::job_in_limits;
 use station::limits::{MOST_BRIDGES, MOST_FRAME_JOBS, MOST_JOBS};
-use station::types::{Job, Refusal};
+use station::types::{Call, Refusal};
 
-// Whether the first n jobs are no call's: none at all, or one outside its limits.
-fn jobs_outside(jobs: [Job; MOST_JOBS], n: usize) -> bool
-    requires { n ≤ most_jobs }
-    ensures { result ≡ jobs_outside (jobs_in n jobs) }
+// Whether the jobs are no call's: none at all, or one outside its limits.
+fn jobs_outside(call: Call) -> bool
+    requires { call.count ≤ most_jobs }
+    ensures { result ≡ jobs_outside (jobs_in call.count call.jobs) }
 {
-    if n == 0 {
-        return true;
-    }
-    let mut i = 0;
-    while i < n {
-        if !job_in_limits(jobs[i]) {
-            return true;
-        }
-        i += 1;
-    }
-    false
+    call.count == 0
+        || call.jobs[..call.count]
+            .iter()
+            .any(|job| !job_in_limits(*job))
 }
 
 // Whether no job before job i has the number of job i.
-fn is_first(jobs: [Job; MOST_JOBS], i: usize) -> bool
+fn is_first(call: Call, i: usize) -> bool
     requires { i < most_jobs }
-    ensures { result ≡ every i (is_other jobs (job_number jobs i)) }
+    ensures { result ≡ every i (is_other call.jobs (job_number call.jobs i)) }
 {
-    let job = jobs[i];
-    let number = job.number;
-    let mut j = 0;
-    while j < i {
-        let other = jobs[j];
-        if other.number == number {
-            return false;
-        }
-        j += 1;
-    }
-    true
+    let number = call.jobs[i].number;
+    call.jobs[..i].iter().all(|other| other.number != number)
 }
 
-// Whether one of the first n jobs has a number that is used, or that a job before it has.
-fn jobs_used(used: &[u8; 256], jobs: [Job; MOST_JOBS], n: usize) -> bool
-    requires { (n ≤ most_jobs) × (jobs_outside (jobs_in n jobs) ≡ false) }
-    ensures { result ≡ not (every n (job_new used.now jobs)) }
+// Whether one of the jobs has a number that is used, or that a job before it has.
+fn jobs_used(used: &[bool; 256], call: Call) -> bool
+    requires { IsCall call }
+    ensures { result ≡ not (every call.count (job_new used.now call.jobs)) }
 {
-    let mut i = 0;
-    while i < n {
-        let job = jobs[i];
-        let number = job.number as usize;
-        if used[number] != 0 {
+    for i in 0..call.count {
+        let number = usize::from(call.jobs[i].number);
+        if used[number] || !is_first(call, i) {
             return true;
         }
-        if !is_first(jobs, i) {
-            return true;
-        }
-        i += 1;
     }
     false
 }
 
-// Whether the first n jobs fit beside what is unfinished, of which the sums of the r longest for r from 0 to 8 and all of it together are given, into slots
-// of which it is given how many have at least one, two, up to eight free bridges.
-fn fits_by_counts(
-    sums: [usize; CAPACITY_COUNT],
-    total: usize,
-    entries: &[u8; MOST_BRIDGES],
-    jobs: [Job; MOST_JOBS],
-    n: usize,
-) -> bool
-    requires { (n ≤ most_jobs) × (jobs_outside (jobs_in n jobs) ≡ false) × ((r : ℕ) → r < capacity_count → at sums r ≤ most_frame_jobs * most_length) × (total ≤ most_frame_jobs * most_length) }
-    ensures { FitBeside sums total entries.now (jobs_in n jobs) result }
+// Whether the jobs fit beside what is unfinished, of which the sums are given, into slots of which it is given how many have at least one, two, up to eight free bridges.
+fn fits_by_counts(sums: Sums, at_least: &[u8; MOST_BRIDGES], call: Call) -> bool
+    requires { IsCall call × ((r : ℕ) → r < capacity_count → at sums.largest r ≤ most_frame_jobs * most_length) × (sums.total ≤ most_frame_jobs * most_length) }
+    ensures { FitBeside sums.largest sums.total at_least.now (jobs_in call.count call.jobs) result }
 {
     let mut all = sums;
-    let mut together = total;
-    let mut i = 0;
-    while i < n {
-        let job = jobs[i];
-        let need = job.slots as usize;
-        raise_sums(&mut all, 0, need);
-        together += need;
-        i += 1;
+    for i in 0..call.count {
+        all.raise(0, usize::from(call.jobs[i].slots));
     }
-    !lacks(&all, together, entries, 1)
+    !all.lacks(at_least, 1)
 }
 
-// Whether the first n jobs fit into slots of which it is given how many have at least one, two, up to eight free bridges. Nothing is unfinished beside them, so that one job alone fits
+// Whether the jobs fit into slots of which it is given how many have at least one, two, up to eight free bridges. Nothing is unfinished beside them, so that one job alone fits
 // where as many slots as it is long have a free bridge: the first entry.
-fn jobs_fit(entries: &[u8; MOST_BRIDGES], jobs: [Job; MOST_JOBS], n: usize) -> bool
-    requires { (n ≤ most_jobs) × (jobs_outside (jobs_in n jobs) ≡ false) }
-    ensures { CountedFit entries.now (jobs_in n jobs) result }
+fn jobs_fit(at_least: &[u8; MOST_BRIDGES], call: Call) -> bool
+    requires { IsCall call }
+    ensures { CountedFit at_least.now (jobs_in call.count call.jobs) result }
 {
-    if n == 1 {
-        let job = jobs[0];
-        return job.slots as usize <= wide(entries[0]);
+    if call.count == 1 {
+        return call.jobs[0].slots <= u16::from(at_least[0]);
     }
-    let none = [0usize; CAPACITY_COUNT];
-    fits_by_counts(none, 0, entries, jobs, n)
+    fits_by_counts(NO_SUMS, at_least, call)
 }
 
-// The causes of the first n jobs of a call, by the numbers that are used and how many of them the call cells have: 2 for a ninth job, for none, or for one outside its
+// The causes of the jobs of a call, by the numbers that are used and how many of them the call cells have: 2 for a ninth job, for none, or for one outside its
 // limits, 4 for a number that is used or twice in the call, 9 for more than 64 job numbers.
-fn own_cause(used: &[u8; 256], admitted: usize, jobs: [Job; MOST_JOBS], n: usize) -> Cause
-    ensures { OwnCause used.now admitted (call_jobs n jobs) result × (cause_in result ≡ none → (admitted + n ≤ most_frame_jobs) × (n ≤ most_jobs) × (jobs_outside (jobs_in n jobs) ≡ false)) }
+fn own_cause(counts: &Counts, call: Call) -> Result<(), Refusal>
+    ensures { OwnCause counts.now (call_jobs call.count call.jobs) result × (cause_in result ≡ none → (counts.now.admitted + call.count ≤ most_frame_jobs) × IsCall call) }
 {
-    if MOST_JOBS < n {
-        return Cause::Met(Refusal::OutOfLimits);
+    if MOST_JOBS < call.count || jobs_outside(call) {
+        return Err(Refusal::OutOfLimits);
     }
-    if jobs_outside(jobs, n) {
-        return Cause::Met(Refusal::OutOfLimits);
+    if jobs_used(&counts.used, call) {
+        return Err(Refusal::NumberUsed);
     }
-    if jobs_used(used, jobs, n) {
-        return Cause::Met(Refusal::NumberUsed);
+    if MOST_FRAME_JOBS - call.count < counts.admitted {
+        return Err(Refusal::TooMany);
     }
-    if MOST_FRAME_JOBS - n < admitted {
-        return Cause::Met(Refusal::TooMany);
-    }
-    Cause::Passed
+    Ok(())
 }
 
-// The causes of a call of the first n jobs itself, by the counts of the table and the clock: those of its jobs, then 7 where it does not fit.
-pub(crate) fn cause_by_counts(
-    used: &[u8; 256],
-    admitted: usize,
-    entries: &[u8; MOST_BRIDGES],
-    jobs: [Job; MOST_JOBS],
-    n: usize,
-) -> Cause
-    ensures { CountedCause used.now admitted entries.now (call_jobs n jobs) result × (cause_in result ≡ none → admitted + n ≤ most_frame_jobs) }
+// The causes of a call itself, by the counts of the table and the clock: those of its jobs, then 7 where it does not fit.
+pub(crate) fn cause_by_counts(counts: &Counts, call: Call) -> Result<(), Refusal>
+    ensures { CountedCause counts.now (call_jobs call.count call.jobs) result × (cause_in result ≡ none → counts.now.admitted + call.count ≤ most_frame_jobs) }
 {
-    if let Cause::Met(r) = own_cause(used, admitted, jobs, n) {
-        return Cause::Met(r);
+    own_cause(counts, call)?;
+    if !jobs_fit(&counts.at_least, call) {
+        return Err(Refusal::CallNotFeasible);
     }
-    if !jobs_fit(entries, jobs, n) {
-        return Cause::Met(Refusal::CallNotFeasible);
-    }
-    Cause::Passed
+    Ok(())
 }

@@ -6,7 +6,6 @@ ghost use Rattle.placing.specs.Call.{lengths};
 ghost use Rattle.placing.specs.Outcomes.{jobs_outside};
 
 use crate::limits::MOST_PLACED;
-use crate::numbers::low_byte;
 use station::limits::MOST_JOBS;
 use station::types::Job;
 
@@ -15,11 +14,8 @@ pub(crate) fn job_needs(jobs: [Job; MOST_JOBS]) -> [u8; MOST_PLACED]
     ensures { (n : ℕ) → n ≤ most_jobs → jobs_outside (jobs_in n jobs) ≡ false → lengths (jobs_in n jobs) ≡ take n result }
 {
     let mut all = [0u8; MOST_PLACED];
-    let mut i = 0;
-    while i < MOST_JOBS {
-        let job = jobs[i];
-        all[i] = low_byte(job.slots);
-        i += 1;
+    for i in 0..MOST_JOBS {
+        all[i] = (jobs[i].slots % 256) as u8;
     }
     all
 }

@@ -1,6 +1,5 @@
 // The slots by what a call may fill in them: those of a table and a clock, and what is left of them where the clock moves.
 ghost use Rattle.std.specs.Prelude.{◌+◌, ◌≤◌, ◌≡◌, true, length};
-ghost use Rattle.laws.specs.Sums.{bit};
 ghost use Rattle.laws.specs.method.Capacities.{AtLeast};
 ghost use Rattle.station.specs.Limits.{most_bridges};
 ghost use Rattle.placing.specs.method.Limits.{sizes_in_limits, motors_in};
@@ -8,36 +7,23 @@ ghost use Rattle.placing.specs.method.Counts.{free_cell, staying_cell, usable_in
 
 use crate::capacities::{enter_slot, leave_slot};
 use crate::cells::{Cell, is_evictable, is_held};
+use crate::counts::Counts;
 use crate::limits::{in_limits, motors};
-use crate::numbers::{less, smaller};
-use crate::search::empty::first_slot;
 use station::limits::MOST_BRIDGES;
 use station::types::Head;
 
-// 1 for a cell that stays whatever the call evicts: one that is held and that it may not evict; else 0.
-fn staying_cell(v: Cell) -> u16
-    ensures { (result ≡ bit (staying_cell v)) × (result ≤ 1) }
+// Whether a cell stays whatever the call evicts: one that is held and that it may not evict.
+fn is_staying(v: Cell) -> bool
+    ensures { result ≡ staying_cell v }
 {
-    if !is_held(v) {
-        return 0;
-    }
-    if is_evictable(v) {
-        return 0;
-    }
-    1
+    is_held(v) && !is_evictable(v)
 }
 
-// 1 for a cell that a call may use, an empty one or one that it may evict; else 0.
-fn free_cell(v: Cell) -> u16
-    ensures { (result ≡ bit (free_cell v)) × (result ≤ 1) }
+// Whether a call may use a cell: an empty one or one that it may evict.
+fn is_free(v: Cell) -> bool
+    ensures { result ≡ free_cell v }
 {
-    if v == 0 {
-        return 1;
-    }
-    if is_evictable(v) {
-        return 1;
-    }
-    0
+    v == 0 || is_evictable(v)
 }
 
 // How many cells of the slot whose first cell is at `from` a call may fill: the smaller of those that it may use and of the motors without the cells that stay. Always eight cells are looked
@@ -48,18 +34,16 @@ fn usable_in(table: &[Cell], from: usize, bridges: usize, motors: usize) -> usiz
 {
     let mut free: u16 = 0;
     let mut staying: u16 = 0;
-    let mut b = 0;
-    while b < MOST_BRIDGES {
+    for b in 0..MOST_BRIDGES {
         let v = table[from + b];
-        let one = free_cell(v);
-        let other = staying_cell(v);
+        let one = u16::from(is_free(v));
+        let other = u16::from(is_staying(v));
         if b < bridges {
             free += one;
             staying += other;
         }
-        b += 1;
     }
-    smaller(free as usize, less(motors, staying as usize))
+    usize::from(free).min(motors.saturating_sub(usize::from(staying)))
 }
 
 // How many slots above the clock have at least one, two, up to eight cells that a call may fill, of a table within the limits. The other slots are not entered.
@@ -70,41 +54,33 @@ pub(crate) fn count_slots(head: Head, table: &[Cell], clock: usize) -> [u8; MOST
     let bridges = head.bridges;
     let fed = motors(head);
     let mut entries = [0u8; MOST_BRIDGES];
-    if !in_limits(slots, bridges, 0, table.len()) {
-        return entries;
-    }
-    let mut s = first_slot(clock, slots);
-    while s < slots {
-        let free = usable_in(table, s * bridges, bridges, fed);
-        enter_slot(&mut entries, free);
-        s += 1;
+    if in_limits(slots, bridges, 0, table.len()) {
+        for s in clock.min(slots)..slots {
+            enter_slot(&mut entries, usable_in(table, s * bridges, bridges, fed));
+        }
     }
     entries
 }
 
-// Takes the slots above one clock and up to another off: a call cannot use them any more. It promises something
-// within the limits, where the second clock is not below the first, and is safe for every other input.
-pub fn pass_slots(
-    head: Head,
-    table: &[Cell],
-    from: usize,
-    to: usize,
-    entries: &mut [u8; MOST_BRIDGES],
-)
-    ensures { sizes_in_limits head.slots head.bridges 0 (length table.now) ≡ true → from ≤ to
-        → AtLeast entries.old head.slots (slot_free table.now head.bridges (motors_in head) from) → AtLeast entries.new head.slots (slot_free table.now head.bridges (motors_in head) to) }
-{
-    let slots = head.slots;
-    let bridges = head.bridges;
-    let fed = motors(head);
-    if !in_limits(slots, bridges, 0, table.len()) {
-        return;
-    }
-    let end = first_slot(to, slots);
-    let mut s = first_slot(from, slots);
-    while s < end {
-        let free = usable_in(table, s * bridges, bridges, fed);
-        leave_slot(entries, free);
-        s += 1;
+impl Counts {
+    // Takes the slots above one clock and up to another off: a call cannot use them any more. It promises something
+    // within the limits, where the second clock is not below the first, and is safe for every other input.
+    pub fn pass_slots(&mut self, head: Head, table: &[Cell], from: usize, to: usize)
+        ensures kept { (self.new.used ≡ self.old.used) × (self.new.admitted ≡ self.old.admitted) }
+        ensures passed { sizes_in_limits head.slots head.bridges 0 (length table.now) ≡ true → from ≤ to
+            → AtLeast self.old.at_least head.slots (slot_free table.now head.bridges (motors_in head) from) → AtLeast self.new.at_least head.slots (slot_free table.now head.bridges (motors_in head) to) }
+    {
+        let slots = head.slots;
+        let bridges = head.bridges;
+        let fed = motors(head);
+        if !in_limits(slots, bridges, 0, table.len()) {
+            return;
+        }
+        for s in from.min(slots)..to.min(slots) {
+            leave_slot(
+                &mut self.at_least,
+                usable_in(table, s * bridges, bridges, fed),
+            );
+        }
     }
 }

@@ -1,5 +1,6 @@
-// Who gets a cell in one slot: largest remaining time first. The jobs are kept by levels, a mask a level: level l has, as one bit each, those that still
-// need l slots, so that whoever goes down the levels meets those with the most slots still to get first.
+// Who gets a cell in one slot: largest remaining time first. The jobs are kept by levels, a mask a
+// level: level l has, as one bit each, those that still need l slots, so that whoever goes down the
+// levels meets those with the most slots still to get first.
 ghost use Rattle.std.specs.Prelude.{◌≡◌, ◌&&◌, cond, ℕ, ◌-◌, ◌<◌, ◌≤◌, length, replicate, ltb, eqb};
 ghost use Rattle.laws.specs.Sums.{count};
 ghost use Rattle.laws.specs.Lists.{at};
@@ -8,51 +9,37 @@ ghost use Rattle.placing.specs.method.Limits.{most_placed, level_count};
 ghost use Rattle.placing.specs.method.Rule.{without, first_few, first_held, Levelled, Served};
 
 use crate::limits::MOST_PLACED;
-use crate::numbers::wide;
-use crate::rule::masks::without_lowest;
 use station::limits::MOST_LENGTH;
 
 // How many levels there are: for those that still need 0 to as many slots as the longest job.
 pub(crate) const LEVELS: usize = MOST_LENGTH as usize + 1;
 
-// The level of job i: what it needs.
-fn level_of(needs: &[u8; MOST_PLACED], i: usize) -> usize
-    requires { (i < most_placed) × (at needs.now i < level_count) }
-    ensures { (result ≡ at needs.now i) × (result < level_count) }
-{
-    wide(needs[i])
-}
-
-// Puts the first k jobs into levels in which nobody stands, and answers the highest level of a job, or 0.
+// Puts the first k jobs into levels in which nobody stands, and answers the highest level of a job,
+// or 0.
 pub(crate) fn enter(levels: &mut [u64; LEVELS], needs: &[u8; MOST_PLACED], k: usize) -> usize
     requires { (k ≤ most_placed) × ((i : ℕ) → i < k → at needs.now i < level_count) × (levels.old ≡ replicate level_count 0) }
     ensures { (length levels.new ≡ level_count)
         × ((l i : ℕ) → has_bit (at levels.new l) i ≡ (ltb i k && eqb (at needs.now i) l))
         × (result < level_count) × ((i : ℕ) → i < k → at needs.now i ≤ result) }
 {
-    let mut top = 0;
+    let mut top: usize = 0;
     for i in 0..k {
-        let l = level_of(needs, i);
-        levels[l] = levels[l] | (1u64 << i);
-        if top < l {
-            top = l;
-        }
+        let l = usize::from(needs[i]);
+        levels[l] |= 1 << i;
+        top = top.max(l);
     }
     top
 }
 
-// The highest level from `from` down in which somebody stands that is not in the mask `served`, or 0.
-pub(crate) fn highest(levels: &[u64; LEVELS], from: usize, served: u64) -> usize
+// The highest level from `from` down in which somebody stands, or 0.
+pub(crate) fn highest(levels: &[u64; LEVELS], from: usize) -> usize
     requires { from < level_count }
-    ensures { (result ≤ from) × ((l : ℕ) → result < l → l ≤ from → without (at levels.now l) served ≡ 0) }
+    ensures { (result ≤ from) × ((l : ℕ) → result < l → l ≤ from → at levels.now l ≡ 0) }
 {
-    let mut l = from;
-    while 0 < l {
-        let level = levels[l];
-        if level ^ (level & served) != 0 {
+    for l in (1..=from).rev() {
+        if levels[l] != 0 {
             return l;
         }
-        l -= 1;
     }
     0
 }
@@ -64,21 +51,20 @@ pub(crate) struct First {
     pub more: usize,
 }
 
-// The first d jobs of a mask, or all of it: "Equal ones: the earlier line first". The lowest bits go one by one, which costs less than to count them.
+// The first d jobs of a mask, or all of it: "Equal ones: the earlier line first". The lowest bits
+// go one by one, which costs less than to count them.
 fn first_of(mask: u64, d: usize) -> First
     ensures { ((i : ℕ) → i < most_placed → has_bit result.jobs i ≡ first_few (has_bit mask) d i) × (result.more ≡ d - count most_placed (has_bit mask)) }
 {
     let mut rest = mask;
-    let mut more = d;
-    while 0 < more {
+    for taken in 0..d {
         if rest == 0 {
             return First {
                 jobs: mask,
-                more: more,
+                more: d - taken,
             };
         }
-        rest = without_lowest(rest);
-        more -= 1;
+        rest &= rest - 1;
     }
     First {
         jobs: mask ^ rest,
@@ -98,39 +84,29 @@ fn first_held(mask: u64, held: u64, d: usize) -> First
     }
 }
 
-// The jobs that get one of d cells, where nobody stands above level `top`; of those that need the same the held ones go first. Each of them moves to the level below; there it is passed
-// over, since it has got a cell.
+// The jobs that get one of d cells, where nobody stands above level `top`; of those that need the
+// same the held ones go first. Each of them moves to the level below; there it is passed over,
+// since it has got a cell.
 pub(crate) fn choose(levels: &mut [u64; LEVELS], top: usize, d: usize, held: u64) -> u64
     requires { (top < level_count) × (length levels.old ≡ level_count) }
     ensures { (length levels.new ≡ level_count)
         × ((c : ℕ → ℕ) → Levelled levels.old c → ((i : ℕ) → i < most_placed → c i ≤ top) → Served levels.new c (has_bit held) d result) }
 {
-    let mut served: u64 = 0;
+    let mut served = 0;
     let mut rest = d;
-    let mut l = top;
-    while 0 < l {
+    for l in (1..=top).rev() {
         let level = levels[l];
-        let first = first_held(level ^ (level & served), held, rest);
-        let next = first.jobs;
-        let below = l - 1;
-        levels[l] = level ^ next;
-        levels[below] = levels[below] | next;
-        served = served | next;
-        rest = first.more;
-        if rest == 0 {
-            return served;
+        let waiting = level ^ (level & served);
+        if waiting != 0 {
+            let first = first_held(waiting, held, rest);
+            levels[l] = level ^ first.jobs;
+            levels[l - 1] |= first.jobs;
+            served |= first.jobs;
+            rest = first.more;
+            if rest == 0 {
+                return served;
+            }
         }
-        l = highest(&*levels, below, served);
     }
     served
-}
-
-// Who goes first among equal ones in the next slot: by `hold` the jobs that were chosen, and nobody else.
-pub(crate) fn held_after(chosen: u64, hold: bool) -> u64
-    ensures { result ≡ cond hold chosen 0 }
-{
-    if hold {
-        return chosen;
-    }
-    0
 }

@@ -1,30 +1,33 @@
 -- `call::call_by_value` meets its contract: a cause of the frame is met, or the frame is a running one and its counts are made. Assumes nothing.
-use mathlib.Core.Path.{sym, ◌∙◌, ap}
+use mathlib.Core.Path.{sym}
+use Rattle.std.proofs.lemmas.Result.{err_from_is_err_and}
 use Rattle.station.specs.Types.{head_in}
-use Rattle.placing.specs.State.{state_of}
+use Rattle.placing.specs.State.{state_at}
 use Rattle.placing.proofs.ClaimsHold.{call_claim_lem}
-use Rattle.placing.specs.Causes.{cause_in, call_jobs}
+use Rattle.placing.specs.Causes.{call_jobs}
 use Rattle.placing.proofs.check.FrameCauses.{frame_running}
 use Rattle.placing.proofs.call.CallAnswers.{frame_refused, done_running}
 use Rattle.placing.proofs.call.call_by_value.Goals as goal
 
-pub returns-in-Met : goal.returns-in-Met
-returns-in-Met c = let a = c.args in
-    let st = state_of a.table.now a.clock a.hold in
-    let done = frame_refused a.head a.presets (call_jobs a.n a.jobs) st c.in-Met.r (c.frame_cause.ensures a.hold) c.in-Met.is in
+pub returns-in_err-frame_cause : goal.returns-in_err-frame_cause
+returns-in_err-frame_cause c =
+    let p = err_from_is_err_and c.from_residual.result c.from_residual.ensures.1 in rw (p.1, p.2)
+    (let a = c.args in
+    let st = state_at a.table.now a.moment in
+    let done = frame_refused a.head a.presets (call_jobs a.call.count a.call.jobs) st c.in_err-frame_cause.field-0.0 (c.in_err-frame_cause.ensures a.moment.hold) in
     record {
       done = done;
-      kept = done_running a.head a.presets (call_jobs a.n a.jobs) st done;
-      claim = call_claim_lem (head_in a.head a.presets) (call_jobs a.n a.jobs) st;
-    }
+      kept = done_running a.head a.presets (call_jobs a.call.count a.call.jobs) st done;
+      claim = call_claim_lem (head_in a.head a.presets) (call_jobs a.call.count a.call.jobs) st;
+    })
 
 pub returns : goal.returns
 returns c = let a = c.args in
-    let st = state_of a.table.now a.clock a.hold in
-    let run = frame_running a.head a.presets st (sym (c.frame_cause.ensures a.hold) ∙ ap cause_in c.in_default.is) in
-    let done = (c.call_by_counts.ensures run.0 run.1 (c.counts_of-counts.ensures run.0 run.1.long)).0 in
+    let st = state_at a.table.now a.moment in
+    let run = frame_running a.head a.presets st (sym (c.in_ok-frame_cause.ensures a.moment.hold)) in
+    let done = (c.call_by_counts.ensures run.0 run.1 (c.of-counts.ensures run.0 run.1.long)).0 in
     record {
       done = done;
-      kept = done_running a.head a.presets (call_jobs a.n a.jobs) st done;
-      claim = call_claim_lem (head_in a.head a.presets) (call_jobs a.n a.jobs) st;
+      kept = done_running a.head a.presets (call_jobs a.call.count a.call.jobs) st done;
+      claim = call_claim_lem (head_in a.head a.presets) (call_jobs a.call.count a.call.jobs) st;
     }

@@ -1,5 +1,5 @@
--- `capacities::leave_slot` meets its contract: one less in the entries passed up to the slot's free bridges. Assumes nothing.
-use Prim.Native.Nat.{◌-◌, ◌≤◌}
+-- One less in the entries passed up to the slot's free bridges.
+use Prim.Native.Nat.{◌-◌}
 use mathlib.Core.Path.{◌≡◌}
 use lib.ListN.{length, get_or}
 use lib.Dec.{ltb}
@@ -8,7 +8,4 @@ use Rattle.laws.proofs.Stores.{Stored}
 use Rattle.placing.proofs.capacities.leave_slot.Given as goal
 
 abbrev pub invariant-loop-r : goal.invariant-loop-r
-invariant-loop-r l = (l.r ≤ 8) × (length l.entries ≡ length l.initial.entries) × (length l.initial.entries ≡ 8 → Stored l.initial.entries (λ q. get_or l.initial.entries q 0 - bit (ltb q l.free)) 0 l.r l.entries)
-
-abbrev pub decreases-loop-r : goal.decreases-loop-r
-decreases-loop-r l = 8 - l.r
+invariant-loop-r l = (length l.entries ≡ 8) × Stored l.initial.entries (λ q. get_or l.initial.entries q 0 - bit (ltb q l.free)) 0 l.r l.entries

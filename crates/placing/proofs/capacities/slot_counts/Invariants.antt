@@ -1,5 +1,5 @@
 -- `capacities::slot_counts` meets its contract: the slots passed are filled in and entered. Assumes nothing.
-use Prim.Native.Nat.{ℕ, ◌-◌, ◌≤◌, min}
+use Prim.Native.Nat.{ℕ, min}
 use mathlib.Core.Path.{◌≡◌}
 use mathlib.Core.List.{List}
 use lib.ListN.{length, get_or, replicate}
@@ -13,7 +13,4 @@ abbrev pub number_at : List ℕ → List ℕ → ℕ → ℕ
 number_at masks spare s = min (ones (get_or masks s 0)) (get_or spare s 0)
 
 abbrev pub invariant-loop-s : goal.invariant-loop-s
-invariant-loop-s l = (l.s ≤ l.slots) × (length l.out ≡ 64) × Stored (replicate 64 0) (number_at l.masks l.spare) 0 l.s l.out × AtLeast l.entries l.s (number_at l.masks l.spare)
-
-abbrev pub decreases-loop-s : goal.decreases-loop-s
-decreases-loop-s l = l.slots - l.s
+invariant-loop-s l = (length l.out ≡ 64) × Stored (replicate 64 0) (number_at l.masks l.spare) 0 l.s l.out × AtLeast l.entries l.s (number_at l.masks l.spare)

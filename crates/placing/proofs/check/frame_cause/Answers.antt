@@ -1,7 +1,5 @@
 -- `check::frame_cause` meets its contract: a law for each answer. Assumes nothing.
-use mathlib.Core.Path.{◌≡◌, sym, ◌∙◌}
-use mathlib.Core.Bool.{true}
-use Rattle.station.specs.Types.{valid_record}
+use mathlib.Core.Path.{sym, ◌∙◌}
 use Rattle.placing.specs.State.{state_of}
 use Rattle.placing.proofs.check.FrameCauses.{frame_short, frame_invalid, frame_fault, frame_passed}
 use Rattle.placing.proofs.check.frame_cause.Goals as goal
@@ -13,24 +11,14 @@ pub returns-then-not-valid_record : goal.returns-then-not-valid_record
 returns-then-not-valid_record c hold = let a = c.args in
     frame_invalid a.head a.presets (state_of a.table.now a.clock hold) c.if-table-lt-LEAST_CELLS.false (sym c.valid_record.ensures ∙ c.if-not-valid_record.true)
 
-pub well_formed_frame-requires : goal.well_formed_frame-requires
-well_formed_frame-requires c =
-    let valid : valid_record c.args.head c.args.presets ≡ true =
-    sym c.valid_record.ensures ∙ c.if-not-valid_record.false in
-    (valid, c.if-table-lt-LEAST_CELLS.false)
-
 pub returns-then-not-well_formed_frame : goal.returns-then-not-well_formed_frame
 returns-then-not-well_formed_frame c hold =
-    let valid : valid_record c.args.head c.args.presets ≡ true =
-    sym c.valid_record.ensures ∙ c.if-not-valid_record.false in
     let a = c.args in
-    frame_fault a.head a.presets (state_of a.table.now a.clock hold) c.if-table-lt-LEAST_CELLS.false valid
+    frame_fault a.head a.presets (state_of a.table.now a.clock hold) c.if-table-lt-LEAST_CELLS.false (sym c.valid_record.ensures ∙ c.if-not-valid_record.false)
     (sym (c.well_formed_frame.ensures hold) ∙ c.if-not-well_formed_frame.true)
 
 pub returns : goal.returns
 returns c hold =
-    let valid : valid_record c.args.head c.args.presets ≡ true =
-    sym c.valid_record.ensures ∙ c.if-not-valid_record.false in
     let a = c.args in
-    frame_passed a.head a.presets (state_of a.table.now a.clock hold) c.if-table-lt-LEAST_CELLS.false valid
+    frame_passed a.head a.presets (state_of a.table.now a.clock hold) c.if-table-lt-LEAST_CELLS.false (sym c.valid_record.ensures ∙ c.if-not-valid_record.false)
     (sym (c.well_formed_frame.ensures hold) ∙ c.if-not-well_formed_frame.false)

@@ -1,6 +1,6 @@
 -- The causes of a call itself as the code tries them, src/counts/causes.rt: a law for each answer, and what is known where none is met.
 --
--- In order: a number that is new (`new-..`); the jobs of a call (`call_jobs_lem`, `jobs_length`, `job_at_lem`), outside their limits or not (`outside-..`, `inside-..`); their lengths
+-- In order: a number that is new (`new-..`); the jobs of a call (`call_jobs_lem`, `jobs_length`, `job_at_lem`), outside their limits or not (`outside_none`, `outside_some`, `inside-..`); their lengths
 -- (`lengths_are`); numbers that are new (`jobs_used_lem`); whether they fit (`fit_counted`, `fit_one`); the causes of the jobs, and 7 (`cause-..`).
 -- Assumes nothing.
 use Prim.Native.Nat.{ℕ, ◌+◌, ◌-◌, ◌%◌, ◌≤◌, ◌<◌}
@@ -18,7 +18,7 @@ use Rattle.laws.specs.Placement.{capacity, excess}
 use Rattle.laws.specs.method.Capacities.{capacity_from, excess_over}
 use Rattle.laws.proofs.Tests.{Is, is, is_true, is_false, clash, test_ext, both, left_of, right_of, not_is_true, not_is_false, true_of_not, fails_left, fails_right}
 use Rattle.laws.proofs.Comparisons.{lt_of, ge_of, le_of, eq_of, ltb_iff, ltb_yes, ltb_no, leb_yes, leb_no, leb_one, eqb_yes}
-use Rattle.laws.proofs.Every.{every_all, every_ext, every_not}
+use Rattle.laws.proofs.Every.{every_all, every_ext}
 use Rattle.laws.proofs.Loops.{sum_none, sum_more}
 use Rattle.laws.proofs.Capacities.{capacity_table}
 use Rattle.laws.proofs.Largest.{up_to}
@@ -45,17 +45,16 @@ use Rattle.placing.specs.method.Grants.{Sums, Raised}
 
 -- ---- a number that is new
 
-module _ (used : List ℕ) (js : List record-job.Job) (i : ℕ) where
-  pub new_marked : (get_or used (job_number js i) 0 ≡ 0 → ⊥) → job_new used js i ≡ false
-  new_marked q =
-      fails_left (not (marked used (job_number js i))) _ (not_is_false _ (ltb_yes 0 (get_or used (job_number js i) 0) (omega (arith, q))))
+module _ (used : List Bool) (js : List record-job.Job) (i : ℕ) where
+  pub new_marked : marked used (job_number js i) ≡ true → job_new used js i ≡ false
+  new_marked q = fails_left (not (marked used (job_number js i))) _ (not_is_false _ q)
 
   pub new_twice : every i (is_other js (job_number js i)) ≡ false → job_new used js i ≡ false
   new_twice e = fails_right (not (marked used (job_number js i))) _ e
 
-  pub new_job : get_or used (job_number js i) 0 ≡ 0 → every i (is_other js (job_number js i)) ≡ true → job_new used js i ≡ true
+  pub new_job : marked used (job_number js i) ≡ false → every i (is_other js (job_number js i)) ≡ true → job_new used js i ≡ true
   new_job z e =
-      both (not (marked used (job_number js i))) _ (not_is_true _ (ltb_no 0 (get_or used (job_number js i) 0) (omega (arith, z)))) e
+      both (not (marked used (job_number js i))) _ (not_is_true _ z) e
 
 -- ---- the jobs of a call
 
@@ -114,17 +113,11 @@ module _ (js : List record-job.Job) (long : length js ≡ 8) (n : ℕ) (few : n 
       ∙ not_is_true (within 1 8 n && every n (within_at js))
       (fails_left (within 1 8 n) (every n (within_at js)) (fails_left (leb 1 n) (leb n 8) (leb_no 1 n (omega arith))))
 
-  pub outside_one : (i : ℕ) → i < n → within_at js i ≡ false → jobs_outside (jobs_in n js) ≡ true
-  outside_one i l e =
+  -- where there is a job
+  pub outside_some : 1 ≤ n → jobs_outside (jobs_in n js) ≡ not (every n (within_at js))
+  outside_some l =
       outside_is
-      ∙ not_is_true (within 1 8 n && every n (within_at js))
-      (fails_right (within 1 8 n) (every n (within_at js)) (every_not n (within_at js) i l e))
-
-  pub inside : 1 ≤ n → every n (within_at js) ≡ true → jobs_outside (jobs_in n js) ≡ false
-  inside l e =
-      outside_is
-      ∙ not_is_false (within 1 8 n && every n (within_at js))
-      (both (within 1 8 n) (every n (within_at js)) (both (leb 1 n) (leb n 8) (leb_yes 1 n l) (leb_yes n 8 few)) e)
+      ∙ ap (λ (b : Bool). not (b && every n (within_at js))) (both (leb 1 n) (leb n 8) (leb_yes 1 n l) (leb_yes n 8 few))
 
   module _ (e : jobs_outside (jobs_in n js) ≡ false) where
     inside_at : (i : ℕ) → i < n → within_at js i ≡ true
@@ -168,7 +161,7 @@ module _ (js : List record-job.Job) (long : length js ≡ 8) (n : ℕ) (few : n 
 
     -- ---- numbers that are new
 
-    module _ (h : Head) (t : Cells) (used : List ℕ) (right : (m : ℕ) → m < 256 → marked used m ≡ is_used h t m) where
+    module _ (h : Head) (t : Cells) (used : List Bool) (right : (m : ℕ) → m < 256 → marked used m ≡ is_used h t m) where
       new_is : (i : ℕ) → i < n
           → (not (is_used h t (job_at (jobs_in n js) i).number) && every i (λ j. not (eqb (job_at (jobs_in n js) j).number (job_at (jobs_in n js) i).number)))
           ≡ job_new used js i
@@ -297,7 +290,7 @@ module _ (js : List record-job.Job) (long : length js ≡ 8) (n : ℕ) (h : Head
     pub cause_outside : jobs_outside (jobs_in n js) ≡ true → some out_of_limits ≡ first_of (job_causes h (call_jobs n js) t)
     cause_outside e = sym (met out_of_limits (jobs_outside (jobs_in n js)) _ e) ∙ same_causes
 
-    module _ (e : jobs_outside (jobs_in n js) ≡ false) (marks : List ℕ) {held : ℕ} (right : (m : ℕ) → m < 256 → marked marks m ≡ is_used h t m)
+    module _ (e : jobs_outside (jobs_in n js) ≡ false) (marks : List Bool) {held : ℕ} (right : (m : ℕ) → m < 256 → marked marks m ≡ is_used h t m)
         (many : held ≡ job_count h t) where
       used : jobs_used h t (jobs_in n js) ≡ not (every n (job_new marks js))
       used = jobs_used_lem js long n few e h t marks right

@@ -1,5 +1,5 @@
 -- `counts::has_calls` meets its contract. The loop's invariant: the call cells before `b` are counted. Assumes nothing.
-use Prim.Native.Nat.{◌+◌, ◌-◌, ◌≤◌}
+use Prim.Native.Nat.{◌+◌, ◌≤◌}
 use mathlib.Core.Path.{◌≡◌}
 use lib.ListN.{get_or}
 use Rattle.laws.specs.Sums.{count}
@@ -7,7 +7,4 @@ use Rattle.placing.specs.Table.{is_call}
 use Rattle.placing.proofs.counts.has_calls.Given as goal
 
 abbrev pub invariant-loop-b : goal.invariant-loop-b
-invariant-loop-b l = (l.b ≤ 8) × (l.calls ≤ l.b) × (l.calls ≡ count l.b (λ j. is_call (get_or l.table (l.from + j) 0)))
-
-abbrev pub decreases-loop-b : goal.decreases-loop-b
-decreases-loop-b l = 8 - l.b
+invariant-loop-b l = (l.calls ≤ l.b) × (l.calls ≡ count l.b (λ j. is_call (get_or l.table (l.from + j) 0)))

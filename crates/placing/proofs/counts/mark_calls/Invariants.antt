@@ -1,5 +1,5 @@
 -- `counts::mark_calls` meets its contract. The loop's invariant: the slots before `s` are marked and counted. Assumes nothing.
-use Prim.Native.Nat.{◌*◌, ◌-◌, ◌≤◌}
+use Prim.Native.Nat.{◌*◌}
 use mathlib.Core.Path.{◌≡◌}
 use Rattle.laws.specs.Sums.{count}
 use Rattle.placing.specs.method.Jobs.{marked}
@@ -7,7 +7,4 @@ use Rattle.placing.specs.method.Counts.{Marked}
 use Rattle.placing.proofs.counts.mark_calls.Given as goal
 
 abbrev pub invariant-loop-s : goal.invariant-loop-s
-invariant-loop-s l = (l.s ≤ l.slots) × Marked l.table (l.s * l.bridges) l.used × (l.jobs ≡ count 256 (marked l.used))
-
-abbrev pub decreases-loop-s : goal.decreases-loop-s
-decreases-loop-s l = l.slots - l.s
+invariant-loop-s l = Marked l.table (l.s * l.bridges) l.used × (l.jobs ≡ count 256 (marked l.used))

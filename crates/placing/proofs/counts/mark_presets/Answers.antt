@@ -15,41 +15,20 @@ use Rattle.placing.proofs.counts.MarkedNumbers.{beside_none, beside_more}
 use Rattle.placing.proofs.counts.mark_presets.Goals as goal
 
 pub loop-i-init : goal.loop-i-init
-loop-i-init c = (omega arith, c.requires.0, beside_none _ _ c.requires.1)
-
-pub offset_bounds-presets-i : goal.offset_bounds-presets-i
-offset_bounds-presets-i c = omega arith
-
-pub bounds-presets-i : goal.bounds-presets-i
-bounds-presets-i c = omega arith
-
-pub overflow_cast-n : goal.overflow_cast-n
-overflow_cast-n c = omega arith
-
-pub bounds-used-n : goal.bounds-used-n
-bounds-used-n c = omega arith
-
-pub overflow_add-i : goal.overflow_add-i
-overflow_add-i c = omega arith
-
-pub loop-i-smaller : goal.loop-i-smaller
-loop-i-smaller c = omega arith
+loop-i-init c = beside_none _ _ c.requires.1
 
 pub loop-i-preserved : goal.loop-i-preserved
 loop-i-preserved c = let l = c.loop-i in
-    let a = c.args in (
-      omega arith,
-      l.invariant.1,
-      beside_more _ l.invariant.2 (omega arith)
-          (sym (ap (λ (p : Preset). p.number) (preset_at_lem a.head.count a.presets l.i (omega arith)))),
-    )
+    let a = c.args in
+    beside_more _ l.invariant (omega arith)
+    (c.from.ensures ∙ sym (ap (λ (p : Preset). p.number) (preset_at_lem a.head.count a.presets l.i (omega arith))))
 
 pub returns : goal.returns
 returns c = let a = c.args in
     let e : c.loop-i.i ≡ a.head.count = omega arith in (
-      c.loop-i.invariant.2.long,
+      c.loop-i.invariant.long,
       λ n l.
-          c.loop-i.invariant.2.which n l
+          c.loop-i.invariant.which n l
           ∙ ap (λ (k : ℕ). ltb 0 (count k (λ j. eqb (get_or (map preset_in (take a.head.count a.presets)) j no_preset).number n)) || marked a.used.now n)
           (e ∙ sym (presets_count a.head a.presets (omega (arith, c)))),
     )

@@ -1,5 +1,4 @@
 -- `counts::mark_presets` meets its contract. The loop's invariant: the presets before `i` are marked. Assumes nothing.
-use Prim.Native.Nat.{◌-◌, ◌≤◌}
 use mathlib.Core.List.{map}
 use lib.ListN.{take, get_or}
 use Rattle.station.specs.Head.{no_preset}
@@ -8,7 +7,4 @@ use Rattle.placing.specs.method.Counts.{MarkedBeside}
 use Rattle.placing.proofs.counts.mark_presets.Given as goal
 
 abbrev pub invariant-loop-i : goal.invariant-loop-i
-invariant-loop-i l = (l.i ≤ l.count) × (l.count ≤ 32) × MarkedBeside (λ j. (get_or (map preset_in (take l.count l.presets)) j no_preset).number) l.initial.used l.i l.used
-
-abbrev pub decreases-loop-i : goal.decreases-loop-i
-decreases-loop-i l = l.count - l.i
+invariant-loop-i l = MarkedBeside (λ j. (get_or (map preset_in (take l.fn.head.count l.presets)) j no_preset).number) l.initial.used l.i l.used

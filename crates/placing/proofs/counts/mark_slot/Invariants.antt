@@ -1,5 +1,5 @@
 -- `counts::mark_slot` meets its contract. The loop's invariant: the cells before `b` are marked and counted. Assumes nothing.
-use Prim.Native.Nat.{◌+◌, ◌-◌, ◌≤◌}
+use Prim.Native.Nat.{◌+◌, ◌≤◌}
 use mathlib.Core.Path.{◌≡◌}
 use Rattle.laws.specs.Sums.{count}
 use Rattle.placing.specs.method.Jobs.{marked}
@@ -7,7 +7,4 @@ use Rattle.placing.specs.method.Counts.{Marked}
 use Rattle.placing.proofs.counts.mark_slot.Given as goal
 
 abbrev pub invariant-loop-b : goal.invariant-loop-b
-invariant-loop-b l = (l.b ≤ l.bridges) × Marked l.table (l.from + l.b) l.used × (count 256 (marked l.used) ≡ count 256 (marked l.initial.used) + l.jobs) × (l.jobs ≤ l.b)
-
-abbrev pub decreases-loop-b : goal.decreases-loop-b
-decreases-loop-b l = l.bridges - l.b
+invariant-loop-b l = Marked l.table (l.from + l.b) l.used × (count 256 (marked l.used) ≡ count 256 (marked l.initial.used) + l.jobs) × (l.jobs ≤ l.b)

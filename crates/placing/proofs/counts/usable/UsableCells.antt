@@ -1,20 +1,20 @@
 -- Laws of the cells that a call may use, and of how many slots have at least so many.
 --
--- In order: a cell that a call may use (`free-..`), and one that stays (`stays-..`); slots up to the clock and above it (`slot-..`, `entries_before`), a slot that it passes (`pass_slot`), and a clock past the last slot (`entries_past`); what a call may fill of the frame's slots (`entries_are`, `entries_of`).
+-- In order: eight cells within a table (`eight_le`); slots up to the clock and above it (`slot-..`, `entries_before`), a slot that it passes (`pass_slot`), and a clock past the last slot (`entries_past`); what a call may fill of the frame's slots (`entries_are`, `entries_of`).
 -- Assumes nothing.
 use Prim.Native.Nat.{ℕ, ◌+◌, ◌*◌, ◌-◌, ◌≤◌, ◌<◌, min}
 use native.Mathlib.Omega.{arith}
 use native.Mathlib.Nat.{mul-le-mul}
 use mathlib.Core.Path.{◌≡◌, sym, ◌∙◌, ap, ap₂}
 use mathlib.Core.Logic.{◌↔◌}
-use mathlib.Core.Bool.{Bool, true, false, not, ◌&&◌, ◌||◌, and-false}
+use mathlib.Core.Bool.{Bool, not, ◌&&◌, ◌||◌}
 use mathlib.Core.List.{List}
 use lib.ListN.{length, get_or, replicate}
 use lib.Dec.{ltb}
 use Rattle.laws.specs.Sums.{bit, only, count}
 use Rattle.laws.specs.method.Capacities.{AtLeast}
-use Rattle.laws.proofs.Tests.{Is, is, is_true, is_false, or_right}
-use Rattle.laws.proofs.Comparisons.{lt_of, ge_of, eqb_no}
+use Rattle.laws.proofs.Tests.{Is, is, is_true, is_false}
+use Rattle.laws.proofs.Comparisons.{lt_of, ge_of}
 use Rattle.laws.proofs.Counts.{count_ext}
 use Rattle.laws.proofs.Capacities.{at_least_none, at_least_off, at_least_ext}
 use Rattle.station.specs.Head.{Head}
@@ -25,28 +25,6 @@ use Rattle.placing.specs.method.Search.{first_slot}
 use Rattle.placing.specs.Call.{evictable, usable_count}
 use Rattle.placing.specs.method.Counts.{evictable_cell, free_cell, staying_cell, usable_in, slot_free}
 use Rattle.placing.proofs.FreeNumber.{cleared_empty, cleared_held}
-
--- ---- a cell that a call may use
-
-pub free_empty : (v : ℕ) → v ≡ 0 → 1 ≡ bit (free_cell v)
-free_empty v z = ap (λ (x : ℕ). bit (free_cell x)) (sym z)
-
-pub free_evictable : (v : ℕ) → evictable_cell v ≡ true → 1 ≡ bit (free_cell v)
-free_evictable v o = ap bit (sym (or_right (is_empty v) (evictable_cell v) o))
-
-pub free_none : (v : ℕ) → (v ≡ 0 → ⊥) → evictable_cell v ≡ false → 0 ≡ bit (free_cell v)
-free_none v z o = sym (ap₂ (λ (a b : Bool). bit (a || b)) (eqb_no v 0 z) o)
-
--- ---- a cell that stays
-
-pub stays_unheld : (v : ℕ) → is_held v ≡ false → 0 ≡ bit (staying_cell v)
-stays_unheld v e = sym (ap (λ (c : Bool). bit (c && not (evictable_cell v))) e)
-
-pub stays_evictable : (v : ℕ) → evictable_cell v ≡ true → 0 ≡ bit (staying_cell v)
-stays_evictable v e = sym (ap (λ (c : Bool). bit (is_held v && not c)) e ∙ ap bit (and-false (is_held v)))
-
-pub stays_held : (v : ℕ) → is_held v ≡ true → evictable_cell v ≡ false → 1 ≡ bit (staying_cell v)
-stays_held v p q = sym (ap₂ (λ (a b : Bool). bit (a && not b)) p q)
 
 -- eight cells from the start of a slot are within a table of 512
 pub eight_le : (s m : ℕ) → s < 64 → m ≤ 8 → s * m + 8 ≤ 512

@@ -1,47 +1,50 @@
 -- `plan::write_plan` meets its contract: the busy cells stand first, and `place` writes the free ones. Assumes nothing.
-use Prim.Native.Nat.{◌*◌, ◌≤◌}
+use Prim.Native.Nat.{ℕ, ◌*◌, ◌≤◌}
 use native.Mathlib.Omega.{arith}
-use mathlib.Core.Path.{◌∙◌}
-use Rattle.station.specs.Head.{Valid}
-use Rattle.station.specs.Types.{head_in}
+use mathlib.Core.Path.{◌≡◌, sym, ◌∙◌, ap}
+use mathlib.Core.Bool.{true}
+use mathlib.Core.List.{List, ◌++◌}
+use lib.ListN.{length, take, drop, replicate}
+use lib.Seq.{length-take-le}
+use Rattle.station.specs.declared.types.Preset.{Preset}
+use Rattle.station.specs.declared.types.Head.{Head}
+use Rattle.station.specs.Types.{valid_record}
 use Rattle.placing.proofs.HeadRecord.{count_high, record_valid}
 use Rattle.placing.proofs.rule.SlotsPlaced.{frame_within}
 use Rattle.placing.proofs.plan.PlanAnswers.{plan_fillable, plan_written}
 use Rattle.placing.proofs.plan.write_plan.Goals as goal
 
-pub overflow_mul-slots : goal.overflow_mul-slots
-overflow_mul-slots c =
-    let limits : Valid (head_in c.args.head c.args.presets) =
-    record_valid c.args.head c.args.presets c.requires.0 in
-    let frame : c.args.head.slots * c.args.head.bridges ≤ 512 =
-    frame_within c.args.head.slots c.args.head.bridges limits.slots_high limits.bridges_high in
-    omega (arith, frame)
+-- the cells of the frame are in the table
+cells_in : (head : Head) (ps : List Preset) (t : List ℕ) → valid_record head ps ≡ true → 512 ≤ length t
+    → (head.slots * head.bridges ≤ 512) × (head.slots * head.bridges ≤ length t) × (length (take (head.slots * head.bridges) t) ≡ head.slots * head.bridges)
+cells_in head ps t v long =
+    let limits = record_valid head ps v in
+    let frame = frame_within head.slots head.bridges limits.slots_high limits.bridges_high in
+    let inside : head.slots * head.bridges ≤ length t = omega (arith, long, frame) in
+    (frame, inside, length-take-le (head.slots * head.bridges) t inside)
 
-pub mark_busy-requires : goal.mark_busy-requires
-mark_busy-requires c =
-    let limits : Valid (head_in c.args.head c.args.presets) =
-    record_valid c.args.head c.args.presets c.requires.0 in
-    let frame : c.args.head.slots * c.args.head.bridges ≤ 512 =
-    frame_within c.args.head.slots c.args.head.bridges limits.slots_high limits.bridges_high in
-    omega (arith, frame, c.requires.1)
+pub overflow_mul-head : goal.overflow_mul-head
+overflow_mul-head c = omega (arith, (cells_in c.args.head c.args.presets c.args.table.now c.requires.0 c.requires.1).0)
 
-pub preset_cells-early-requires : goal.preset_cells-early-requires
-preset_cells-early-requires c =
-    let few : c.args.head.count ≤ 32 =
-    count_high c.args.head c.args.presets c.requires.0 in
-    (few, omega arith)
+pub slice_bounds-fill-end : goal.slice_bounds-fill-end
+slice_bounds-fill-end c = (cells_in c.args.head c.args.presets c.args.table.now c.requires.0 c.requires.1).1
 
-pub preset_cells-late-requires : goal.preset_cells-late-requires
-preset_cells-late-requires c =
-    let few : c.args.head.count ≤ 32 =
-    count_high c.args.head c.args.presets c.requires.0 in
-    (few, omega arith)
+pub slice_bounds-fill-end-2 : goal.slice_bounds-fill-end-2
+slice_bounds-fill-end-2 c = sym (cells_in c.args.head c.args.presets c.args.table.now c.requires.0 c.requires.1).2
+
+pub preset_cells-requires : goal.preset_cells-requires
+preset_cells-requires c = (count_high c.args.head c.args.presets c.requires.0, omega arith)
+
+pub preset_cells-requires-2 : goal.preset_cells-requires-2
+preset_cells-requires-2 c = (count_high c.args.head c.args.presets c.requires.0, omega arith)
 
 pub returns : goal.returns
 returns c = let a = c.args in
     let g = c.requires.2 in
-    c.place.ensures (λ z past inside b low free. absurd (omega (arith, past, inside)))
-    (plan_fillable a.head a.presets (omega arith) c.requires.0 a.granted g.granted c.requires.3 a.granted.counts g.free g.counts)
-    ∙ plan_written a.head a.presets (omega arith) c.requires.0 a.granted g.granted c.requires.3 a.table.now a.granted.counts c.requires.1
-    c.mark_busy.ensures g.free g.counts g.mandatory c.preset_cells-early.ensures
-    c.preset_cells-late.ensures
+    let n = a.head.slots * a.head.bridges in
+    let busy = c.fill.ensures.after (λ y e. e) ∙ ap (λ (k : ℕ). replicate k 256) (cells_in a.head a.presets a.table.now c.requires.0 c.requires.1).2 in
+    c.place.ensures (λ z b past inside low free. absurd (omega (arith, past, inside)))
+    (plan_fillable a.head a.presets (omega arith) c.requires.0 a.granted g.granted a.granted.offer.counts g.free g.counts)
+    ∙ plan_written a.head a.presets (omega arith) c.requires.0 a.granted g.granted a.table.now a.granted.offer.counts c.requires.1
+    (ap (λ (q : List ℕ). q ++ drop n a.table.now) busy) g.free g.counts g.mandatory c.preset_cells.ensures
+    c.preset_cells-2.ensures

@@ -1,7 +1,7 @@
 -- Laws of the jobs by levels: those that need most come first, and of those that need the same whom the order of ties puts first.
 --
 -- In order: a job's position by levels (`position_levels`), and whether it is chosen, by its level (`chosen_level`, `chosen_below`); the jobs put into
--- their levels one by one (`standing-..`); levels in which nobody stands (`none_at_level`, `most_of`, `empty_more`); jobs that move to the level below
+-- their levels one by one (`standing-..`); levels in which nobody stands (`none_at_level`, `most_of`); jobs that move to the level below
 -- (`levelled_moved`).
 -- Assumes nothing.
 use Prim.Native.Nat.{ℕ, ◌+◌, ◌-◌, ◌^◌, ◌≤◌, ◌<◌}
@@ -25,7 +25,7 @@ use Rattle.laws.proofs.Stores.{zeros}
 use Rattle.station.specs.Head.{has_bit}
 use Rattle.placing.specs.method.Rule.{without, Levelled}
 use Rattle.placing.proofs.MaskBits.{has_bit_zero}
-use Rattle.placing.proofs.rule.masks.Sets.{has_bit_or, has_bit_xor, has_bit_without, has_bit_one}
+use Rattle.placing.proofs.rule.Sets.{has_bit_or, has_bit_xor, has_bit_without, has_bit_one}
 use Rattle.placing.proofs.rule.levels.Choice.{chosen_by_position}
 
 -- ---- a job's position by levels
@@ -136,23 +136,14 @@ none_at_level t c h l i r some high m empty other e =
 
 -- where all levels above r are empty, nobody needs more than r
 pub most_of : (t : List ℕ) (c : ℕ → ℕ) (top r : ℕ) → Levelled t c → top < 65 → ((i : ℕ) → i < 64 → c i ≤ top)
-    → ((l : ℕ) → r < l → l ≤ top → without (at t l) 0 ≡ 0) → (i : ℕ) → i < 64 → c i ≤ r
+    → ((l : ℕ) → r < l → l ≤ top → at t l ≡ 0) → (i : ℕ) → i < 64 → c i ≤ r
 most_of t c top r h high most empty i m = go (is (ltb r (c i)))
   where
     go : Is (ltb r (c i)) → c i ≤ r
     go (is_true e) =
         let l : r < c i = lt_of r (c i) e in
-        absurd (none_at_level t c h (c i) i 0 (omega (arith, l)) (omega (arith, high, most i m)) m (empty (c i) l (most i m)) (has_bit_zero i) refl)
+        absurd (none_at_level t c h (c i) i 0 (omega (arith, l)) (omega (arith, high, most i m)) m (ap (λ (n : ℕ). without n 0) (empty (c i) l (most i m))) (has_bit_zero i) refl)
     go (is_false e) = ge_of r (c i) e
-
--- nobody but the jobs r stands above l, nor in it
-pub empty_more : (t : List ℕ) (r from l : ℕ) → without (at t l) r ≡ 0 → ((q : ℕ) → l < q → q ≤ from → without (at t q) r ≡ 0)
-    → (q : ℕ) → l - 1 < q → q ≤ from → without (at t q) r ≡ 0
-empty_more t r from l e above q h k = go (is (eqb q l))
-  where
-    go : Is (eqb q l) → without (at t q) r ≡ 0
-    go (is_true p) = ap (λ (n : ℕ). without (at t n) r) (eq_of q l p) ∙ e
-    go (is_false p) = let ne : q ≡ l → ⊥ = ne_of q l p in above q (omega (arith, ne, h)) k
 
 -- some of the jobs of level l, those of the mask `got`, move to the level below
 module _ (t : List ℕ) (l got : ℕ) (long : length t ≡ 65) (some : 0 < l) (high : l < 65) where

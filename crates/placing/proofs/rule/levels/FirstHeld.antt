@@ -17,7 +17,7 @@ use Rattle.laws.proofs.Sums.{sum_ext, sum_add}
 use Rattle.laws.proofs.Counts.{count_ext, count_split, count_smaller}
 use Rattle.station.specs.Head.{has_bit}
 use Rattle.placing.specs.method.Rule.{without, first_few, first_held}
-use Rattle.placing.proofs.rule.masks.Sets.{has_bit_and, has_bit_without}
+use Rattle.placing.proofs.rule.Sets.{has_bit_and, has_bit_without}
 
 module _ (p f : ℕ → Bool) where
   -- who of f goes before i: where i is of p the earlier ones of p, and else all of p and the earlier others

@@ -22,7 +22,7 @@ use Rattle.laws.proofs.Counts.{bit_ltb, count_ext, count_none}
 use Rattle.station.specs.Head.{has_bit}
 use Rattle.placing.specs.method.Rule.{without, Levelled}
 use Rattle.placing.proofs.MaskBits.{has_bit_zero}
-use Rattle.placing.proofs.rule.masks.Sets.{has_bit_or, has_bit_without}
+use Rattle.placing.proofs.rule.Sets.{has_bit_or, has_bit_without}
 use Rattle.placing.proofs.rule.levels.ByLevel.{chosen_level, chosen_below, none_at_level, moved, levelled_moved}
 
 -- above l - 1 is above l, or at l
@@ -68,23 +68,24 @@ module _ (tie : ℕ → ℕ → Bool) (c : ℕ → ℕ) (d : ℕ) (t : List ℕ)
   still : (i : ℕ) → i < 64 → c i ≤ l → has_bit r i ≡ false
   still i m low = not-true (has_bit r i) (λ e. omega (arith, low, above i m e))
 
-  -- nobody that got no cell stands in the levels from l down to l'
-  pub gone_empty : (l' : ℕ) → l' ≤ l → ((q : ℕ) → l' < q → q ≤ l → without (at t q) r ≡ 0) → Gone tie c d t l' rest r
-  gone_empty l' less empty =
+  -- nobody that got no cell stands in level l
+  pub gone_empty : without (at t l) r ≡ 0 → Gone tie c d t (l - 1) rest r
+  gone_empty empty =
       record {
         levels = so_far.levels;
         picked = λ i m. so_far.picked i m ∙ ap (λ (x : Bool). x && chosen tie 64 c d i) (same i m);
-        cells = omega (arith, so_far.cells, count_ext 64 (λ j. ltb l (c j)) (λ j. ltb l' (c j)) same);
+        cells = omega (arith, so_far.cells, count_ext 64 (λ j. ltb l (c j)) (λ j. ltb (l - 1) (c j)) same);
       }
     where
-      same : (i : ℕ) → i < 64 → ltb l (c i) ≡ ltb l' (c i)
-      same i m = ltb_iff l (c i) l' (c i) (λ q. omega (arith, less, q)) (λ q. further q (is (ltb l (c i))))
+      same : (i : ℕ) → i < 64 → ltb l (c i) ≡ ltb (l - 1) (c i)
+      same i m = ltb_iff l (c i) (l - 1) (c i) (λ q. omega (arith, q)) (λ q. further q (is (ltb l (c i))))
         where
-          further : l' < c i → Is (ltb l (c i)) → l < c i
+          further : l - 1 < c i → Is (ltb l (c i)) → l < c i
           further q (is_true e) = lt_of l (c i) e
           further q (is_false e) =
               let low : c i ≤ l = ge_of l (c i) e in
-              absurd (none_at_level t (λ j. c j - bit (has_bit r j)) so_far.levels (c i) i r (omega (arith, q)) (omega (arith, low, high)) m (empty (c i) q low)
+              let here : l ≡ c i = omega arith in
+              absurd (none_at_level t (λ j. c j - bit (has_bit r j)) so_far.levels (c i) i r (omega (arith, q)) (omega (arith, low, high)) m (rw here at empty)
               (still i m low) (omega (arith, ap bit (still i m low))))
 
   -- every level, or as many as there were cells for
@@ -151,8 +152,8 @@ module _ (tie : ℕ → ℕ → Bool) (c : ℕ → ℕ) (d : ℕ) (t : List ℕ)
         go (is_false e) =
             omega (arith, ap bit (has_bit_or r got i ∙ ap (λ (x : Bool). has_bit r i || x) e ∙ or-false (has_bit r i)), ap bit e)
 
-    pub gone_more : (long : length t ≡ 65) → Gone tie c d (moved t l got long some high) (l - 1) (rest - count 64 (has_bit those)) (bit_or r got)
-    gone_more long =
+    pub gone_more : {more : ℕ} → more ≡ rest - count 64 (has_bit those) → (long : length t ≡ 65) → Gone tie c d (moved t l got long some high) (l - 1) more (bit_or r got)
+    gone_more e long =
         record {
           levels =
               levelled_moved t l got long some high (λ i. c i - bit (has_bit r i)) (λ i. c i - bit (has_bit (bit_or r got) i)) so_far.levels
@@ -162,6 +163,7 @@ module _ (tie : ℕ → ℕ → Bool) (c : ℕ → ℕ) (d : ℕ) (t : List ℕ)
           cells =
               omega (
                 arith,
+                e,
                 so_far.cells,
                 count_ext 64 (has_bit those) (λ j. eqb (c j) l) stands,
                 sum_ext 64 (λ j. bit (ltb (l - 1) (c j))) (λ j. bit (ltb l (c j)) + bit (eqb (c j) l)) (λ j m. level_bits l (c j) some),

@@ -1,5 +1,4 @@
 -- `rule::needs_in` meets its contract. The invariant: none of the needs passed is above the longest job. Assumes nothing.
-use Prim.Native.Nat.{◌≤◌, ◌-◌}
 use mathlib.Core.Path.{◌≡◌}
 use mathlib.Core.Bool.{true}
 use lib.Dec.{leb}
@@ -8,7 +7,4 @@ use Rattle.laws.specs.Lists.{at}
 use Rattle.placing.proofs.rule.needs_in.Given as goal
 
 abbrev pub invariant-loop-i : goal.invariant-loop-i
-invariant-loop-i l = (l.i ≤ l.k) × (l.k ≤ 64) × (every l.i (λ j. leb (at l.needs j) 64) ≡ true)
-
-abbrev pub decreases-loop-i : goal.decreases-loop-i
-decreases-loop-i l = l.k - l.i
+invariant-loop-i l = every l.i (λ j. leb (at l.needs j) 64) ≡ true

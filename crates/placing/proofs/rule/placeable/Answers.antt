@@ -1,16 +1,27 @@
 -- `rule::placeable` meets its contract: a law for each answer. Assumes nothing.
 use mathlib.Core.Path.{sym, ◌∙◌}
+use Rattle.laws.proofs.Tests.{clash}
+use Rattle.laws.proofs.Comparisons.{leb_no}
 use Rattle.placing.proofs.rule.SlotsPlaced.{jobs_over, needs_over, all_but_frame}
 use Rattle.placing.proofs.rule.placeable.Goals as goal
+use Rattle.placing.proofs.rule.placeable.Goals.{then-work-le-MOST_PLACED, else-work-le-MOST_PLACED}
 
-pub returns-then-k-gt-MOST_PLACED : goal.returns-then-k-gt-MOST_PLACED
-returns-then-k-gt-MOST_PLACED c = let a = c.args in sym (jobs_over a.slots a.bridges a.needs.now a.k a.cells c.if-k-gt-MOST_PLACED.true)
+pub returns-then-needs_in : goal.returns-then-needs_in
+returns-then-needs_in c = let h = c.args.head.now in
+    let w = c.args.work.now in
+    elim c.if-work-le-MOST_PLACED.branch [
+      | then-work-le-MOST_PLACED b ↦
+          c.in_limits.ensures
+          ∙ sym (all_but_frame h.slots h.bridges w.needs w.count c.args.cells b.if-work-le-MOST_PLACED.true (sym b.needs_in.ensures ∙ sym b.value-is ∙ c.if-needs_in.true))
+      | else-work-le-MOST_PLACED b ↦ absurd (clash (sym c.if-needs_in.true ∙ b.value-is ∙ leb_no w.count 64 b.if-work-le-MOST_PLACED.false))
+    ]
 
-pub returns-then-not-needs_in : goal.returns-then-not-needs_in
-returns-then-not-needs_in c = let a = c.args in
-    sym (needs_over a.slots a.bridges a.needs.now a.k a.cells (sym c.needs_in.ensures ∙ c.if-not-needs_in.true))
-
-pub returns : goal.returns
-returns c = let a = c.args in
-    c.in_limits.ensures
-    ∙ sym (all_but_frame a.slots a.bridges a.needs.now a.k a.cells c.if-k-gt-MOST_PLACED.false (sym c.needs_in.ensures ∙ c.if-not-needs_in.false))
+pub returns-else-needs_in : goal.returns-else-needs_in
+returns-else-needs_in c = let h = c.args.head.now in
+    let w = c.args.work.now in
+    elim c.if-work-le-MOST_PLACED.branch [
+      | then-work-le-MOST_PLACED b ↦
+          c.if-needs_in.false
+          ∙ sym (needs_over h.slots h.bridges w.needs w.count c.args.cells (sym b.needs_in.ensures ∙ sym b.value-is ∙ c.if-needs_in.false))
+      | else-work-le-MOST_PLACED b ↦ c.if-needs_in.false ∙ sym (jobs_over h.slots h.bridges w.needs w.count c.args.cells b.if-work-le-MOST_PLACED.false)
+    ]

@@ -88,32 +88,30 @@ module _ (i : ℕ) (a f : ℕ → Bool) (v t : ℕ → ℕ) (b : ℕ) where
 
 -- ---- a row, cell by cell
 
-module _ (t : List ℕ) (start : ℕ) (w : ℕ → ℕ) where
+module _ (t : List ℕ) (w : ℕ → ℕ) where
   -- every cell keeps what it held
-  pub row_as_it_was : (n : ℕ) → ((b : ℕ) → b < n → at t (start + b) ≡ w b) → RowWritten t t start n w
-  row_as_it_was n h = record { long = refl; inside = h; before = λ i l. refl; after = λ i l. refl }
+  pub row_as_it_was : (n : ℕ) → ((b : ℕ) → b < n → at t b ≡ w b) → RowWritten t t n w
+  row_as_it_was n h = record { long = refl; inside = h }
 
   -- the cells under another name
-  pub row_same : (u : List ℕ) (n : ℕ) (w' : ℕ → ℕ) → RowWritten t u start n w → ((b : ℕ) → b < n → w b ≡ w' b) → RowWritten t u start n w'
+  pub row_same : (u : List ℕ) (n : ℕ) (w' : ℕ → ℕ) → RowWritten t u n w → ((b : ℕ) → b < n → w b ≡ w' b) → RowWritten t u n w'
   row_same u n w' done e =
-      record { long = done.long; inside = λ b h. done.inside b h ∙ e b h; before = done.before; after = done.after }
+      record { long = done.long; inside = λ b h. done.inside b h ∙ e b h }
 
   -- cell z, which is written already, is stored anew
-  pub row_set : (u : List ℕ) (n z x : ℕ) (w' : ℕ → ℕ) → RowWritten t u start n w → z < n → start + n ≤ length t → x ≡ w' z
-      → ((b : ℕ) → b < n → (b ≡ z → ⊥) → w b ≡ w' b) → RowWritten t (set u (start + z) x) start n w'
+  pub row_set : (u : List ℕ) (n z x : ℕ) (w' : ℕ → ℕ) → RowWritten t u n w → z < n → n ≤ length t → x ≡ w' z
+      → ((b : ℕ) → b < n → (b ≡ z → ⊥) → w b ≡ w' b) → RowWritten t (set u z x) n w'
   row_set u n z x w' done l short e rest =
       record {
-        long = length-set u (start + z) x ∙ done.long;
+        long = length-set u z x ∙ done.long;
         inside = λ b h. go b h (is (eqb b z));
-        before = λ i h. get_or-set_other u (start + z) i x 0 (λ q. omega arith) ∙ done.before i h;
-        after = λ i h. get_or-set_other u (start + z) i x 0 (λ q. omega arith) ∙ done.after i h;
       }
     where
-      go : (b : ℕ) → b < n → Is (eqb b z) → at (set u (start + z) x) (start + b) ≡ w' b
-      go b h (is_true q) = rw (eq_of b z q) (get_or-set_same u (start + z) x 0 (omega (arith, done.long)) ∙ e)
+      go : (b : ℕ) → b < n → Is (eqb b z) → at (set u z x) b ≡ w' b
+      go b h (is_true q) = rw (eq_of b z q) (get_or-set_same u z x 0 (omega (arith, done.long)) ∙ e)
       go b h (is_false q) =
           let other : b ≡ z → ⊥ = ne_of b z q in
-          get_or-set_other u (start + z) (start + b) x 0 (λ y. other (omega arith)) ∙ done.inside b h ∙ rest b h other
+          get_or-set_other u z b x 0 (λ y. other (omega arith)) ∙ done.inside b h ∙ rest b h other
 
 -- ---- the free cells that are left after some were taken in order
 
@@ -220,21 +218,21 @@ slot_cell_left k a f v t b u =
 abbrev cell_so_far : ℕ → (ℕ → Bool) → (ℕ → Bool) → (ℕ → ℕ) → (ℕ → ℕ) → ℕ → ℕ
 cell_so_far i a f v t b = cond (untaken f (count i a) b) (t b) (slot_cell i a f v t b)
 
--- u is t with the n cells from `start` on written by the jobs before i, and g is the test of the free cells that are left
-pub record RowFilled (t : List ℕ) (start n : ℕ) (a f : ℕ → Bool) (v : ℕ → ℕ) (u : List ℕ) (g : ℕ → Bool) (i : ℕ) : Type 0 where
-  pub row : RowWritten t u start n (cell_so_far i a f v (λ b. at t (start + b)))
+-- u is t with the n cells of the row written by the jobs before i, and g is the test of the free cells that are left
+pub record RowFilled (t : List ℕ) (n : ℕ) (a f : ℕ → Bool) (v : ℕ → ℕ) (u : List ℕ) (g : ℕ → Bool) (i : ℕ) : Type 0 where
+  pub row : RowWritten t u n (cell_so_far i a f v (at t))
   pub rest : (b : ℕ) → b < n → g b ≡ untaken f (count i a) b
 
-module _ (t : List ℕ) (start n : ℕ) (a f : ℕ → Bool) (v : ℕ → ℕ) where
+module _ (t : List ℕ) (n : ℕ) (a f : ℕ → Bool) (v : ℕ → ℕ) where
   abbrev held : ℕ → ℕ
-  held b = at t (start + b)
+  held b = at t b
 
   -- no job has written yet
-  pub filled_none : RowFilled t start n a f v t f 0
+  pub filled_none : RowFilled t n a f v t f 0
   unfolding sum
   filled_none =
       record {
-        row = row_as_it_was t start (cell_so_far 0 a f v held) n (λ b h. go b (is (f b)));
+        row = row_as_it_was t (cell_so_far 0 a f v held) n (λ b h. go b (is (f b)));
         rest = λ b h. untaken_none f b;
       }
     where
@@ -242,7 +240,7 @@ module _ (t : List ℕ) (start n : ℕ) (a f : ℕ → Bool) (v : ℕ → ℕ) w
       go b (is_true e) = sym (ap (λ (x : Bool). cond x (held b) (slot_cell 0 a f v held b)) (sym (untaken_none f b) ∙ e))
       go b (is_false e) = rw e refl
 
-  module _ (u : List ℕ) (g : ℕ → Bool) (i : ℕ) (done : RowFilled t start n a f v u g i) where
+  module _ (u : List ℕ) (g : ℕ → Bool) (i : ℕ) (done : RowFilled t n a f v u g i) where
     -- a cell that job i does not take
     passed : (b : ℕ) → untaken f (count i a) b ≡ untaken f (count (i + 1) a) b → takes a f i b ≡ false
         → cell_so_far i a f v held b ≡ cell_so_far (i + 1) a f v held b
@@ -250,19 +248,19 @@ module _ (t : List ℕ) (start n : ℕ) (a f : ℕ → Bool) (v : ℕ → ℕ) w
 
     -- job i takes no cell
     same : ((b : ℕ) → b < n → untaken f (count i a) b ≡ untaken f (count (i + 1) a) b) → ((b : ℕ) → b < n → takes a f i b ≡ false)
-        → RowWritten t u start n (cell_so_far (i + 1) a f v held)
+        → RowWritten t u n (cell_so_far (i + 1) a f v held)
     same stay off =
-        row_same t start (cell_so_far i a f v held) u n (cell_so_far (i + 1) a f v held) done.row (λ b h. passed b (stay b h) (off b h))
+        row_same t (cell_so_far i a f v held) u n (cell_so_far (i + 1) a f v held) done.row (λ b h. passed b (stay b h) (off b h))
 
     -- it is not chosen
-    pub filled_not_chosen : a i ≡ false → RowFilled t start n a f v u g (i + 1)
+    pub filled_not_chosen : a i ≡ false → RowFilled t n a f v u g (i + 1)
     filled_not_chosen e =
         let stay : (b : ℕ) → untaken f (count i a) b ≡ untaken f (count (i + 1) a) b =
         λ b. ap (λ (m : ℕ). untaken f m b) (omega (arith, count_more i a, ap bit e)) in
         record { row = same (λ b h. stay b) (λ b h. takes_not_chosen a f i b e); rest = λ b h. done.rest b h ∙ stay b }
 
     -- it is, and no cell is left
-    pub filled_full : a i ≡ true → ((b : ℕ) → b < n → g b ≡ false) → RowFilled t start n a f v u g (i + 1)
+    pub filled_full : a i ≡ true → ((b : ℕ) → b < n → g b ≡ false) → RowFilled t n a f v u g (i + 1)
     filled_full e none =
         let gone : (b : ℕ) → b < n → untaken f (count i a) b ≡ false = λ b h. sym (done.rest b h) ∙ none b h in
         let still : (b : ℕ) → b < n → untaken f (count (i + 1) a) b ≡ false =
@@ -273,8 +271,8 @@ module _ (t : List ℕ) (start n : ℕ) (a f : ℕ → Bool) (v : ℕ → ℕ) w
         }
 
     -- it is, and z is the first cell that is left
-    pub filled_next : a i ≡ true → (z : ℕ) → z < n → start + n ≤ length t → g z ≡ true → ((b : ℕ) → b < z → g b ≡ false)
-        → (g' : ℕ → Bool) → ((b : ℕ) → g' b ≡ (g b && not (eqb b z))) → RowFilled t start n a f v (set u (start + z) (v i)) g' (i + 1)
+    pub filled_next : a i ≡ true → (z : ℕ) → z < n → n ≤ length t → g z ≡ true → ((b : ℕ) → b < z → g b ≡ false)
+        → (g' : ℕ → Bool) → ((b : ℕ) → g' b ≡ (g b && not (eqb b z))) → RowFilled t n a f v (set u z (v i)) g' (i + 1)
     filled_next e z l short here below g' without =
         let m = count i a in
         let left : untaken f m z ≡ true = sym (done.rest z l) ∙ here in
@@ -286,7 +284,7 @@ module _ (t : List ℕ) (start n : ℕ) (a f : ℕ → Bool) (v : ℕ → ℕ) w
         let gone : untaken f (count (i + 1) a) z ≡ false = sym (fewer z) ∙ (rw (eqb_self z) (and-false (untaken f m z))) in
         record {
           row =
-              row_set t start (cell_so_far i a f v held) u n z (v i) (cell_so_far (i + 1) a f v held) done.row l short
+              row_set t (cell_so_far i a f v held) u n z (v i) (cell_so_far (i + 1) a f v held) done.row l short
               (slot_cell_taken i a f v held z free e (sym order)
               ∙ sym (ap (λ (x : Bool). cond x (held z) (slot_cell (i + 1) a f v held z)) gone))
               (λ b h ne.
@@ -295,35 +293,33 @@ module _ (t : List ℕ) (start n : ℕ) (a f : ℕ → Bool) (v : ℕ → ℕ) w
         }
 
   -- all k jobs have written, and the free cells that are left are made empty
-  pub filled_all : (k : ℕ) (u : List ℕ) (g : ℕ → Bool) → RowFilled t start n a f v u g k
-      → (u' : List ℕ) → RowWritten u u' start n (emptied g (λ b. at u (start + b))) → RowWritten t u' start n (slot_cell k a f v held)
+  pub filled_all : (k : ℕ) (u : List ℕ) (g : ℕ → Bool) → RowFilled t n a f v u g k
+      → (u' : List ℕ) → RowWritten u u' n (emptied g (at u)) → RowWritten t u' n (slot_cell k a f v held)
   filled_all k u g done u' end =
       record {
         long = end.long ∙ done.row.long;
         inside = λ b h. end.inside b h ∙ go b h (is (g b));
-        before = λ i h. end.before i h ∙ done.row.before i h;
-        after = λ i h. end.after i h ∙ done.row.after i h;
       }
     where
-      go : (b : ℕ) → b < n → Is (g b) → emptied g (λ d. at u (start + d)) b ≡ slot_cell k a f v held b
+      go : (b : ℕ) → b < n → Is (g b) → emptied g (at u) b ≡ slot_cell k a f v held b
       go b h (is_true e) =
-          emptied_free g (λ d. at u (start + d)) b e ∙ sym (slot_cell_left k a f v held b (sym (done.rest b h) ∙ e))
+          emptied_free g (at u) b e ∙ sym (slot_cell_left k a f v held b (sym (done.rest b h) ∙ e))
       go b h (is_false e) =
-          emptied_kept g (λ d. at u (start + d)) b e
+          emptied_kept g (at u) b e
           ∙ done.row.inside b h
           ∙ ap (λ (x : Bool). cond x (held b) (slot_cell k a f v held b)) (sym (done.rest b h) ∙ e)
 
   -- all k jobs have written, and the free cells were empty before
-  pub filled_clean : (k : ℕ) (u : List ℕ) (g : ℕ → Bool) → RowFilled t start n a f v u g k → EmptyRow t start n f
-      → RowWritten t u start n (slot_cell k a f v held)
+  pub filled_clean : (k : ℕ) (u : List ℕ) (g : ℕ → Bool) → RowFilled t n a f v u g k → EmptyRow t n f
+      → RowWritten t u n (slot_cell k a f v held)
   filled_clean k u g done clean =
-      filled_all k u g done u (row_as_it_was u start (emptied g (λ b. at u (start + b))) n (λ b h. go b h (is (g b))))
+      filled_all k u g done u (row_as_it_was u (emptied g (at u)) n (λ b h. go b h (is (g b))))
     where
-      go : (b : ℕ) → b < n → Is (g b) → at u (start + b) ≡ emptied g (λ d. at u (start + d)) b
+      go : (b : ℕ) → b < n → Is (g b) → at u b ≡ emptied g (at u) b
       go b h (is_true e) =
           let left : untaken f (count k a) b ≡ true = sym (done.rest b h) ∙ e in
           done.row.inside b h
           ∙ ap (λ (x : Bool). cond x (held b) (slot_cell k a f v held b)) left
           ∙ clean b h (left_of (f b) (leb (count k a) (count b f)) left)
-          ∙ sym (emptied_free g (λ d. at u (start + d)) b e)
-      go b h (is_false e) = sym (emptied_kept g (λ d. at u (start + d)) b e)
+          ∙ sym (emptied_free g (at u) b e)
+      go b h (is_false e) = sym (emptied_kept g (at u) b e)

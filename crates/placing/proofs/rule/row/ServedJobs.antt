@@ -25,17 +25,17 @@ use Rattle.placing.proofs.MaskBits.{has_bit_zero, lowest, none_below_lowest, som
 use Rattle.placing.proofs.rule.row.RowWritten.{RowFilled, filled_not_chosen, filled_full, filled_next}
 
 -- jobs that are not chosen
-filled_over : (t : List ℕ) (start n : ℕ) (a f : ℕ → Bool) (v : ℕ → ℕ) (u : List ℕ) (g : ℕ → Bool) (i j : ℕ) → i ≤ j
-    → ((q : ℕ) → i ≤ q → q < j → a q ≡ false) → RowFilled t start n a f v u g i → RowFilled t start n a f v u g j
-filled_over t start n a f v u g i zero h off done = let same : i ≡ 0 = omega (arith, h) in rw same at done
-filled_over t start n a f v u g i (suc j) h off done = go (λ m. filled_over t start n a f v u g i j m (λ q k l. off q k (omega (arith, l))) done) (is (eqb i (suc j)))
+filled_over : (t : List ℕ) (n : ℕ) (a f : ℕ → Bool) (v : ℕ → ℕ) (u : List ℕ) (g : ℕ → Bool) (i j : ℕ) → i ≤ j
+    → ((q : ℕ) → i ≤ q → q < j → a q ≡ false) → RowFilled t n a f v u g i → RowFilled t n a f v u g j
+filled_over t n a f v u g i zero h off done = let same : i ≡ 0 = omega (arith, h) in rw same at done
+filled_over t n a f v u g i (suc j) h off done = go (λ m. filled_over t n a f v u g i j m (λ q k l. off q k (omega (arith, l))) done) (is (eqb i (suc j)))
   where
-    go : (i ≤ j → RowFilled t start n a f v u g j) → Is (eqb i (suc j)) → RowFilled t start n a f v u g (suc j)
+    go : (i ≤ j → RowFilled t n a f v u g j) → Is (eqb i (suc j)) → RowFilled t n a f v u g (suc j)
     go ih (is_true e) = rw (eq_of i (suc j) e) at done
     go ih (is_false e) =
         let ne : i ≡ suc j → ⊥ = ne_of i (suc j) e in
         let m : i ≤ j = omega (arith, ne, h) in
-        rw (add-one j) at (filled_not_chosen t start n a f v u g j (ih m) (off j m (le_refl (suc j))))
+        rw (add-one j) at (filled_not_chosen t n a f v u g j (ih m) (off j m (le_refl (suc j))))
 
 -- ---- the jobs that are still to come
 
@@ -109,21 +109,21 @@ module _ (chosen jobs : ℕ) (now : Pending chosen jobs) (some : 0 < jobs) where
 
 -- ---- the row, what is still due of the jobs, and the jobs that are still to come
 
--- u is t with the n cells from `start` on written by the jobs before those to come, of which one less is due in `rest` than in `due`
-pub record Serving (t : List ℕ) (start n chosen : ℕ) (f : ℕ → Bool) (v : ℕ → ℕ) (due : List ℕ) (u : List ℕ) (free jobs : ℕ) (rest : List ℕ) : Type 0 where
+-- u is t with the n cells of the row written by the jobs before those to come, of which one less is due in `rest` than in `due`
+pub record Serving (t : List ℕ) (n chosen : ℕ) (f : ℕ → Bool) (v : ℕ → ℕ) (due : List ℕ) (u : List ℕ) (free jobs : ℕ) (rest : List ℕ) : Type 0 where
   pub pending : Pending chosen jobs
-  pub row : RowFilled t start n (has_bit chosen) f v u (has_bit free) (count_trailing_zeros 64 jobs)
+  pub row : RowFilled t n (has_bit chosen) f v u (has_bit free) (count_trailing_zeros 64 jobs)
   pub fewer_due : (i : ℕ) → at rest i ≡ at due i - bit (has_bit chosen i && not (has_bit jobs i))
   pub long : length rest ≡ 64
 
-module _ (t : List ℕ) (start n chosen : ℕ) (f : ℕ → Bool) (v : ℕ → ℕ) (due : List ℕ) where
-  pub serving_none : chosen < 2 ^ 64 → length due ≡ 64 → (u : List ℕ) (free : ℕ) → RowFilled t start n (has_bit chosen) f v u (has_bit free) 0
-      → Serving t start n chosen f v due u free chosen due
+module _ (t : List ℕ) (n chosen : ℕ) (f : ℕ → Bool) (v : ℕ → ℕ) (due : List ℕ) where
+  pub serving_none : chosen < 2 ^ 64 → length due ≡ 64 → (u : List ℕ) (free : ℕ) → RowFilled t n (has_bit chosen) f v u (has_bit free) 0
+      → Serving t n chosen f v due u free chosen due
   serving_none h long u free done =
       record {
         pending = pending_all chosen h;
         row =
-            filled_over t start n (has_bit chosen) f v u (has_bit free) 0 (count_trailing_zeros 64 chosen) (omega arith)
+            filled_over t n (has_bit chosen) f v u (has_bit free) 0 (count_trailing_zeros 64 chosen) (omega arith)
             (λ q k l. none_below_lowest 64 chosen h q l) done;
         fewer_due = λ i. omega (arith, ap bit (never (has_bit chosen i)));
         long = long;
@@ -133,7 +133,7 @@ module _ (t : List ℕ) (start n chosen : ℕ) (f : ℕ → Bool) (v : ℕ → �
       never true = refl
       never false = refl
 
-  module _ (u : List ℕ) (free jobs : ℕ) (rest : List ℕ) (so_far : Serving t start n chosen f v due u free jobs rest) (some : 0 < jobs) where
+  module _ (u : List ℕ) (free jobs : ℕ) (rest : List ℕ) (so_far : Serving t n chosen f v due u free jobs rest) (some : 0 < jobs) where
     abbrev i : ℕ
     i = count_trailing_zeros 64 jobs
 
@@ -172,13 +172,13 @@ module _ (t : List ℕ) (start n chosen : ℕ) (f : ℕ → Bool) (v : ℕ → �
             ∙ (rw (later_other chosen jobs so_far.pending some q (ne_of q i e)) refl)
 
     -- the job is done: the row goes on to the next one
-    onward : (u' : List ℕ) (free' : ℕ) → RowFilled t start n (has_bit chosen) f v u' (has_bit free') (i + 1)
-        → Serving t start n chosen f v due u' free' (bit_and jobs (jobs - 1)) fewer
+    onward : (u' : List ℕ) (free' : ℕ) → RowFilled t n (has_bit chosen) f v u' (has_bit free') (i + 1)
+        → Serving t n chosen f v due u' free' (bit_and jobs (jobs - 1)) fewer
     onward u' free' done =
         record {
           pending = pending_later chosen jobs so_far.pending some;
           row =
-              filled_over t start n (has_bit chosen) f v u' (has_bit free') (i + 1) (count_trailing_zeros 64 (bit_and jobs (jobs - 1)))
+              filled_over t n (has_bit chosen) f v u' (has_bit free') (i + 1) (count_trailing_zeros 64 (bit_and jobs (jobs - 1)))
               (omega (arith, later_later chosen jobs so_far.pending some))
               (between chosen jobs so_far.pending some) done;
           fewer_due = less;
@@ -186,21 +186,21 @@ module _ (t : List ℕ) (start n chosen : ℕ) (f : ℕ → Bool) (v : ℕ → �
         }
 
     -- it finds no free cell
-    pub serving_full : ((b : ℕ) → b < n → has_bit free b ≡ false) → Serving t start n chosen f v due u free (bit_and jobs (jobs - 1)) fewer
-    serving_full none = onward u free (filled_full t start n (has_bit chosen) f v u (has_bit free) i so_far.row is_chosen none)
+    pub serving_full : ((b : ℕ) → b < n → has_bit free b ≡ false) → Serving t n chosen f v due u free (bit_and jobs (jobs - 1)) fewer
+    serving_full none = onward u free (filled_full t n (has_bit chosen) f v u (has_bit free) i so_far.row is_chosen none)
 
     -- it takes the next free cell
-    pub serving_next : free < 2 ^ 8 → (b : ℕ) → b ≡ count_trailing_zeros 8 free → b < n → n ≤ 8 → start + n ≤ length t → (x : ℕ) → x ≡ v i
-        → Serving t start n chosen f v due (set u (start + b) x) (bit_and free (free - 1)) (bit_and jobs (jobs - 1)) fewer
+    pub serving_next : free < 2 ^ 8 → (b : ℕ) → b ≡ count_trailing_zeros 8 free → b < n → n ≤ 8 → n ≤ length t → (x : ℕ) → x ≡ v i
+        → Serving t n chosen f v due (set u b x) (bit_and free (free - 1)) (bit_and jobs (jobs - 1)) fewer
     serving_next byte b e l few short x value =
         let any : 0 < free = some_lowest 8 free (omega (arith, e, l, few)) in
         let low = lowest 8 free any byte in
-        onward (set u (start + b) x) (bit_and free (free - 1))
-        (rw (e, value) (filled_next t start n (has_bit chosen) f v u (has_bit free) i so_far.row is_chosen (count_trailing_zeros 8 free) (omega (arith, e, l)) short
+        onward (set u b x) (bit_and free (free - 1))
+        (rw (e, value) (filled_next t n (has_bit chosen) f v u (has_bit free) i so_far.row is_chosen (count_trailing_zeros 8 free) (omega (arith, e, l)) short
         low.set low.none_below (has_bit (bit_and free (free - 1))) (cleared 8 free any byte)))
 
   -- all of them
-  pub serving_all : (u : List ℕ) (free : ℕ) (rest : List ℕ) → Serving t start n chosen f v due u free 0 rest
-      → RowFilled t start n (has_bit chosen) f v u (has_bit free) 64 × ((i : ℕ) → at rest i ≡ at due i - bit (has_bit chosen i))
+  pub serving_all : (u : List ℕ) (free : ℕ) (rest : List ℕ) → Serving t n chosen f v due u free 0 rest
+      → RowFilled t n (has_bit chosen) f v u (has_bit free) 64 × ((i : ℕ) → at rest i ≡ at due i - bit (has_bit chosen i))
   serving_all u free rest done =
       (rw (trailing_of_zero 64) at done.row, λ i. done.fewer_due i ∙ (rw (has_bit_zero i) (ap (λ (x : Bool). at due i - bit x) (and-true (has_bit chosen i)))))

@@ -1,5 +1,4 @@
 -- `check::table::preset_numbers` meets its contract. The loop's invariant: the counts are those of the presets before `i`. Assumes nothing.
-use Prim.Native.Nat.{◌≤◌, ◌-◌}
 use mathlib.Core.List.{map}
 use mathlib.Core.Path.{◌≡◌}
 use lib.ListN.{take}
@@ -8,7 +7,4 @@ use Rattle.placing.specs.method.Check.{numbered}
 use Rattle.placing.proofs.check.table.preset_numbers.Given as goal
 
 abbrev pub invariant-loop-i : goal.invariant-loop-i
-invariant-loop-i l = (l.i ≤ l.count) × (l.count ≤ 32) × (l.numbers ≡ numbered (map preset_in (take l.count l.presets)) l.i)
-
-abbrev pub decreases-loop-i : goal.decreases-loop-i
-decreases-loop-i l = l.count - l.i
+invariant-loop-i l = l.numbers ≡ numbered (map preset_in (take l.fn.head.count l.presets)) l.i

@@ -1,49 +1,27 @@
--- `check::table::presets_met` meets its contract. The loop's invariant: the presets before `i` have their cells. Assumes nothing.
-use Prim.Native.Nat.{ℕ}
+-- `check::table::presets_met` meets its contract. Assumes nothing.
 use native.Mathlib.Omega.{arith}
-use mathlib.Core.List.{map}
-use mathlib.Core.Bool.{true}
-use mathlib.Core.Path.{◌≡◌, sym, ◌∙◌, ap, subst}
+use mathlib.Core.Path.{◌≡◌, ◌∙◌, ap}
+use mathlib.Core.Bool.{true, false}
 use lib.ListN.{take}
-use Rattle.laws.proofs.Every.{every_not}
-use Rattle.laws.proofs.Loops.{every_none, every_more}
-use Rattle.laws.specs.Sums.{every}
-use Rattle.station.specs.Types.{preset_in}
-use Rattle.placing.specs.method.Check.{preset_met, is_met}
+use lib.Seq.{get_or-take, length-take-le}
+use borrow.Author.Tests.{tests}
+use Rattle.std.proofs.Common.{rules}
+use Rattle.std.proofs.lemmas.Iterator.{cases_from_all, YieldsList-from_slice}
+use Rattle.station.specs.Types.{preset_in, presets_in, no_record}
+use Rattle.station.specs.declared.types.Preset.{Preset}
+use Rattle.placing.specs.method.Check.{is_met, preset_met}
 use Rattle.placing.proofs.HeadRecord.{preset_at_lem}
+use Rattle.placing.proofs.Chains.{every_by_all}
 use Rattle.placing.proofs.check.table.presets_met.Goals as goal
 
-pub loop-i-init : goal.loop-i-init
-loop-i-init c = (omega arith, omega arith, every_none _)
-
-pub offset_bounds-presets-i : goal.offset_bounds-presets-i
-offset_bounds-presets-i c = omega arith
-
-pub bounds-presets-i : goal.bounds-presets-i
-bounds-presets-i c = omega arith
-
-pub returns-then-not-preset_met : goal.returns-then-not-preset_met
-returns-then-not-preset_met c = let a = c.args in
-    let i = c.loop-i.i in
-    sym (every_not a.head.count _ i (omega arith)
-    (ap (is_met a.counts.now) (preset_at_lem a.head.count a.presets i (omega arith)) ∙ sym c.preset_met.ensures ∙ c.if-not-preset_met.true))
-
-pub overflow_add-i : goal.overflow_add-i
-overflow_add-i c = omega arith
-
-pub loop-i-smaller : goal.loop-i-smaller
-loop-i-smaller c = omega arith
-
-pub loop-i-preserved : goal.loop-i-preserved
-loop-i-preserved c = let a = c.args in
-    let i = c.loop-i.i in (
-      omega arith,
-      omega arith,
-      every_more i _ c.loop-i.invariant.2
-          (ap (is_met a.counts.now) (preset_at_lem a.head.count a.presets i (omega arith)) ∙ sym c.preset_met.ensures ∙ c.if-not-preset_met.false),
-    )
-
 pub returns : goal.returns
-returns c = let a = c.args in
-    let e : c.loop-i.i ≡ a.head.count = omega arith in
-    sym (subst (λ (n : ℕ). every n (preset_met (map preset_in (take a.head.count a.presets)) a.counts.now) ≡ true) e c.loop-i.invariant.2)
+returns c =
+    let ps = c.args.presets in
+    let n = c.args.head.count in
+    let t = c.args.counts.now in
+    let met : Preset → Type 0 = λ p. is_met t (preset_in p) ≡ true in
+    let unmet : Preset → Type 0 = λ p. is_met t (preset_in p) ≡ false in
+    every_by_all no_record met unmet (take n ps) n (length-take-le n ps (omega (arith, c))) (preset_met (presets_in n ps) t)
+    (λ k l q. ap (is_met t) (preset_at_lem n ps k l) ∙ (rw (get_or-take n ps k no_record l) at q))
+    (λ k l q. ap (is_met t) (preset_at_lem n ps k l) ∙ (rw (get_or-take n ps k no_record l) at q))
+    _ (cases_from_all _ _ _ met unmet c.all.ensures.ran (YieldsList-from_slice (take n ps) cc) (λ x q k. search (rules, tests)) (λ x q k. search (rules, tests)))

@@ -10,63 +10,25 @@ use Rattle.placing.proofs.check.table.FrameWalk.{fits_below, passed_none, slot_b
 use Rattle.placing.proofs.check.table.scan.Goals as goal
 use Rattle.placing.proofs.check.table.scan.Goals.{else-v-ge-MANDATORY, then-v-ge-MANDATORY+else-fed-held+else-last-n}
 
-pub frame-init : goal.frame-init
-frame-init c = let a = c.args in
-    let p = c.requires in
-    (p.0, p.1, p.2, omega arith, passed_none a.head.bridges c.motors-fed.result a.head.busy a.numbers.now a.table.now a.counts.now p.3)
-
-pub overflow_cast-mark : goal.overflow_cast-mark
-overflow_cast-mark c = omega arith
-
-pub overflow_add-mark : goal.overflow_add-mark
-overflow_add-mark c = omega arith
+pub loop-s-init : goal.loop-s-init
+loop-s-init c = let a = c.args in passed_none a.head.bridges c.motors-fed.result a.head.busy a.numbers.now a.table.now a.counts.now c.requires.3
 
 pub loop-b-init : goal.loop-b-init
 loop-b-init c = let a = c.args in
-    let f = c.frame in (
-      f.invariant.0,
-      f.invariant.1,
-      f.invariant.2,
-      omega arith,
-      omega arith,
-      slot_begun a.head.bridges c.motors-fed.result a.head.busy a.numbers.now a.table.now f.s f.at f.counts f.last f.invariant.4,
-    )
+    let f = c.loop-s in
+    slot_begun a.head.bridges c.motors-fed.result a.head.busy a.numbers.now a.table.now f.s f.at f.counts f.last f.invariant
 
 pub offset_bounds-table-at : goal.offset_bounds-table-at
 offset_bounds-table-at c =
     let below_end : c.loop-b.at < 512 =
-    omega (arith, c.loop-b.invariant.5.place, place_lt c.frame.s c.loop-b.b c.args.head.bridges 512 (omega arith) (omega arith) (omega arith) (omega arith)) in
+    omega (arith, c.loop-b.invariant.place, place_lt c.loop-s.s c.loop-b.b c.args.head.bridges 512 (omega arith) (omega arith) (omega arith) (omega arith)) in
     omega (arith, below_end)
 
 pub bounds-table-at : goal.bounds-table-at
 bounds-table-at c =
     let below_end : c.loop-b.at < 512 =
-    omega (arith, c.loop-b.invariant.5.place, place_lt c.frame.s c.loop-b.b c.args.head.bridges 512 (omega arith) (omega arith) (omega arith) (omega arith)) in
+    omega (arith, c.loop-b.invariant.place, place_lt c.loop-s.s c.loop-b.b c.args.head.bridges 512 (omega arith) (omega arith) (omega arith) (omega arith)) in
     omega (arith, below_end)
-
-pub offset_bounds-busy-b : goal.offset_bounds-busy-b
-offset_bounds-busy-b c = omega arith
-
-pub bounds-busy-b : goal.bounds-busy-b
-bounds-busy-b c = omega arith
-
-pub overflow_shr-taken : goal.overflow_shr-taken
-overflow_shr-taken c = omega arith
-
-pub overflow_add-held : goal.overflow_add-held
-overflow_add-held c = omega arith
-
-pub bounds-last-n : goal.bounds-last-n
-bounds-last-n c = omega arith
-
-pub bounds-last-n-then-v-ge-MANDATORY : goal.bounds-last-n-then-v-ge-MANDATORY
-bounds-last-n-then-v-ge-MANDATORY c = omega arith
-
-pub overflow_cast-place : goal.overflow_cast-place
-overflow_cast-place c =
-    let below : get_or c.args.table.now c.loop-b.at 0 < 1280 =
-    fits_below _ _ _ _ (sym c.cell_fits.ensures ∙ c.if-not-cell_fits.false) in
-    omega (arith, below)
 
 pub offset_bounds-counts-place : goal.offset_bounds-counts-place
 offset_bounds-counts-place c =
@@ -83,8 +45,8 @@ bounds-counts-place c =
 pub overflow_add-counts : goal.overflow_add-counts
 overflow_add-counts c =
     let below_end : c.loop-b.at < 512 =
-    omega (arith, c.loop-b.invariant.5.place, place_lt c.frame.s c.loop-b.b c.args.head.bridges 512 (omega arith) (omega arith) (omega arith) (omega arith)) in
-    rw c.loop-b.invariant.5.counted (omega (
+    omega (arith, c.loop-b.invariant.place, place_lt c.loop-s.s c.loop-b.b c.args.head.bridges 512 (omega arith) (omega arith) (omega arith) (omega arith)) in
+    rw (c.from-place.ensures, c.loop-b.invariant.counted) (omega (
       arith,
       tally_le c.args.table.now (get_or c.args.table.now c.loop-b.at 0 - 512) c.loop-b.at,
       below_end,
@@ -99,57 +61,34 @@ bounds-counts-place-then-v-ge-MANDATORY c =
 pub overflow_add-at : goal.overflow_add-at
 overflow_add-at c =
     let below_end : c.loop-b.at < 512 =
-    omega (arith, c.loop-b.invariant.5.place, place_lt c.frame.s c.loop-b.b c.args.head.bridges 512 (omega arith) (omega arith) (omega arith) (omega arith)) in
+    omega (arith, c.loop-b.invariant.place, place_lt c.loop-s.s c.loop-b.b c.args.head.bridges 512 (omega arith) (omega arith) (omega arith) (omega arith)) in
     omega (arith, below_end)
-
-pub overflow_step-b : goal.overflow_step-b
-overflow_step-b c = omega arith
-
-pub loop-b-smaller : goal.loop-b-smaller
-loop-b-smaller c = omega arith
 
 pub loop-b-preserved : goal.loop-b-preserved
 loop-b-preserved c = let a = c.args in
     let l = c.loop-b in
-    let fits = sym c.cell_fits.ensures ∙ c.if-not-cell_fits.false in (
-      l.invariant.0,
-      l.invariant.1,
-      l.invariant.2,
-      l.invariant.3,
-      omega arith,
-      elim c.if-v-ge-MANDATORY.branch [
-        | then-v-ge-MANDATORY+else-fed-held+else-last-n w ↦ rw (w.counts-is, w.last-is, w.held-is, w.number_in-n.ensures.0)
-            (walked_more a.head.bridges c.motors-fed.result a.head.busy a.numbers.now a.table.now
-            c.frame.s l.b l.at l.counts l.last l.held l.invariant.5 (omega arith) fits w.if-v-ge-MANDATORY.true w.if-fed-held.false (rw w.number_in-n.ensures.0 at w.if-last-n.false))
-        | else-v-ge-MANDATORY w ↦ rw (w.counts-is, w.last-is, w.held-is)
-            (walked_skip a.head.bridges c.motors-fed.result a.head.busy a.numbers.now a.table.now
-            c.frame.s l.b l.at l.counts l.last l.held l.invariant.5 (omega arith) fits w.if-v-ge-MANDATORY.false)
-      ],
-    )
+    let fits = sym c.cell_fits.ensures ∙ c.if-not-cell_fits.false in
+    elim c.if-v-ge-MANDATORY.branch [
+      | then-v-ge-MANDATORY+else-fed-held+else-last-n w ↦ rw (w.counts-is, w.last-is, w.held-is, w.number_in-n.ensures.0, w.from-place.ensures)
+          (walked_more a.head.bridges c.motors-fed.result a.head.busy a.numbers.now a.table.now
+          c.loop-s.s l.b l.at l.counts l.last l.held l.invariant (omega arith) fits w.if-v-ge-MANDATORY.true w.if-fed-held.false (rw w.number_in-n.ensures.0 at w.if-last-n.false))
+      | else-v-ge-MANDATORY w ↦ rw (w.counts-is, w.last-is, w.held-is)
+          (walked_skip a.head.bridges c.motors-fed.result a.head.busy a.numbers.now a.table.now
+          c.loop-s.s l.b l.at l.counts l.last l.held l.invariant (omega arith) fits w.if-v-ge-MANDATORY.false)
+    ]
 
-pub overflow_step-s : goal.overflow_step-s
-overflow_step-s c = omega arith
+pub loop-s-preserved : goal.loop-s-preserved
+loop-s-preserved c = let a = c.args in
+    let l = c.loop-b in
+    slot_done a.head.bridges c.motors-fed.result a.head.busy a.numbers.now a.table.now c.loop-s.s l.b l.at l.counts l.last l.held l.invariant (omega arith)
 
-pub frame-smaller : goal.frame-smaller
-frame-smaller c = omega arith
-
-pub frame-preserved : goal.frame-preserved
-frame-preserved c = let a = c.args in
-    let l = c.loop-b in (
-      l.invariant.0,
-      l.invariant.1,
-      l.invariant.2,
-      omega arith,
-      slot_done a.head.bridges c.motors-fed.result a.head.busy a.numbers.now a.table.now c.frame.s l.b l.at l.counts l.last l.held l.invariant.5 (omega arith),
-    )
-
-pub returns-after-frame : goal.returns-after-frame
-returns-after-frame c = let a = c.args in
-    let f = c.frame in (
+pub returns : goal.returns
+returns c = let a = c.args in
+    let f = c.loop-s in (
       rw (sym c.motors-fed.ensures)
           (no_fault a.head.bridges c.motors-fed.result a.head.busy a.numbers.now a.table.now
-          a.head.slots f.s f.at f.counts f.last f.invariant.4 (omega arith)),
-      f.invariant.4.counted,
+          a.head.slots f.s f.at f.counts f.last f.invariant (omega arith)),
+      f.invariant.counted,
     )
 
 pub returns-then-not-cell_fits : goal.returns-then-not-cell_fits
@@ -157,9 +96,9 @@ returns-then-not-cell_fits c = let a = c.args in
     let l = c.loop-b in (
       rw (sym c.motors-fed.ensures)
           (cell_unfit a.head.bridges c.motors-fed.result a.head.busy a.numbers.now a.table.now
-          c.frame.s l.b l.at l.counts l.last l.held l.invariant.5 a.head.slots l.invariant.3 (omega arith)
+          c.loop-s.s l.b l.at l.counts l.last l.held l.invariant a.head.slots (omega arith) (omega arith)
           (sym c.cell_fits.ensures ∙ c.if-not-cell_fits.true)),
-      l.invariant.5.counted,
+      l.invariant.counted,
     )
 
 pub returns-then-fed-held : goal.returns-then-fed-held
@@ -167,9 +106,9 @@ returns-then-fed-held c = let a = c.args in
     let l = c.loop-b in (
       rw (sym c.motors-fed.ensures)
           (no_motor_left a.head.bridges c.motors-fed.result a.head.busy a.numbers.now a.table.now
-          c.frame.s l.b l.at l.counts l.last l.held l.invariant.5 a.head.slots l.invariant.3 (omega arith)
+          c.loop-s.s l.b l.at l.counts l.last l.held l.invariant a.head.slots (omega arith) (omega arith)
           c.if-v-ge-MANDATORY.true c.if-fed-held.true),
-      l.invariant.5.counted,
+      l.invariant.counted,
     )
 
 pub returns-then-last-n : goal.returns-then-last-n
@@ -177,7 +116,7 @@ returns-then-last-n c = let a = c.args in
     let l = c.loop-b in (
       rw (sym c.motors-fed.ensures)
           (number_twice a.head.bridges c.motors-fed.result a.head.busy a.numbers.now a.table.now
-          c.frame.s l.b l.at l.counts l.last l.held l.invariant.5 a.head.slots l.invariant.3 (omega arith)
+          c.loop-s.s l.b l.at l.counts l.last l.held l.invariant a.head.slots (omega arith) (omega arith)
           c.if-v-ge-MANDATORY.true (rw c.number_in-n.ensures.0 at c.if-last-n.true)),
-      l.invariant.5.counted,
+      l.invariant.counted,
     )

@@ -5,6 +5,8 @@ use native.Mathlib.Omega.{arith}
 use mathlib.Core.List.{List}
 use mathlib.Core.Path.{◌≡◌, sym, ◌∙◌, ap, ap₂, subst}
 use lib.Dec.{leb}
+use borrow.Author.Tests.{lt-leb}
+use Rattle.laws.proofs.Tests.{clash}
 use Rattle.laws.specs.Sums.{every, count}
 use Rattle.station.specs.Head.{Head}
 use Rattle.station.specs.Types.{head_in}
@@ -14,6 +16,7 @@ use Rattle.placing.proofs.check.table.Counted.{tally_none}
 use Rattle.placing.proofs.check.table.SameTest.{cell_fails, cells_fit, preset_fails, all_but_jobs}
 use Rattle.placing.proofs.HeadRecord.{frame_le, count_high, record_valid, presets_count}
 use Rattle.placing.proofs.check.table.well_formed.Goals as goal
+use Rattle.placing.proofs.check.table.well_formed.Goals.{then-cells-scan, else-cells-scan}
 
 -- the first cell at fault, by the counts of the head's presets
 first_by : (h : Head) (n : ℕ) (ns held : List ℕ) (at : ℕ) → preset_count h ≡ n → ns ≡ numbered h.presets n
@@ -36,43 +39,38 @@ pub overflow_mul-cells : goal.overflow_mul-cells
 overflow_mul-cells c = let v = record_valid c.args.head c.args.presets c.requires.0 in
     omega (arith, frame_le c.args.head.slots c.args.head.bridges v.slots_high v.bridges_high)
 
-pub preset_numbers-numbers-requires : goal.preset_numbers-numbers-requires
-preset_numbers-numbers-requires c = count_high c.args.head c.args.presets c.requires.0
-
 pub scan-requires : goal.scan-requires
 scan-requires c = let v = record_valid c.args.head c.args.presets c.requires.0 in
     (v.slots_high, v.bridges_high, c.requires.1, sym (tally_none c.args.table.now))
 
-pub returns-then-scan-cells : goal.returns-then-scan-cells
-returns-then-scan-cells c = let a = c.args in
-    let h = head_in a.head a.presets in
-    let few = count_high a.head a.presets c.requires.0 in
-    let lines : preset_count h ≡ a.head.count = presets_count a.head a.presets (omega (arith, c, few)) in
-    let first = first_by h a.head.count c.preset_numbers-numbers.result a.table.now c.scan.result lines c.preset_numbers-numbers.ensures c.scan.ensures.0 in
-    sym (cell_fails h (record_valid a.head a.presets c.requires.0) a.table.now c.scan.result first c.if-scan-cells.true)
+pub returns-then-presets_met : goal.returns-then-presets_met
+returns-then-presets_met c = elim c.if-cells-scan.branch [
+  | then-cells-scan w ↦
+      let a = c.args in
+      let h = head_in a.head a.presets in
+      let v = record_valid a.head a.presets c.requires.0 in
+      let lines : preset_count h ≡ a.head.count = presets_count a.head a.presets (omega (arith, c, count_high a.head a.presets c.requires.0)) in
+      let first = first_by h a.head.count c.preset_numbers-numbers.result a.table.now c.scan.result lines c.preset_numbers-numbers.ensures c.scan.ensures.0 in
+      let full = full_by h a.table.now c.scan.new.counts c.scan.result first.most w.if-cells-scan.true c.scan.ensures.1 in
+      sym (all_but_jobs h v a.table.now
+      (cells_fit h v a.table.now c.scan.result first w.if-cells-scan.true)
+      (presets_by h a.head.count a.table.now c.scan.new.counts lines full ∙ sym w.presets_met.ensures ∙ sym w.value-is ∙ c.if-presets_met.true)
+      ∙ ap (λ (x : List ℕ). leb (count 256 (has_call x)) 64) full
+      ∙ ap (λ (n : ℕ). leb n 64) (sym c.job_count.ensures))
+  | else-cells-scan w ↦ absurd (clash (sym c.if-presets_met.true ∙ w.value-is ∙ lt-leb _ _ w.if-cells-scan.false))
+]
 
-pub presets_met-requires : goal.presets_met-requires
-presets_met-requires c = count_high c.args.head c.args.presets c.requires.0
-
-pub returns-then-not-presets_met : goal.returns-then-not-presets_met
-returns-then-not-presets_met c = let a = c.args in
-    let h = head_in a.head a.presets in
-    let few = count_high a.head a.presets c.requires.0 in
-    let lines : preset_count h ≡ a.head.count = presets_count a.head a.presets (omega (arith, c, few)) in
-    let first = first_by h a.head.count c.preset_numbers-numbers.result a.table.now c.scan.result lines c.preset_numbers-numbers.ensures c.scan.ensures.0 in
-    let full = full_by h a.table.now c.scan.new.counts c.scan.result (first.most) c.if-scan-cells.false c.scan.ensures.1 in
-    sym (preset_fails h (record_valid a.head a.presets c.requires.0) a.table.now (presets_by h a.head.count a.table.now c.scan.new.counts lines full ∙ sym c.presets_met.ensures ∙ c.if-not-presets_met.true))
-
-pub returns : goal.returns
-returns c = let a = c.args in
+pub returns-else-presets_met : goal.returns-else-presets_met
+returns-else-presets_met c =
+    let a = c.args in
     let h = head_in a.head a.presets in
     let v = record_valid a.head a.presets c.requires.0 in
-    let few = count_high a.head a.presets c.requires.0 in
-    let lines : preset_count h ≡ a.head.count = presets_count a.head a.presets (omega (arith, c, few)) in
+    let lines : preset_count h ≡ a.head.count = presets_count a.head a.presets (omega (arith, c, count_high a.head a.presets c.requires.0)) in
     let first = first_by h a.head.count c.preset_numbers-numbers.result a.table.now c.scan.result lines c.preset_numbers-numbers.ensures c.scan.ensures.0 in
-    let full = full_by h a.table.now c.scan.new.counts c.scan.result (first.most) c.if-scan-cells.false c.scan.ensures.1 in
-    sym (all_but_jobs h v a.table.now
-    (cells_fit h v a.table.now c.scan.result first c.if-scan-cells.false)
-    (presets_by h a.head.count a.table.now c.scan.new.counts lines full ∙ sym c.presets_met.ensures ∙ c.if-not-presets_met.false)
-    ∙ ap (λ (x : List ℕ). leb (count 256 (has_call x)) 64) full
-    ∙ ap (λ (n : ℕ). leb n 64) (sym c.job_count.ensures))
+    c.if-presets_met.false
+    ∙ sym (elim c.if-cells-scan.branch [
+      | then-cells-scan w ↦
+          let full = full_by h a.table.now c.scan.new.counts c.scan.result first.most w.if-cells-scan.true c.scan.ensures.1 in
+          preset_fails h v a.table.now (presets_by h a.head.count a.table.now c.scan.new.counts lines full ∙ sym w.presets_met.ensures ∙ sym w.value-is ∙ c.if-presets_met.false)
+      | else-cells-scan w ↦ cell_fails h v a.table.now c.scan.result first w.if-cells-scan.false
+    ])

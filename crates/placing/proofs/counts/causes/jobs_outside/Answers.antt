@@ -1,46 +1,30 @@
--- `cause::jobs_outside` meets its contract. The loop's invariant: the jobs before `i` are within their limits. Assumes nothing.
-use Prim.Native.Nat.{ℕ}
+-- `counts::causes::jobs_outside` meets its contract. Assumes nothing.
 use native.Mathlib.Omega.{arith}
-use mathlib.Core.Bool.{true}
-use mathlib.Core.Path.{◌≡◌, sym, ◌∙◌, subst}
-use Rattle.laws.proofs.Loops.{every_none, every_more}
-use Rattle.laws.specs.Sums.{every}
+use mathlib.Core.Path.{◌≡◌, sym, ◌∙◌}
+use mathlib.Core.Bool.{true, false}
+use lib.ListN.{take}
+use lib.Seq.{get_or-take, length-take-le}
+use borrow.Author.Tests.{tests}
+use Rattle.std.proofs.Common.{rules}
+use Rattle.std.proofs.lemmas.Iterator.{cases_from_any, YieldsList-from_slice}
+use Rattle.station.specs.declared.types.Job.{Job}
+use Rattle.station.specs.Jobs.{job_in_limits}
+use Rattle.station.specs.Types.{job_in}
 use Rattle.placing.specs.method.Jobs.{within_at}
-use Rattle.placing.proofs.counts.causes.CallCauses.{outside_none, outside_one, inside}
+use Rattle.placing.proofs.Chains.{every_by_any}
+use Rattle.placing.proofs.counts.causes.CallCauses.{outside_some}
 use Rattle.placing.proofs.counts.causes.jobs_outside.Goals as goal
 
-pub returns-then-n-eq0 : goal.returns-then-n-eq0
-returns-then-n-eq0 c = sym (outside_none c.args.jobs c.well_formed.0.1.0.1 c.args.n (omega arith) c.if-n-eq0.true)
-
-pub loop-i-init : goal.loop-i-init
-loop-i-init c = (omega arith, omega arith, omega arith, every_none _)
-
-pub offset_bounds-jobs-i : goal.offset_bounds-jobs-i
-offset_bounds-jobs-i c = omega arith
-
-pub bounds-jobs-i : goal.bounds-jobs-i
-bounds-jobs-i c = omega arith
-
-pub returns-then-not-job_in_limits : goal.returns-then-not-job_in_limits
-returns-then-not-job_in_limits c = sym (outside_one c.args.jobs c.well_formed.0.1.0.1 c.args.n (omega arith) c.loop-i.i (omega arith)
-    (sym c.job_in_limits.ensures ∙ c.if-not-job_in_limits.true))
-
-pub overflow_add-i : goal.overflow_add-i
-overflow_add-i c = omega arith
-
-pub loop-i-smaller : goal.loop-i-smaller
-loop-i-smaller c = omega arith
-
-pub loop-i-preserved : goal.loop-i-preserved
-loop-i-preserved c = let l = c.loop-i in (
-  omega arith,
-  omega arith,
-  omega arith,
-  every_more l.i (within_at c.args.jobs) l.invariant.3
-      (sym c.job_in_limits.ensures ∙ c.if-not-job_in_limits.false),
-)
-
-pub returns : goal.returns
-returns c = let e : c.loop-i.i ≡ c.args.n = omega arith in
-    sym (inside c.args.jobs c.well_formed.0.1.0.1 c.args.n (omega arith) (omega arith)
-    (subst (λ (k : ℕ). every k (within_at c.args.jobs) ≡ true) e c.loop-i.invariant.3))
+pub returns-else-call-eq0 : goal.returns-else-call-eq0
+returns-else-call-eq0 c =
+    let js = c.args.call.jobs in
+    let n = c.args.call.count in
+    let none : Job = record { number = 0; slots = 0 } in
+    let within : Job → Type 0 = λ x. job_in_limits (job_in x) ≡ true in
+    let outside : Job → Type 0 = λ x. job_in_limits (job_in x) ≡ false in
+    every_by_any none within outside (take n js) n (length-take-le n js (omega (arith, c))) (within_at js)
+    (λ k l q. rw (get_or-take n js k none l) at q)
+    (λ k l q. rw (get_or-take n js k none l) at q)
+    _ (cases_from_any _ _ _ outside within c.any.ensures.ran (YieldsList-from_slice (take n js) cc)
+    (λ x q k. search (rules, tests)) (λ x q k. search (rules, tests)))
+    ∙ sym (outside_some js (omega (arith, c)) n c.requires (omega arith))

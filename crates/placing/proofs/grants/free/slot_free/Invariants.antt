@@ -1,11 +1,7 @@
--- `grants::free::slot_free` meets its contract. The invariant: the mask is that of the bridges passed, from the last one on. Assumes nothing.
-use Prim.Native.Nat.{◌≤◌, ◌-◌, ◌<◌}
+-- The mask is that of the bridges passed.
 use mathlib.Core.Path.{◌≡◌}
-use Rattle.placing.proofs.grants.Arrays.{free_number_from}
+use Rattle.placing.specs.method.Grants.{free_mask}
 use Rattle.placing.proofs.grants.free.slot_free.Given as goal
 
 abbrev pub invariant-loop-b : goal.invariant-loop-b
-invariant-loop-b l = (l.b ≤ l.bridges) × (l.bridges ≤ 8) × (l.s < 64) × (l.mask ≡ free_number_from l.busy l.s l.b (l.bridges - l.b))
-
-abbrev pub decreases-loop-b : goal.decreases-loop-b
-decreases-loop-b l = l.b
+invariant-loop-b l = l.mask ≡ free_mask l.busy l.b l.s

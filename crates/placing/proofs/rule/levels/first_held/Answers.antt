@@ -5,7 +5,7 @@ use mathlib.Core.Bool.{Bool, ◌||◌}
 use Rattle.laws.specs.Sums.{count}
 use Rattle.station.specs.Head.{has_bit}
 use Rattle.placing.specs.method.Rule.{without, first_few}
-use Rattle.placing.proofs.rule.masks.Sets.{has_bit_or}
+use Rattle.placing.proofs.rule.Sets.{has_bit_or}
 use Rattle.placing.proofs.rule.levels.FirstHeld.{held_first, held_count}
 use Rattle.placing.proofs.rule.levels.first_held.Goals as goal
 

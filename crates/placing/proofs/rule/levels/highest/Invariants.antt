@@ -2,11 +2,7 @@
 use Prim.Native.Nat.{ℕ, ◌≤◌, ◌<◌}
 use mathlib.Core.Path.{◌≡◌}
 use Rattle.laws.specs.Lists.{at}
-use Rattle.placing.specs.method.Rule.{without}
 use Rattle.placing.proofs.rule.levels.highest.Given as goal
 
 abbrev pub invariant-loop-l : goal.invariant-loop-l
-invariant-loop-l l = (l.l ≤ l.from) × ((q : ℕ) → l.l < q → q ≤ l.from → without (at l.levels q) l.served ≡ 0)
-
-abbrev pub decreases-loop-l : goal.decreases-loop-l
-decreases-loop-l l = l.l
+invariant-loop-l l = (q : ℕ) → l.l < q → q ≤ l.from → at l.levels q ≡ 0

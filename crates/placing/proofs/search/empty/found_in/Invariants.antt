@@ -1,11 +1,9 @@
--- `search::empty::found_in` meets its contract: the mask is that of the cells passed, and of the first bridges in the end; of these the held ones are counted. Assumes nothing.
-use Prim.Native.Nat.{◌-◌, ◌≤◌, min}
+-- `search::empty::found_in` meets its contract: the mask is that of the cells passed, and of the
+-- first bridges in the end; of these the held ones are counted. Assumes nothing.
+use Prim.Native.Nat.{◌≤◌, min}
 use mathlib.Core.Path.{◌≡◌}
 use Rattle.placing.specs.method.Search.{empty_mask, held_from}
 use Rattle.placing.proofs.search.empty.found_in.Given as goal
 
 abbrev pub invariant-loop-b : goal.invariant-loop-b
-invariant-loop-b l = (l.b ≤ 8) × (l.mask ≡ empty_mask l.table l.from l.b) × (l.held ≤ l.b) × (l.held ≡ held_from l.table l.from (min l.b l.bridges))
-
-abbrev pub decreases-loop-b : goal.decreases-loop-b
-decreases-loop-b l = 8 - l.b
+invariant-loop-b l = (l.mask ≡ empty_mask l.table l.from l.b) × (l.held ≤ l.b) × (l.held ≡ held_from l.table l.from (min l.b l.bridges))
