@@ -11,6 +11,7 @@ use mathlib.Core.Option.{Option, none, some}
 use mathlib.Core.List.{List, [], ◌∷◌, ◌++◌, map}
 use lib.ListN.{length, take, drop, length-map, length-append, length-drop}
 use lib.Dec.{ltb, leb}
+use Rattle.std.specs.Prelude.{Result, Ok, Err}
 use Rattle.laws.proofs.Tests.{Is, is, is_true, is_false, both, true_of_not}
 use Rattle.laws.proofs.Comparisons.{lt_of, ge_of, ltb_no, leb_yes}
 use Rattle.station.specs.Head.{Head, Job, valid}
@@ -18,6 +19,7 @@ use Rattle.station.specs.Refusal.{Refusal, out_of_limits, too_short, first_of}
 use Rattle.station.specs.Types.{head_in, valid_record}
 use Rattle.station.specs.declared.types.Preset as record-of-preset
 use Rattle.station.specs.declared.types.Head as record-of-head
+use Rattle.station.specs.declared.types.Refusal as cause
 use Rattle.station.specs.declared.types.Refusal.TheVariants.{TooShort}
 use Rattle.station.specs.ReadHead.{head_record, record_of, records_over}
 use Rattle.station.proofs.Theorems.{first_none, passed, of_valid, head_back}
@@ -25,20 +27,16 @@ use Rattle.placing.specs.State.{State, state_of, with_table}
 use Rattle.placing.specs.Claims.{Running}
 use Rattle.placing.specs.Outcomes.{PlanAnswer, PlanOutcome, plan_of, CallOutcome, call_of}
 use Rattle.placing.specs.PlanDone.{plan_meant, replied_in, PlanDone}
-use Rattle.placing.specs.declared.plan.Planned as planned
-use Rattle.placing.specs.declared.plan.PlanAnswer.TheVariants.{Granted}
-use Rattle.placing.specs.declared.plan.PlanAnswer.TheVariants as plan-answer
 use Rattle.placing.specs.Causes.{causes_of, frame_causes_of, call_jobs}
-use Rattle.placing.specs.declared.call.CallAnswer as reply
+use Rattle.station.specs.declared.types.Refusal as cause
 use Rattle.placing.specs.CallDone.{call_answer_in, call_meant}
 use Rattle.placing.specs.Entries.{PlanEntered, CallEntry}
 use Rattle.placing.proofs.Theorems.{causes_none, frame_running, running_frame}
-use Rattle.frame.specs.declared.text.TextAnswer as result-text
-use Rattle.frame.specs.declared.types.Outcome as result
+use Rattle.frame.specs.Types as result
 use Rattle.frame.specs.Event.{Event, line, clock, call, Answer, answer_of, Outcome, event_of, Run, run_of}
 use Rattle.frame.specs.Text.{Whole, ran, start_of, events_of}
 use Rattle.frame.specs.TextDone.{whole_with_output, head_after, presets_after, table_after, clock_after, hold_after}
-use Rattle.frame.specs.TextEntry.{whole_on_slice, TextEntry}
+use Rattle.frame.specs.TextEntry.{whole_on_slice, TextAnswer, TextEntry}
 use Rattle.frame.specs.Types.{answer_in}
 use Rattle.frame.specs.EventEntry.{event_on_slice, EventEntry}
 use Rattle.frame.specs.HandedOver.{LetPass, Handed, no_more, by_event, by_set_clock, by_call, HandedClaim}
@@ -72,7 +70,7 @@ module _ (head : record-of-head.Head) (ps : List record-of-preset.Preset) where
         rw (p.done.table, p.done.clock, p.done.hold) left,
       )
 
-  call_step : 32 ≤ length ps → valid_record head ps ≡ true → (st : State) (jobs : List Job) {u : List ℕ} {r : reply.CallAnswer} → Running h st → CallEntry head ps jobs st u r → Step st (call jobs) (answer_of (call_answer_in r)) (state_of u st.clock st.hold)
+  call_step : 32 ≤ length ps → valid_record head ps ≡ true → (st : State) (jobs : List Job) {u : List ℕ} {r : Result ℕ cause.Refusal} → Running h st → CallEntry head ps jobs st u r → Step st (call jobs) (answer_of (call_answer_in r)) (state_of u st.clock st.hold)
   unfolding call_meant
   call_step long v st jobs run p =
       let d = p.done.done long in
@@ -115,10 +113,10 @@ handed_over {head} {ps} {st} {end} {es} {answers} start handed =
 -- ---- what the list may start from
 
 -- "It starts from an accepted head with its plan and the first clock": where `plan` granted, its contract being the premise.
-pub plan_lets_pass : {head : record-of-head.Head} {ps : List record-of-preset.Preset} {t t₁ : List ℕ} {r : planned.Planned} → PlanEntered (length ps) head ps t t₁ r
-    → r.answer ≡ Granted → LetPass head ps (start_of (head_in head ps) t₁)
+pub plan_lets_pass : {head : record-of-head.Head} {ps : List record-of-preset.Preset} {t t₁ grants : List ℕ} {r : Result (List ℕ) cause.Refusal} → PlanEntered (length ps) head ps t t₁ r
+    → r ≡ Ok grants → LetPass head ps (start_of (head_in head ps) t₁)
 unfolding plan_meant
-plan_lets_pass {head} {ps} {t} {t₁} {r} p e = go (is (ltb (length ps) 32))
+plan_lets_pass {head} {ps} {t} {t₁} {grants} {r} p e = go (is (ltb (length ps) 32))
   where
     h : Head
     h = head_in head ps
@@ -127,22 +125,22 @@ plan_lets_pass {head} {ps} {t} {t₁} {r} p e = go (is (ltb (length ps) 32))
     made : (o : Option Refusal) → first_of (causes_of head ps t) ≡ o → PlanDone head ps t t₁ r → (valid_record head ps ≡ true) × Running h (start_of h t₁)
     made none q d =
         let meant : plan_meant head ps t ≡ plan_of h t = rw (q, plan_meant) refl in
-        let granted : (plan_of h t).answer ≡ PlanAnswer.granted (take head.count r.grants) =
-        ap (λ (o : PlanOutcome). o.answer) (sym meant) ∙ sym d.answer ∙ ap (replied_in (take head.count r.grants)) e in
+        let granted : (plan_of h t).answer ≡ PlanAnswer.granted (take head.count grants) =
+        ap (λ (o : PlanOutcome). o.answer) (sym meant) ∙ sym d.answer ∙ ap (replied_in head.count) e in
         let two = first_none out_of_limits (not (valid_record head ps)) [] (first_none too_short (ltb (length t) 512) _ q).1 in (
           true_of_not _ two.0,
-          subst (λ (u : List ℕ). Running h (start_of h u)) (sym (d.table ∙ ap (λ (o : PlanOutcome). o.table) meant)) (planned_running h t (take head.count r.grants) granted),
+          subst (λ (u : List ℕ). Running h (start_of h u)) (sym (d.table ∙ ap (λ (o : PlanOutcome). o.table) meant)) (planned_running h t (take head.count grants) granted),
         )
     made (some c) q d =
         let meant : plan_meant head ps t ≡ record { answer = PlanAnswer.refused 0 c; table = t } = rw (q, plan_meant) refl in
-        let two-answers : PlanAnswer.granted (take head.count r.grants) ≡ PlanAnswer.refused 0 c =
-        sym (ap (replied_in (take head.count r.grants)) e) ∙ d.answer ∙ ap (λ (o : PlanOutcome). o.answer) meant in
+        let two-answers : PlanAnswer.granted (take head.count grants) ≡ PlanAnswer.refused 0 c =
+        sym (ap (replied_in head.count) e) ∙ d.answer ∙ ap (λ (o : PlanOutcome). o.answer) meant in
         absurd (let z : ◌≡◌ {A = ℕ} 0 1 = cc in omega arith)
 
     go : Is (ltb (length ps) 32) → LetPass head ps (start_of h t₁)
     go (is_true l) =
         let short = (p.short (lt_of (length ps) 32 l)).0 in
-        let two-answers : Granted ≡ plan-answer.Refused 0 TooShort = sym e ∙ ap (λ (x : planned.Planned). x.answer) short in
+        let two-answers : ◌≡◌ {A = Result (List ℕ) cause.Refusal} (Ok grants) (Err TooShort) = sym e ∙ short in
         absurd (let z : ◌≡◌ {A = ℕ} 0 1 = cc in omega arith)
     go (is_false l) =
         let long = ge_of (length ps) 32 l in
@@ -151,7 +149,7 @@ plan_lets_pass {head} {ps} {t} {t₁} {r} p e = go (is (ltb (length ps) 32))
 
 -- A text that `run_text` ran, its contract being the first premise.
 module _ {text : List ℕ} {head : record-of-head.Head} {ps : List record-of-preset.Preset} {t : List ℕ} {clock : ℕ} {hold : Bool} {out : List ℕ} {ps₁ : List record-of-preset.Preset}
-    {t₁ out₁ : List ℕ} {r : result-text.TextAnswer} (p : TextEntry text head ps t clock hold out ps₁ t₁ out₁ r) {h : Head} {n : ℕ} {g : List ℕ} {x : Run}
+    {t₁ out₁ : List ℕ} {r : TextAnswer} (p : TextEntry text head ps t clock hold out ps₁ t₁ out₁ r) {h : Head} {n : ℕ} {g : List ℕ} {x : Run}
     (e : whole_on_slice (length ps) text t out ≡ ran h n g x) where
   -- the list has 32 records or more, and the text came to the same beside the output
   enough : (32 ≤ length ps) × (whole_with_output text t out ≡ ran h n g x)

@@ -15,6 +15,7 @@ use mathlib.Core.Option.{Option, none, some}
 use mathlib.Core.List.{List, [], ◌∷◌, ◌++◌, map}
 use native.Mathlib.Omega.{arith}
 use lib.ListN.{length, take, replicate}
+use Rattle.std.specs.Prelude.{Ok}
 use Rattle.laws.proofs.Tests.{none_some}
 use Rattle.station.specs.Head.{Head, Job, with_supply}
 use Rattle.station.specs.Refusal.{number_of, no_form, out_of_limits, out_of_place, number_used, clock_back, call_not_feasible, too_short, too_many, text_too_long, not_well_formed}
@@ -432,10 +433,10 @@ pub lines_answered : ((listing_meant (replicate 32769 10) [] []).answer ≡ writ
     × ((listing_meant [] (replicate 511 0) (replicate 8192 0)).answer ≡ write.refused 0 too_short)
     × ((listing_meant [] blank (replicate 8192 0)).answer ≡ write.written 14)
     -- the line of an answer and of a grant: 8 for the output
-    × ((answer_written 0 (reply.Now 1) (replicate 8192 0)).answer ≡ write.written 8)
-    × ((answer_written 0 (reply.Now 1) (replicate 8191 0)).answer ≡ write.refused 0 too_short)
-    × ((answer_written 0 (reply.Tie true) (replicate 8192 0)).answer ≡ write.written 11)
-    × ((answer_written 0 (reply.Tie false) (replicate 8192 0)).answer ≡ write.written 12)
+    × ((answer_written 0 (Ok (reply.Now 1)) (replicate 8192 0)).answer ≡ write.written 8)
+    × ((answer_written 0 (Ok (reply.Now 1)) (replicate 8191 0)).answer ≡ write.refused 0 too_short)
+    × ((answer_written 0 (Ok (reply.Tie true)) (replicate 8192 0)).answer ≡ write.written 11)
+    × ((answer_written 0 (Ok (reply.Tie false)) (replicate 8192 0)).answer ≡ write.written 12)
     × ((grant_written 1 2 (replicate 8192 0)).answer ≡ write.written 14)
     × ((grant_written 1 2 (replicate 8191 0)).answer ≡ write.refused 0 too_short)
     -- a slot's line: 8, the head record's 2, 11, then 2 for the slot, from 1 to S

@@ -9,7 +9,7 @@ use Rattle.station.specs.declared.types.Preset as record-of-preset
 use Rattle.station.specs.declared.types.Head as record-of-head
 use Rattle.placing.specs.State.{State}
 use Rattle.placing.specs.Causes.{causes_of}
-use Rattle.frame.specs.declared.types.Outcome as result
+use Rattle.frame.specs.Types as result
 use Rattle.frame.specs.Event.{Event, refused, Outcome, event_of}
 use Rattle.frame.specs.Types.{answer_in}
 

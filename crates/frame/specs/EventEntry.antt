@@ -12,7 +12,7 @@ use Rattle.station.specs.declared.types.Preset as record-of-preset
 use Rattle.station.specs.declared.types.Head as record-of-head
 use Rattle.placing.specs.State.{State, state_of}
 use Rattle.placing.specs.Claims.{Running}
-use Rattle.frame.specs.declared.types.Outcome as result
+use Rattle.frame.specs.Types as result
 use Rattle.frame.specs.Event.{Event, refused, Outcome}
 use Rattle.frame.specs.Demands.{Demand3}
 use Rattle.frame.specs.Types.{answer_in}

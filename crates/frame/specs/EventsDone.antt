@@ -4,7 +4,7 @@
 -- In order: the causes (`events_causes`); the outcome that they decide (`events_meant`); what is answered and left (`EventsLeft`), what is claimed (`EventsClaim`), and the promise
 -- (`EventsEntry`).
 -- Assumes nothing.
-use Rattle.std.specs.Prelude.{ℕ, suc, ◌≤◌, ◌<◌, ◌≡◌, List, ◌∷◌, length, ltb}
+use Rattle.std.specs.Prelude.{ℕ, suc, ◌≤◌, ◌<◌, ◌≡◌, Bool, List, ◌∷◌, length, ltb, Result}
 use Rattle.std.proofs.Math.Option.{Option, none, some}
 use Rattle.std.proofs.lemmas.List.Edits.{sets}
 use Rattle.station.specs.Refusal.{Refusal, too_short, text_too_long, try, first_of}
@@ -12,10 +12,11 @@ use Rattle.station.specs.Types.{head_in}
 use Rattle.station.specs.Wrote.{moved}
 use Rattle.station.specs.declared.types.Preset as record-of-preset
 use Rattle.station.specs.declared.types.Head as record-of-head
+use Rattle.station.specs.declared.types.Fault.{Fault}
+use Rattle.placing.specs.declared.moment.Moment.{Moment}
 use Rattle.placing.specs.State.{State, state_of}
 use Rattle.placing.specs.Causes.{frame_causes_of}
 use Rattle.placing.specs.Claims.{Running}
-use Rattle.frame.specs.declared.events.EventsAnswer as result
 use Rattle.frame.specs.Event.{Event, Run, run_of}
 use Rattle.frame.specs.Text.{events_of}
 use Rattle.frame.specs.Listing.{answer_lines}
@@ -55,8 +56,17 @@ events_meant n head ps st text out =
       | some r ↦ record { ended = refused_at 0 r; after = st; output = out }
     ]
 
+-- what the events leave beside the table and the output: the code's answer, and the clock and the order of ties afterwards
+pub record EventsAnswer : Type 0 where
+  pub ended : Result ℕ Fault
+  pub clock : ℕ
+  pub hold : Bool
+
+abbrev pub events_answer : Result ℕ Fault → Moment → EventsAnswer
+events_answer a m = record { ended = a; clock = m.clock; hold = m.hold }
+
 -- The code answers r and leaves the table t₁ and the output out₁, as the outcome o says.
-pub record EventsLeft (o : EventsOutcome) (t₁ out₁ : List ℕ) (r : result.EventsAnswer) : Type 0 where
+pub record EventsLeft (o : EventsOutcome) (t₁ out₁ : List ℕ) (r : EventsAnswer) : Type 0 where
   pub ended : end_in r.ended ≡ o.ended
   pub table : t₁ ≡ o.after.table
   pub clock : r.clock ≡ o.after.clock
@@ -64,7 +74,7 @@ pub record EventsLeft (o : EventsOutcome) (t₁ out₁ : List ℕ) (r : result.E
   pub output : out₁ ≡ o.output
 
 -- What is claimed of it, whatever the frame, the text and the output are.
-pub record EventsClaim (n : ℕ) (head : record-of-head.Head) (ps : List record-of-preset.Preset) (st : State) (text out t₁ : List ℕ) (r : result.EventsAnswer) : Type 0 where
+pub record EventsClaim (n : ℕ) (head : record-of-head.Head) (ps : List record-of-preset.Preset) (st : State) (text out t₁ : List ℕ) (r : EventsAnswer) : Type 0 where
   -- "any sound table and clock that 11 lets pass": the lines are run
   pub runs : length text ≤ most_bytes → least_records ≤ n → least_output ≤ length out → first_of (frame_causes_of head ps st) ≡ none
       → events_meant n head ps st text out ≡ answers_written (run_of (head_in head ps) st (all_events text)) out
@@ -80,6 +90,6 @@ pub record EventsClaim (n : ℕ) (head : record-of-head.Head) (ps : List record-
   pub demand3 : Running (head_in head ps) st → Demand3 (head_in head ps) st (all_events text)
 
 -- What `run_events` answers and leaves, and what is claimed of it. Of the list no record is changed.
-pub record EventsEntry (head : record-of-head.Head) (ps : List record-of-preset.Preset) (st : State) (text out t₁ out₁ : List ℕ) (r : result.EventsAnswer) : Type 0 where
+pub record EventsEntry (head : record-of-head.Head) (ps : List record-of-preset.Preset) (st : State) (text out t₁ out₁ : List ℕ) (r : EventsAnswer) : Type 0 where
   pub done : EventsLeft (events_meant (length ps) head ps st text out) t₁ out₁ r
   pub claim : EventsClaim (length ps) head ps st text out t₁ r

@@ -3,7 +3,7 @@
 --
 -- In order: what the list starts from (`LetPass`); the list, each call of an entry by its contract (`Handed`); what is claimed of it (`HandedClaim`).
 -- Assumes nothing.
-use Rattle.std.specs.Prelude.{ℕ, ◌≡◌, List, [], ◌∷◌, length, ltb}
+use Rattle.std.specs.Prelude.{ℕ, ◌≡◌, List, [], ◌∷◌, length, ltb, Result}
 use Rattle.std.proofs.Math.Option.{none}
 use Rattle.station.specs.Head.{Head}
 use Rattle.station.specs.Refusal.{too_short, try, first_of}
@@ -12,10 +12,10 @@ use Rattle.station.specs.declared.types.Preset as record-of-preset
 use Rattle.station.specs.declared.types.Head as record-of-head
 use Rattle.placing.specs.State.{State, state_of}
 use Rattle.placing.specs.Causes.{frame_causes_of, call_jobs}
-use Rattle.placing.specs.declared.call.CallAnswer as reply
+use Rattle.station.specs.declared.types.Refusal as cause
 use Rattle.placing.specs.CallDone.{call_answer_in}
 use Rattle.placing.specs.Entries.{CallEntry}
-use Rattle.frame.specs.declared.types.Outcome as result
+use Rattle.frame.specs.Types as result
 use Rattle.frame.specs.Event.{Event, line, clock, call, Answer, answer_of, run_of}
 use Rattle.frame.specs.Types.{answer_in}
 use Rattle.frame.specs.Demands.{Demand3}
@@ -37,7 +37,7 @@ pub data Handed (head : record-of-head.Head) (ps : List record-of-preset.Preset)
   by_set_clock : {st end : State} {t : ℕ} {r : result.Outcome} {es : List Event} {answers : List Answer} → EventEntry head ps st (clock t) st.table r
       → Handed head ps (state_of st.table r.clock r.hold) es answers end → Handed head ps st (clock t ∷ es) (answer_in r.answer ∷ answers) end
   -- the first n of eight jobs to `call`, which left the table u
-  by_call : {st end : State} (n : ℕ) (js : List record-of-job.Job) {u : List ℕ} {r : reply.CallAnswer} {es : List Event} {answers : List Answer} → CallEntry head ps (call_jobs n js) st u r
+  by_call : {st end : State} (n : ℕ) (js : List record-of-job.Job) {u : List ℕ} {r : Result ℕ cause.Refusal} {es : List Event} {answers : List Answer} → CallEntry head ps (call_jobs n js) st u r
       → Handed head ps (state_of u st.clock st.hold) es answers end → Handed head ps st (call (call_jobs n js) ∷ es) (answer_of (call_answer_in r) ∷ answers) end
 
 -- What is claimed of it: "one claim about the whole list". That it holds of every list handed over from such a start is `handed_over` in proofs/HandedOver.antt.

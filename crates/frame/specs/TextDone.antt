@@ -4,7 +4,7 @@
 -- In order: what a text comes to beside a lent output; what is answered and left of each lent thing; the promise `TextDone`, and what is claimed of a text
 -- that runs (`TextClaim`).
 -- Assumes nothing.
-use Rattle.std.specs.Prelude.{ℕ, ◌≤◌, ◌<◌, ◌≡◌, Bool, List, [], ◌∷◌, length, ltb}
+use Rattle.std.specs.Prelude.{ℕ, ◌≤◌, ◌<◌, ◌≡◌, Bool, List, [], ◌∷◌, length, ltb, Result, Ok, Err}
 use Rattle.std.proofs.Math.Option.{none, some}
 use Rattle.std.proofs.lemmas.List.Edits.{sets}
 use Rattle.station.specs.Limits.{most_bytes, least_output}
@@ -15,11 +15,10 @@ use Rattle.station.specs.ReadHead.{head_record, records_over}
 use Rattle.station.specs.Wrote.{moved}
 use Rattle.station.specs.declared.types.Preset as record-of-preset
 use Rattle.station.specs.declared.types.Head as record-of-head
+use Rattle.station.specs.declared.types.Fault.{Fault}
+use Rattle.placing.specs.declared.moment.Moment.{Moment}
 use Rattle.placing.specs.Outcomes.{plan_of}
 use Rattle.placing.specs.Claims.{PlanClaim}
-use Rattle.frame.specs.declared.text.Ended as ended
-use Rattle.frame.specs.declared.text.Ended.TheVariants.{Ran, Refused}
-use Rattle.frame.specs.declared.text.TextRun as result
 use Rattle.frame.specs.Event.{Run, run_of}
 use Rattle.frame.specs.Text.{Whole, not_read, not_planned, ran, start_of, events_of, whole_of}
 use Rattle.frame.specs.Listing.{listing_of}
@@ -36,9 +35,20 @@ pub data End : Type 0 where
   listed : ℕ → End
   refused_at : ℕ → Refusal → End
 
-abbrev pub end_in : ended.Ended → End
-end_in (Ran n) = listed n
-end_in (Refused n r) = refused_at n (refusal_in r)
+abbrev pub end_in : Result ℕ Fault → End
+end_in (Ok n) = listed n
+end_in (Err f) = refused_at f.line (refusal_in f.cause)
+
+-- what a text leaves beside the table and the output: the code's answer, and the head with its presets, the clock and the order of ties afterwards
+pub record TextRun : Type 0 where
+  pub ended : Result ℕ Fault
+  pub head : record-of-head.Head
+  pub presets : List record-of-preset.Preset
+  pub clock : ℕ
+  pub hold : Bool
+
+abbrev pub text_run : Result ℕ Fault → record-of-head.Head → List record-of-preset.Preset → Moment → TextRun
+text_run a head ps m = record { ended = a; head = head; presets = ps; clock = m.clock; hold = m.hold }
 
 -- "Every answer in order": the listing, as far as the output has room for it; a refused head or plan has no listing, and its line and number are answered.
 unfoldable pub end_of : Whole → List ℕ → End
@@ -80,7 +90,7 @@ output_after (ran h n g r) out = sets out 0 (listing_of (ran h n g r))
 
 -- What `run_text_by_value` answers and leaves where the text comes to w.
 pub record Leaves (w : Whole) (given : record-of-head.Head) (ps : List record-of-preset.Preset) (t : List ℕ) (c : ℕ) (order : Bool) (out t₁ out₁ : List ℕ)
-    (r : result.TextRun) : Type 0 where
+    (r : TextRun) : Type 0 where
   pub ended : end_in r.ended ≡ end_of w out
   pub head : r.head ≡ head_after w given
   pub presets : r.presets ≡ presets_after w ps
@@ -89,7 +99,7 @@ pub record Leaves (w : Whole) (given : record-of-head.Head) (ps : List record-of
   pub hold : r.hold ≡ hold_after w order
   pub output : out₁ ≡ output_after w out
 
-abbrev pub TextDone : List ℕ → record-of-head.Head → List record-of-preset.Preset → List ℕ → ℕ → Bool → List ℕ → List ℕ → List ℕ → result.TextRun → Type 0
+abbrev pub TextDone : List ℕ → record-of-head.Head → List record-of-preset.Preset → List ℕ → ℕ → Bool → List ℕ → List ℕ → List ℕ → TextRun → Type 0
 TextDone text head ps t clock hold out t₁ out₁ r = Leaves (whole_with_output text t out) head ps t clock hold out t₁ out₁ r
 
 -- What is claimed of a text beside a table and an output, whatever they are: the three demands, of the very outcome that `run_text_by_value` answers and leaves.

@@ -3,14 +3,14 @@
 --
 -- In order: the causes; the outcome that they decide (`listing_meant`); the promises `Listed` and `ListedWhole`.
 -- Assumes nothing.
-use Rattle.std.specs.Prelude.{ℕ, ◌≡◌, List, [], ◌∷◌, length, ltb}
+use Rattle.std.specs.Prelude.{ℕ, ◌≡◌, List, [], ◌∷◌, length, ltb, Result}
 use Rattle.std.proofs.Math.Option.{Option, none, some}
 use Rattle.std.proofs.lemmas.List.Edits.{sets}
 use Rattle.station.specs.Limits.{most_bytes, least_cells, least_output}
 use Rattle.station.specs.Refusal.{Refusal, too_short, text_too_long, try, first_of}
 use Rattle.station.specs.Wrote.{moved}
 use Rattle.station.specs.WriteHead.{Answer, written, refused, answer_of, output_of, answer_in}
-use Rattle.station.specs.declared.write.Writing as writing
+use Rattle.station.specs.declared.types.Refusal as cause
 use Rattle.frame.specs.Text.{Whole, whole_of}
 use Rattle.frame.specs.Listing.{listing_of}
 use Rattle.frame.specs.TextDone.{table_after}
@@ -40,12 +40,12 @@ listing_meant text t out =
     ]
 
 -- What `write_listing` answers and leaves.
-pub record Listed (text t out t₁ out₁ : List ℕ) (r : writing.Writing) : Type 0 where
+pub record Listed (text t out t₁ out₁ : List ℕ) (r : Result ℕ cause.Refusal) : Type 0 where
   pub answer : answer_in r ≡ (listing_meant text t out).answer
   pub table : t₁ ≡ (listing_meant text t out).table
   pub output : out₁ ≡ (listing_meant text t out).output
 
 -- What it answers and leaves of an output with room for every listing: where no cause is met, the listing is there whole, and the bytes past it are as they were.
-pub record ListedWhole (text t out out₁ : List ℕ) (r : writing.Writing) : Type 0 where
+pub record ListedWhole (text t out out₁ : List ℕ) (r : Result ℕ cause.Refusal) : Type 0 where
   pub answer : answer_in r ≡ answer_of (listing_cause text t out) (length (listing_of (whole_of text t)))
   pub output : out₁ ≡ output_of (listing_cause text t out) (listing_of (whole_of text t)) out

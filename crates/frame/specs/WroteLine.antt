@@ -1,6 +1,6 @@
 -- The entries that write one line of the listing: the answer and every byte of the output afterwards, for all inputs. Document 01, "Causes".
 -- Assumes nothing.
-use Rattle.std.specs.Prelude.{ℕ, ◌-◌, ◌≡◌, not, List, [], ◌∷◌, ◌++◌, length, ltb}
+use Rattle.std.specs.Prelude.{ℕ, ◌-◌, ◌≡◌, not, List, [], ◌∷◌, ◌++◌, length, ltb, Result}
 use Rattle.std.proofs.Math.Option.{Option}
 use Rattle.station.specs.Limits.{least_output, least_records}
 use Rattle.station.specs.Head.{within}
@@ -9,7 +9,7 @@ use Rattle.station.specs.Types.{head_in}
 use Rattle.station.specs.WriteHead.{Answer, answer_of, output_of, answer_in}
 use Rattle.station.specs.declared.types.Preset as record-of-preset
 use Rattle.station.specs.declared.types.Head as record-of-head
-use Rattle.station.specs.declared.write.Writing as writing
+use Rattle.station.specs.declared.types.Refusal as cause
 use Rattle.placing.specs.Causes.{frame_causes_of}
 use Rattle.frame.specs.declared.types.Answer as reply
 use Rattle.frame.specs.Types as types
@@ -30,7 +30,7 @@ abbrev pub output_short : List ℕ → Option Refusal
 output_short out = try too_short (ltb (length out) least_output)
 
 -- the line of an answer: "Now: the clock. Taken: refinement cells lost. Refused: line and number."
-abbrev pub answer_written : ℕ → reply.Answer → List ℕ → WriteOutcome
+abbrev pub answer_written : ℕ → Result reply.Answer cause.Refusal → List ℕ → WriteOutcome
 answer_written n a out = line_written (output_short out ∷ []) (answer_line n (types.answer_in a)) out
 
 -- the line of a grant: "preset number and slots"
@@ -47,6 +47,6 @@ abbrev pub slot_written : ℕ → record-of-head.Head → List record-of-preset.
 slot_written n head ps t s out = line_written (slot_causes n head ps t s out) (slot_line (head_in head ps) t (s - 1)) out
 
 -- What such an entry promises: its answer r and the output afterwards are those of the outcome.
-pub record WroteLine (o : WriteOutcome) (r : writing.Writing) (after : List ℕ) : Type 0 where
+pub record WroteLine (o : WriteOutcome) (r : Result ℕ cause.Refusal) (after : List ℕ) : Type 0 where
   pub answer : answer_in r ≡ o.answer
   pub output : after ≡ o.output

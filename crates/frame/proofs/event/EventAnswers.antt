@@ -13,6 +13,7 @@ use mathlib.Core.Option.{Option, none, some}
 use mathlib.Core.List.{List, [], ◌∷◌, ◌++◌}
 use lib.ListN.{length}
 use lib.Dec.{ltb, leb}
+use Rattle.std.specs.Prelude.{Result, Ok, Err}
 use Rattle.laws.specs.method.Capacities.{AtLeast}
 use Rattle.laws.proofs.Tests.{Is, is, is_true, is_false, clash, both, left_of, right_of, not_is_true, not_is_false}
 use Rattle.laws.proofs.Comparisons.{gt_of, le_of, ge_of, ltb_yes, ltb_no}
@@ -27,13 +28,11 @@ use Rattle.station.specs.declared.types.Head as record-of-head
 use Rattle.station.specs.declared.types.Refusal as refusal
 use Rattle.station.specs.declared.types.Refusal.TheVariants.{OutOfLimits, ClockBack}
 use Rattle.station.specs.declared.events.Event as read
-use Rattle.station.specs.declared.events.Event.TheVariants.{SetClock, PlaceJobs, SetTie, Fault}
-use Rattle.station.specs.declared.events.EventRead.{EventRead}
+use Rattle.station.specs.declared.events.Event.TheVariants as asks
+use Rattle.station.specs.declared.types.Call.{Call}
 use Rattle.station.proofs.Theorems.{passed, first_of_none, first_none, append_none, append_some, append_left_none}
 use Rattle.station.proofs.Theorems.{within_high, of_within}
-use Rattle.placing.specs.declared.check.Cause as cause
-use Rattle.placing.specs.declared.check.Cause.TheVariants.{Met, Passed}
-use Rattle.placing.specs.declared.call.CallAnswer as reply
+use Rattle.placing.specs.declared.counts.Counts.{Counts}
 use Rattle.placing.specs.Table.{cell}
 use Rattle.placing.specs.State.{State, state_of, with_table}
 use Rattle.placing.specs.Valid.{clock_in, job_at}
@@ -47,8 +46,9 @@ use Rattle.placing.specs.Claims.{Running}
 use Rattle.placing.proofs.Theorems.{met, jobs_inside, record_valid, eleven, frame_known, same_frame, in_limits}
 use Rattle.placing.specs.method.Counts.{CountsOf, slot_free}
 use Rattle.placing.proofs.Theorems.{clock_late, call_jobs_lem, counts_passed}
-use Rattle.frame.specs.declared.types.Answer.TheVariants.{Now, Tie, Refused}
-use Rattle.frame.specs.declared.types.Outcome as result
+use Rattle.frame.specs.declared.types.Answer as reply
+use Rattle.frame.specs.declared.types.Answer.TheVariants.{Now, Tie}
+use Rattle.frame.specs.Types as result
 use Rattle.frame.specs.Event.{Event, line, clock, call, Asked, set_clock, set_tie, place_jobs, fault, asked_by_form, asked, clock_now, refused, Outcome}
 use Rattle.frame.specs.Event.{own_causes, carried_out, comes_to, event_of}
 use Rattle.frame.specs.Types.{answer_in}
@@ -76,7 +76,7 @@ module _ (h : Head) (st : State) (a : Asked) (free : first_of (frame_causes h st
 
 -- a refusal leaves the table, the clock and the order of ties
 refused_yields : {o : Outcome} (st : State) (q : refusal.Refusal) → o ≡ stopped_by (refusal_in q) st
-    → Yields o st.table (record { answer = Refused 0 q; clock = st.clock; hold = st.hold })
+    → Yields o st.table (record { answer = Err q; clock = st.clock; hold = st.hold })
 refused_yields st q e =
     record {
       answer = sym (ap (λ (o : Outcome). o.answer) e);
@@ -128,17 +128,17 @@ module _ (slots c t : ℕ) where
   unfolding clock_answer clock_after
   clock_moved e = (rw (e, clock_answer) refl, rw (e, clock_after) refl)
 
-  clock_refused : (hold : Bool) (q : refusal.Refusal) → first_of (clock_causes slots c t) ≡ some (refusal_in q) → ClockDone slots c hold t (record { answer = Refused 0 q; clock = c; hold = hold })
+  clock_refused : (hold : Bool) (q : refusal.Refusal) → first_of (clock_causes slots c t) ≡ some (refusal_in q) → ClockDone slots c hold t (record { answer = Err q; clock = c; hold = hold })
   clock_refused hold q e = let z = clock_stopped (refusal_in q) e in record { answer = sym z.0; clock = sym z.1; hold = refl }
 
-  pub clock_out : (hold : Bool) → clock_in slots t ≡ false → ClockDone slots c hold t (record { answer = Refused 0 OutOfLimits; clock = c; hold = hold })
+  pub clock_out : (hold : Bool) → clock_in slots t ≡ false → ClockDone slots c hold t (record { answer = Err OutOfLimits; clock = c; hold = hold })
   clock_out hold e = clock_refused hold OutOfLimits (clock_outside e)
 
   module _ (hold : Bool) (inside : clock_in slots t ≡ true) where
-    pub clock_below : t < c → ClockDone slots c hold t (record { answer = Refused 0 ClockBack; clock = c; hold = hold })
+    pub clock_below : t < c → ClockDone slots c hold t (record { answer = Err ClockBack; clock = c; hold = hold })
     clock_below l = clock_refused hold ClockBack (clock_before inside l)
 
-    pub clock_set_lem : c ≤ t → ClockDone slots c hold t (record { answer = Now t; clock = t; hold = hold })
+    pub clock_set_lem : c ≤ t → ClockDone slots c hold t (record { answer = Ok (Now t); clock = t; hold = hold })
     clock_set_lem l = let z = clock_moved (clock_after_lem inside l) in record { answer = sym z.0; clock = sym z.1; hold = refl }
 
 -- the clock that is left is not below the present one
@@ -154,14 +154,16 @@ clock_onward slots c t = go (first_of (clock_causes slots c t)) refl
     go (some r) e = let z = (clock_stopped slots c t r e).1 in omega (arith, z)
 
 -- so the counts are those of the clock that is left, where its slots are taken off
-pub clock_counts : (head : record-of-head.Head) (ps : List record-of-preset.Preset) (n : ℕ) (st : State) {r : result.Outcome} {marks xs ys : List ℕ} {admitted : ℕ}
-    → ClockDone head.slots st.clock st.hold n r → valid_record head ps ≡ true → Running (head_in head ps) st → CountsOf (head_in head ps) st.clock (cell (head_in head ps) st.table) marks admitted xs
+pub clock_counts : (head : record-of-head.Head) (ps : List record-of-preset.Preset) (n : ℕ) (st : State) {r : result.Outcome} {before after : Counts}
+    → ClockDone head.slots st.clock st.hold n r → valid_record head ps ≡ true → Running (head_in head ps) st → CountsOf (head_in head ps) st.clock (cell (head_in head ps) st.table) before
+    → (after.used ≡ before.used) × (after.admitted ≡ before.admitted)
     → (sizes_in_limits head.slots head.bridges 0 (length st.table) ≡ true → st.clock ≤ r.clock
-    → AtLeast xs head.slots (slot_free st.table head.bridges (motors_in head) st.clock) → AtLeast ys head.slots (slot_free st.table head.bridges (motors_in head) r.clock))
-    → CountsOf (head_in head ps) r.clock (cell (head_in head ps) st.table) marks admitted ys
-clock_counts head ps n st {r} d v run was passed =
+    → AtLeast before.at_least head.slots (slot_free st.table head.bridges (motors_in head) st.clock)
+    → AtLeast after.at_least head.slots (slot_free st.table head.bridges (motors_in head) r.clock))
+    → CountsOf (head_in head ps) r.clock (cell (head_in head ps) st.table) after
+clock_counts head ps n st {r} d v run was kept passed =
     let valid = record_valid head ps v in
-    counts_passed (head_in head ps) st.clock r.clock st.table was
+    counts_passed (head_in head ps) st.clock r.clock st.table was kept
     (passed (in_limits head.slots head.bridges 0 (length st.table) valid.slots_high valid.bridges_high (omega arith) run.long)
     (omega (arith, d.clock, clock_onward head.slots st.clock n)))
 
@@ -169,13 +171,9 @@ clock_counts head ps n st {r} d v run was passed =
 
 module _ (head : record-of-head.Head) (ps : List record-of-preset.Preset) (st : State) where
   -- what was read of a line, and what that comes to
-  line_yields : (l : List ℕ) {x : EventRead} {v : read.Event} {u : List ℕ} {r : result.Outcome} → x ≡ event_in (form l) → x.event ≡ v
-      → Yields (line_outcome head ps st (asked_in v x.jobs)) u r → Yields (line_meant head ps st l) u r
-  line_yields l {x} {v} e m y =
-      yields_same
-      (ap (λ (z : EventRead). line_outcome head ps st (asked_in z.event z.jobs)) (sym e)
-      ∙ ap (λ (w : read.Event). line_outcome head ps st (asked_in w x.jobs)) m)
-      y
+  line_yields : (l : List ℕ) {x y : Result read.Event refusal.Refusal} {u : List ℕ} {r : result.Outcome} → x ≡ event_in (form l) → x ≡ y
+      → Yields (line_outcome head ps st (asked_in y)) u r → Yields (line_meant head ps st l) u r
+  line_yields l e m d = yields_same (ap (λ (z : Result read.Event refusal.Refusal). line_outcome head ps st (asked_in z)) (sym e ∙ m)) d
 
   clock_yields : {n : ℕ} {r : result.Outcome} → ClockDone head.slots st.clock st.hold n r → Yields (line_outcome head ps st (set_clock n)) st.table r
   unfolding line_outcome
@@ -189,7 +187,7 @@ module _ (head : record-of-head.Head) (ps : List record-of-preset.Preset) (st : 
           let z = clock_stopped head.slots st.clock n q e in
           rw (e, line_outcome) (record { answer = d.answer ∙ z.0; table = refl; clock = d.clock ∙ z.1; hold = d.hold })
 
-  pub line_clock : (l : List ℕ) {x : EventRead} {n : ℕ} {r : result.Outcome} → x ≡ event_in (form l) → x.event ≡ SetClock n
+  pub line_clock : (l : List ℕ) {x : Result read.Event refusal.Refusal} {n : ℕ} {r : result.Outcome} → x ≡ event_in (form l) → x ≡ Ok (asks.Clock n)
       → ClockDone head.slots st.clock st.hold n r → Yields (line_meant head ps st l) st.table r
   line_clock l e m d = line_yields l e m (clock_yields d)
 
@@ -203,22 +201,22 @@ module _ (head : record-of-head.Head) (ps : List record-of-preset.Preset) (st : 
       go (some p) q = rw (q, call_meant) refl
 
   -- a call of the layer below, as an event
-  pub line_place : (l : List ℕ) {x : EventRead} {n : ℕ} {u : List ℕ} {a : reply.CallAnswer} {r : result.Outcome} → x ≡ event_in (form l) → x.event ≡ PlaceJobs n
-      → CallDone head ps (call_jobs n x.jobs) st u a → answer_in r.answer ≡ answer_of (call_answer_in a) → r.clock ≡ st.clock → r.hold ≡ st.hold
-      → Yields (line_meant head ps st l) u r
+  pub line_place : (l : List ℕ) {x : Result read.Event refusal.Refusal} {k : Call} {u : List ℕ} {a : Result ℕ refusal.Refusal} {y : Result reply.Answer refusal.Refusal}
+      → x ≡ event_in (form l) → x ≡ Ok (asks.Call k) → CallDone head ps (call_jobs k.count k.jobs) st u a → answer_in y ≡ answer_of (call_answer_in a)
+      → Yields (line_meant head ps st l) u (record { answer = y; clock = st.clock; hold = st.hold })
   unfolding line_outcome
-  line_place l {x} {n} e m d s k o =
-      let left = sym (meant_leaves (call_jobs n x.jobs)) in
+  line_place l {k = k} e m d s =
+      let left = sym (meant_leaves (call_jobs k.count k.jobs)) in
       line_yields l e m
-      (record { answer = s ∙ ap answer_of d.answer; table = d.table; clock = k ∙ ap (λ (z : State). z.clock) left; hold = o ∙ ap (λ (z : State). z.hold) left })
+      (record { answer = s ∙ ap answer_of d.answer; table = d.table; clock = ap (λ (z : State). z.clock) left; hold = ap (λ (z : State). z.hold) left })
 
-  pub line_tie : (l : List ℕ) {x : EventRead} {hold : Bool} → x ≡ event_in (form l) → x.event ≡ SetTie hold
-      → Yields (line_meant head ps st l) st.table (record { answer = Tie hold; clock = st.clock; hold = hold })
+  pub line_tie : (l : List ℕ) {x : Result read.Event refusal.Refusal} {hold : Bool} → x ≡ event_in (form l) → x ≡ Ok (asks.Tie hold)
+      → Yields (line_meant head ps st l) st.table (record { answer = Ok (Tie hold); clock = st.clock; hold = hold })
   unfolding line_outcome
   line_tie l e m = line_yields l e m (record { answer = refl; table = refl; clock = refl; hold = refl })
 
-  pub line_fault : (l : List ℕ) {x : EventRead} {q : refusal.Refusal} → x ≡ event_in (form l) → x.event ≡ Fault q
-      → Yields (line_meant head ps st l) st.table (record { answer = Refused 0 q; clock = st.clock; hold = st.hold })
+  pub line_fault : (l : List ℕ) {x : Result read.Event refusal.Refusal} {q : refusal.Refusal} → x ≡ event_in (form l) → x ≡ Err q
+      → Yields (line_meant head ps st l) st.table (record { answer = Err q; clock = st.clock; hold = st.hold })
   unfolding line_outcome
   line_fault l {x} {q} e m = line_yields l e m (refused_yields st q refl)
 
@@ -294,7 +292,7 @@ module _ (h : Head) (st : State) (free : first_of (frame_causes h st) ≡ none) 
   place_outside jobs e = met out_of_limits (jobs_outside jobs) _ e
 
   -- what a line asks for is what was read of it
-  asked_read : (f : Option Form) → h.slots ≤ 64 → comes_to h st (asked_by_form f) ≡ comes_to h st (asked_in (event_in f).event (event_in f).jobs)
+  asked_read : (f : Option Form) → h.slots ≤ 64 → comes_to h st (asked_by_form f) ≡ comes_to h st (asked_in (event_in f))
   asked_read none small = refl
   asked_read (some (frame_line s b)) small = refl
   asked_read (some (busy_line b p)) small = refl
@@ -304,7 +302,7 @@ module _ (h : Head) (st : State) (free : first_of (frame_causes h st) ≡ none) 
   asked_read (some (supply_line k)) small = refl
   asked_read (some (call_line p)) small = go (is (call_in_limits (jobs_of p)))
     where
-      go : Is (call_in_limits (jobs_of p)) → comes_to h st (place_jobs (jobs_of p)) ≡ comes_to h st (asked_in (event_in (some (call_line p))).event (event_in (some (call_line p))).jobs)
+      go : Is (call_in_limits (jobs_of p)) → comes_to h st (place_jobs (jobs_of p)) ≡ comes_to h st (asked_in (event_in (some (call_line p))))
       go (is_true e) = rw e (ap (λ (jobs : List Job). comes_to h st (place_jobs jobs)) (sym (jobs_read_lem (jobs_of p) e)))
       go (is_false e) =
           rw e
@@ -320,7 +318,7 @@ module _ (head : record-of-head.Head) (ps : List record-of-preset.Preset) (st : 
   frame_passes : first_of (frame_causes_of head ps st) ≡ none → first_of (frame_causes (head_in head ps) st) ≡ none
   frame_passes e = sym (same_frame head ps st (record_passes e)) ∙ e
 
-  pub frame_free : {w : cause.Cause} → cause_in w ≡ first_of (frame_causes_of head ps st) → w ≡ Passed → first_of (frame_causes_of head ps st) ≡ none
+  pub frame_free : {w : Result Unit refusal.Refusal} {u : Unit} → cause_in w ≡ first_of (frame_causes_of head ps st) → w ≡ Ok u → first_of (frame_causes_of head ps st) ≡ none
   frame_free e p = sym e ∙ ap cause_in p
 
 -- ---- an event on a frame that meets no cause
@@ -360,7 +358,7 @@ module _ (head : record-of-head.Head) (ps : List record-of-preset.Preset) (st : 
 
   -- an event line comes to what the event does
   pub line_event_lem : (l : List ℕ) → line_meant head ps st l ≡ event_of h st (line l)
-  line_event_lem l = outcome_asked (asked_in (event_in (form l)).event (event_in (form l)).jobs) ∙ sym (asked_read h st free (form l) slots_small)
+  line_event_lem l = outcome_asked (asked_in (event_in (form l))) ∙ sym (asked_read h st free (form l) slots_small)
 
   pub line_done : (l : List ℕ) {u : List ℕ} {r : result.Outcome} → Yields (line_meant head ps st l) u r
       → Yields (event_of h st (line l)) u r
@@ -397,8 +395,8 @@ module _ (head : record-of-head.Head) (ps : List record-of-preset.Preset) (st : 
           let w : some p ≡ some r = sym (append_some (causes_of head ps st.table) (eleven head ps st) p q) ∙ f in
           meant_stopped r (q ∙ w)
 
-  pub frame_refused : {w : cause.Cause} (q : refusal.Refusal) → cause_in w ≡ first_of (frame_causes_of head ps st) → w ≡ Met q
-      → EventDone head ps st e st.table (record { answer = Refused 0 q; clock = st.clock; hold = st.hold })
+  pub frame_refused : {w : Result Unit refusal.Refusal} (q : refusal.Refusal) → cause_in w ≡ first_of (frame_causes_of head ps st) → w ≡ Err q
+      → EventDone head ps st e st.table (record { answer = Err q; clock = st.clock; hold = st.hold })
   frame_refused q f m = refused_yields st q (frame_stops (refusal_in q) (sym f ∙ ap cause_in m))
 
   -- none is

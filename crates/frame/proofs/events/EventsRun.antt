@@ -1,8 +1,8 @@
 -- The lines of a text without a head as events on a lent frame, law by law.
 --
 -- In order: a refusal, a law for each cause (`events_long`, `events_few`, `events_short`, `events_stopped`), and no cause: what the loop over the lines starts from (`events_start`) and
--- leaves (`events_ran`); the frame afterwards, a refusal that changes nothing, and the claim (`events_claim`); a list of 32 records or more (`events_enough`), and the first 32 by
--- value are those of the list (`events_entry`, `events_entered`).
+-- leaves (`events_ran`); the frame afterwards, a refusal that changes nothing, and the claim (`events_claim`); a list of 32 records or more (`meant_enough`), and the first 32 by
+-- value are those of the list (`events_entry`); the entry (`entry_long`, `entry_few`, `entry_enough`).
 -- Assumes nothing.
 use Prim.Native.Nat.{ℕ, ◌≤◌, ◌<◌}
 use native.Mathlib.Omega.{arith}
@@ -10,37 +10,33 @@ use mathlib.Core.Path.{◌≡◌, refl, sym, ◌∙◌, ap, subst}
 use mathlib.Core.Bool.{Bool, true, false, not, ◌&&◌}
 use mathlib.Core.Option.{Option, none, some}
 use mathlib.Core.List.{List, [], ◌∷◌}
-use lib.ListN.{length}
+use lib.ListN.{length, take}
 use lib.Dec.{ltb, leb}
+use Rattle.std.specs.Prelude.{Result, Ok, Err}
 use Rattle.laws.proofs.Comparisons.{le_of, ge_of, ltb_yes, ltb_no}
 use Rattle.station.specs.Head.{Head, valid}
 use Rattle.station.specs.Refusal.{Refusal, out_of_limits, too_short, not_well_formed, text_too_long, try, first_of}
 use Rattle.station.specs.Types.{head_in, refusal_in}
-use Rattle.station.specs.Records.{loaded}
 use Rattle.station.specs.declared.types.Preset as record-of-preset
 use Rattle.station.specs.declared.types.Head as record-of-head
 use Rattle.station.specs.declared.types.Refusal as cause
+use Rattle.station.specs.declared.types.Fault.{Fault}
+use Rattle.station.specs.ReadHead.{fault}
 use Rattle.station.specs.declared.types.Refusal.TheVariants.{TooShort, TextTooLong}
-use Rattle.station.proofs.Theorems.{passed}
-use Rattle.placing.specs.declared.check.Cause as tried
-use Rattle.placing.specs.declared.check.Cause.TheVariants.{Met, Passed}
+use Rattle.station.proofs.Theorems.{passed, head_list}
+use Rattle.placing.specs.declared.moment.Moment.{Moment}
 use Rattle.placing.specs.State.{State, state_of, well_formed_frame}
 use Rattle.placing.specs.Causes.{cause_in, frame_causes_of}
 use Rattle.placing.specs.Claims.{Running}
 use Rattle.placing.proofs.Theorems.{met, frame_running}
-use Rattle.frame.specs.declared.events.EventsAnswer as result
-use Rattle.frame.specs.declared.text.Ended.TheVariants as ends
-use Rattle.frame.specs.declared.text.lines.Lines as lines-result
 use Rattle.frame.specs.Event.{run_of}
 use Rattle.frame.specs.Demands.{state_at, event_at, EventIs}
 use Rattle.frame.specs.TextDone.{listed, refused_at, end_in}
-use Rattle.frame.specs.EventsDone.{all_events, events_causes, EventsOutcome, answers_written, events_meant, EventsLeft, EventsClaim, EventsEntry}
-use Rattle.frame.specs.method.EventsParts.{refused_events}
-use Rattle.frame.specs.method.TextLines.{LinesStart, RanLines}
+use Rattle.frame.specs.EventsDone.{all_events, events_causes, EventsOutcome, answers_written, events_meant, EventsAnswer, events_answer, EventsLeft, EventsClaim, EventsEntry}
+use Rattle.frame.specs.method.TextLines.{LinesStart, lines_answer, RanLines}
 use Rattle.frame.proofs.EventList.{outcome_at}
 use Rattle.frame.proofs.OneEvent.{event_is}
 use Rattle.frame.proofs.Demands.{demand_3}
-use Rattle.frame.proofs.event.ListOfRecords.{head_list}
 
 -- what a refusal leaves
 abbrev stopped_by : Refusal → State → List ℕ → EventsOutcome
@@ -62,35 +58,39 @@ module _ (n : ℕ) (head : record-of-head.Head) (ps : List record-of-preset.Pres
 
   -- ---- a law for each cause
 
-  refused_left : (c : cause.Refusal) {r : result.EventsAnswer} → first_of (events_causes n head ps st text out) ≡ some (refusal_in c) → r ≡ refused_events c st.clock st.hold
-      → EventsLeft (events_meant n head ps st text out) st.table out r
-  refused_left c {r} e a =
-      subst (λ (o : EventsOutcome). EventsLeft o st.table out r) (sym (meant_stopped (refusal_in c) e))
+  -- what is answered and left where the fault is f
+  abbrev refused_by : Fault → EventsAnswer
+  refused_by f = record { ended = Err f; clock = st.clock; hold = st.hold }
+
+  refused_left : (c : cause.Refusal) {f : Fault} → first_of (events_causes n head ps st text out) ≡ some (refusal_in c) → f ≡ fault 0 c
+      → EventsLeft (events_meant n head ps st text out) st.table out (refused_by f)
+  refused_left c {f} e a =
+      subst (λ (o : EventsOutcome). EventsLeft o st.table out (refused_by f)) (sym (meant_stopped (refusal_in c) e))
       (rw a (record { ended = refl; table = refl; clock = refl; hold = refl; output = refl }))
 
-  pub events_long : {r : result.EventsAnswer} → 32768 < length text → r ≡ refused_events TextTooLong st.clock st.hold → EventsLeft (events_meant n head ps st text out) st.table out r
+  pub events_long : {f : Fault} → 32768 < length text → f ≡ fault 0 TextTooLong → EventsLeft (events_meant n head ps st text out) st.table out (refused_by f)
   events_long l = refused_left TextTooLong (met text_too_long (ltb 32768 (length text)) _ (ltb_yes 32768 (length text) l))
 
   module _ (short : length text ≤ 32768) where
     after_ten : first_of (events_causes n head ps st text out) ≡ first_of (try too_short (ltb n 32) ∷ try too_short (ltb (length out) 8192) ∷ frame_causes_of head ps st)
     after_ten = passed text_too_long (ltb 32768 (length text)) _ (ltb_no 32768 (length text) short)
 
-    pub events_few : {r : result.EventsAnswer} → n < 32 → r ≡ refused_events TooShort st.clock st.hold → EventsLeft (events_meant n head ps st text out) st.table out r
+    pub events_few : {f : Fault} → n < 32 → f ≡ fault 0 TooShort → EventsLeft (events_meant n head ps st text out) st.table out (refused_by f)
     events_few l = refused_left TooShort (after_ten ∙ met too_short (ltb n 32) _ (ltb_yes n 32 l))
 
     module _ (long : 32 ≤ n) where
       after_list : first_of (events_causes n head ps st text out) ≡ first_of (try too_short (ltb (length out) 8192) ∷ frame_causes_of head ps st)
       after_list = after_ten ∙ passed too_short (ltb n 32) _ (ltb_no n 32 long)
 
-      pub events_short : {r : result.EventsAnswer} → length out < 8192 → r ≡ refused_events TooShort st.clock st.hold → EventsLeft (events_meant n head ps st text out) st.table out r
+      pub events_short : {f : Fault} → length out < 8192 → f ≡ fault 0 TooShort → EventsLeft (events_meant n head ps st text out) st.table out (refused_by f)
       events_short l = refused_left TooShort (after_list ∙ met too_short (ltb (length out) 8192) _ (ltb_yes (length out) 8192 l))
 
       module _ (room : 8192 ≤ length out) where
         after_output : first_of (events_causes n head ps st text out) ≡ first_of (frame_causes_of head ps st)
         after_output = after_list ∙ passed too_short (ltb (length out) 8192) _ (ltb_no (length out) 8192 room)
 
-        pub events_stopped : {w : tried.Cause} (c : cause.Refusal) {r : result.EventsAnswer} → cause_in w ≡ first_of (frame_causes_of head ps st) → w ≡ Met c → r ≡ refused_events c st.clock st.hold
-            → EventsLeft (events_meant n head ps st text out) st.table out r
+        pub events_stopped : {w : Result Unit cause.Refusal} (c : cause.Refusal) {f : Fault} → cause_in w ≡ first_of (frame_causes_of head ps st) → w ≡ Err c → f ≡ fault 0 c
+            → EventsLeft (events_meant n head ps st text out) st.table out (refused_by f)
         events_stopped c e m = refused_left c (after_output ∙ sym e ∙ ap cause_in m)
 
         runs : first_of (frame_causes_of head ps st) ≡ none → events_meant n head ps st text out ≡ answers_written (run_of h st (all_events text)) out
@@ -98,20 +98,20 @@ module _ (n : ℕ) (head : record-of-head.Head) (ps : List record-of-preset.Pres
 
         -- ---- no cause
 
-        pub events_ran : {w : tried.Cause} {t₁ out₁ : List ℕ} {x : lines-result.Lines} → cause_in w ≡ first_of (frame_causes_of head ps st) → w ≡ Passed
-            → RanLines h text 0 0 st out 0 t₁ out₁ x → EventsLeft (events_meant n head ps st text out) t₁ out₁ (record { ended = ends.Ran x.position; clock = x.clock; hold = x.hold })
-        events_ran {t₁ = t₁} {out₁ = out₁} {x = x} e m y =
-            subst (λ (o : EventsOutcome). EventsLeft o t₁ out₁ (record { ended = ends.Ran x.position; clock = x.clock; hold = x.hold })) (sym (runs (sym e ∙ ap cause_in m)))
+        pub events_ran : {w : Result Unit cause.Refusal} {v : Unit} {t₁ out₁ : List ℕ} {end : ℕ} {k : Moment} → cause_in w ≡ first_of (frame_causes_of head ps st) → w ≡ Ok v
+            → RanLines h text 0 0 st out 0 t₁ out₁ (lines_answer end k) → EventsLeft (events_meant n head ps st text out) t₁ out₁ (events_answer (Ok end) k)
+        events_ran {t₁ = t₁} {out₁ = out₁} {end = end} {k = k} e m y =
+            subst (λ (o : EventsOutcome). EventsLeft o t₁ out₁ (events_answer (Ok end) k)) (sym (runs (sym e ∙ ap cause_in m)))
             (record { ended = ap listed y.output.position; table = y.table; clock = y.clock; hold = y.hold; output = y.output.output })
 
-    pub events_start : {w : tried.Cause} → cause_in w ≡ first_of (frame_causes_of head ps st) → w ≡ Passed → LinesStart head ps text 0 0 st
+    pub events_start : {w : Result Unit cause.Refusal} {v : Unit} → cause_in w ≡ first_of (frame_causes_of head ps st) → w ≡ Ok v → LinesStart head ps text 0 0 st
     events_start e m =
         let passes = frame_running head ps st (sym e ∙ ap cause_in m) in
         record { valid = passes.0; running = passes.1; few = omega arith; inside = omega arith; short = short }
 
   -- ---- the claim
 
-  module _ {t₁ out₁ : List ℕ} {r : result.EventsAnswer} (d : EventsLeft (events_meant n head ps st text out) t₁ out₁ r) where
+  module _ {t₁ out₁ : List ℕ} {r : EventsAnswer} (d : EventsLeft (events_meant n head ps st text out) t₁ out₁ r) where
     left_running : Running h st → Running h (state_of t₁ r.clock r.hold)
     left_running run = go (first_of (events_causes n head ps st text out)) refl
       where
@@ -177,25 +177,28 @@ module _ (n : ℕ) (head : record-of-head.Head) (ps : List record-of-preset.Pres
   unfolding events_meant
   meant_enough l = rw (ltb_no n 32 l, events_meant) refl
 
-  pub events_enough : {t₁ out₁ : List ℕ} {r : result.EventsAnswer} → 32 ≤ n → EventsLeft (events_meant 32 head ps st text out) t₁ out₁ r → EventsLeft (events_meant n head ps st text out) t₁ out₁ r
-  events_enough {t₁} {out₁} {r} l d = subst (λ (o : EventsOutcome). EventsLeft o t₁ out₁ r) (sym (meant_enough l)) d
-
 module _ (head : record-of-head.Head) (ps : List record-of-preset.Preset) (st : State) (text out : List ℕ) where
-  meant_list : events_meant (length ps) head (loaded ps) st text out ≡ events_meant (length ps) head ps st text out
+  meant_list : events_meant (length ps) head (take 32 ps) st text out ≡ events_meant (length ps) head ps st text out
   unfolding events_meant
   meant_list =
       same_outcome st (λ k. answers_written (run_of k st (all_events text)) out) (λ r. stopped_by r st out) (leb head.count 32) (ltb (length ps) 32) (ltb 32768 (length text)) (ltb (length out) 8192)
-      (ltb (length st.table) 512) (head_in head (loaded ps)) (head_in head ps) (λ s few. head_list head ps (le_of head.count 32 few) (ge_of (length ps) 32 s))
+      (ltb (length st.table) 512) (head_in head (take 32 ps)) (head_in head ps) (λ s few. head_list head ps (le_of head.count 32 few))
 
-  pub events_entry : {t₁ out₁ : List ℕ} {r : result.EventsAnswer} → EventsLeft (events_meant (length ps) head (loaded ps) st text out) t₁ out₁ r → EventsEntry head ps st text out t₁ out₁ r
+  events_entry : {t₁ out₁ : List ℕ} {r : EventsAnswer} → EventsLeft (events_meant (length ps) head (take 32 ps) st text out) t₁ out₁ r → EventsEntry head ps st text out t₁ out₁ r
   events_entry {t₁} {out₁} {r} d =
       let done = subst (λ (o : EventsOutcome). EventsLeft o t₁ out₁ r) meant_list d in
       record { done = done; claim = events_claim (length ps) head ps st text out done }
 
-  -- from the counted part of the entry, which has so many records and the first 32 of them
-  pub events_entered : {n : ℕ} {copied : List record-of-preset.Preset} {t₁ out₁ : List ℕ} {r : result.EventsAnswer} → n ≡ length ps → copied ≡ loaded ps
-      → EventsLeft (events_meant n head copied st text out) t₁ out₁ r → EventsEntry head ps st text out t₁ out₁ r
-  events_entered {n} {copied} {t₁} {out₁} {r} count load d =
+  -- the entry: refused before the list is read, or run with the first 32 records by value
+  pub entry_long : {f : Fault} → 32768 < length text → f ≡ fault 0 TextTooLong → EventsEntry head ps st text out st.table out (record { ended = Err f; clock = st.clock; hold = st.hold })
+  entry_long l e = events_entry (events_long (length ps) head (take 32 ps) st text out l e)
+
+  pub entry_few : length text ≤ 32768 → length ps < 32 → EventsEntry head ps st text out st.table out (record { ended = Err (fault 0 TooShort); clock = st.clock; hold = st.hold })
+  entry_few l k = events_entry (events_few (length ps) head (take 32 ps) st text out l k refl)
+
+  pub entry_enough : {copied : List record-of-preset.Preset} {t₁ out₁ : List ℕ} {r : EventsAnswer} → 32 ≤ length ps → copied ≡ take 32 ps
+      → EventsLeft (events_meant 32 head copied st text out) t₁ out₁ r → EventsEntry head ps st text out t₁ out₁ r
+  entry_enough {copied} {t₁} {out₁} {r} l same d =
       events_entry
-      (subst (λ (qs : List record-of-preset.Preset). EventsLeft (events_meant (length ps) head qs st text out) t₁ out₁ r) load
-      (subst (λ (k : ℕ). EventsLeft (events_meant k head copied st text out) t₁ out₁ r) count d))
+      (subst (λ (o : EventsOutcome). EventsLeft o t₁ out₁ r) (sym (meant_enough (length ps) head (take 32 ps) st text out l))
+      (subst (λ (qs : List record-of-preset.Preset). EventsLeft (events_meant 32 head qs st text out) t₁ out₁ r) same d))

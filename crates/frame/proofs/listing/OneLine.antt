@@ -1,7 +1,6 @@
 -- Laws of the entries that write one line of the listing.
 --
--- In order: the length of each line (`small_answer`, `answer_fits`, `grant_fits`, `slot_fits`); an output that is too short for a line, and one that is
--- not (`line_short`, `line_whole`); the line of a slot, by the cause that holds (`slot_few`, `slot_stopped`, `slot_low`, `slot_high`, `slot_written_lem`), and
+-- In order: an output that is too short for a line, and one that is not (`line_short`, `line_whole`); the line of a slot, by the cause that holds (`slot_few`, `slot_stopped`, `slot_none`, `slot_written_lem`), and
 -- with the first 32 records of a list by value (`slot_list`).
 -- Assumes nothing.
 use Prim.Native.Nat.{ℕ, zero, suc, ◌+◌, ◌-◌, ◌*◌, ◌^◌, ◌≤◌, ◌<◌}
@@ -9,19 +8,14 @@ use native.Mathlib.Omega.{arith}
 use mathlib.Core.Path.{◌≡◌, refl, sym, ◌∙◌, ap, subst}
 use mathlib.Core.Bool.{Bool, true, false, not, ◌&&◌}
 use mathlib.Core.Option.{Option, none, some}
+use mathlib.Core.Logic.{◌⊎◌, inl, inr}
 use mathlib.Core.List.{List, [], ◌∷◌, ◌++◌}
-use lib.ListN.{length, length-append}
-use mir.Val.{Val}
-use denote.Laws.{Is}
-use denote.Enum.Declared.{row}
-use denote.Enum.Laws.{owed}
+use lib.ListN.{length, take}
 use lib.Dec.{ltb, leb}
+use Rattle.std.specs.Prelude.{Result, Ok, Err}
 use Rattle.laws.proofs.Comparisons.{le_of, ge_of, ltb_yes, ltb_no, leb_yes, leb_no}
 use Rattle.station.specs.Head.{Head, within, valid}
 use Rattle.station.specs.Refusal.{Refusal, out_of_limits, too_short, not_well_formed, number_of, try, first_of}
-use Rattle.station.specs.Text.{bytes}
-use Rattle.station.specs.Form.{print}
-use Rattle.station.specs.Decimal.{digits}
 use Rattle.station.specs.Types.{refusal_in, head_in}
 use Rattle.station.specs.Wrote.{Wrote}
 use Rattle.station.specs.WriteHead.{written}
@@ -29,111 +23,43 @@ use Rattle.station.specs.declared.types.Preset as record-of-preset
 use Rattle.station.specs.declared.types.Head as record-of-head
 use Rattle.station.specs.declared.types.Refusal as cause
 use Rattle.station.specs.declared.types.Refusal.TheVariants.{TooShort, OutOfLimits}
-use Rattle.station.specs.declared.write.Writing.{Writing}
-use Rattle.station.specs.declared.write.Writing.TheVariants as writing
-use Rattle.station.specs.Records.{loaded}
-use Rattle.station.proofs.Theorems.{number_small, digits_length, first_of_none, passed, append_none, append_some, wrote_fits}
-use Rattle.placing.specs.Table.{cell, kind_of, number_in}
+use Rattle.station.proofs.Theorems.{first_of_none, head_list, passed, append_none, append_some, wrote_fits}
 use Rattle.placing.specs.State.{well_formed_frame}
 use Rattle.placing.specs.Causes.{frame_causes_of}
 use Rattle.placing.proofs.Theorems.{frame_known, met, record_valid}
-use Rattle.frame.specs.declared.types.Answer as reply
-use Rattle.frame.specs.declared.types.Answer.TheVariants.{Now, Tie, Taken, Refused}
-use Rattle.frame.specs.Types.{answer_in}
-use Rattle.frame.specs.contracts.types.Answer.{the_type}
-use Rattle.frame.proofs.types.Answer.TheLaws.{the_laws}
-use Rattle.frame.specs.Event.{Answer, clock_now, tie_now, taken, refused}
 use Rattle.frame.specs.Text.{start_of}
-use Rattle.frame.specs.Listing.{refused_line, granted_line, answer_line, cell_text, cell_texts, slot_line}
+use Rattle.frame.specs.Listing.{slot_line}
 use Rattle.frame.specs.WroteLine.{WriteOutcome, line_written, output_short, slot_causes, slot_written, WroteLine}
 use Rattle.frame.specs.method.SlotLines.{line_of_slot}
+use Rattle.frame.proofs.listing.bytes.LineSizes.{slot_fits}
 use Rattle.frame.proofs.listing.bytes.SlotLines.{slot_line_head}
-use Rattle.frame.proofs.event.ListOfRecords.{head_list}
-
--- ---- the length of each line
-
--- a number of the code has at most 20 digits
-digits_few : (n : ℕ) → n < 2 ^ 64 → length (digits n) ≤ 20
-digits_few n h = digits_length 20 n (omega arith) (omega arith)
-
--- the number in an answer is one of the code's
-abbrev pub Small : Answer → Type 0
-Small (clock_now t) = t < 2 ^ 64
-Small (tie_now hold) = Unit {0}
-Small (taken c) = c.count < 2 ^ 64
-Small (refused _ r) = Unit {0}
-
--- the numbers in an answer of the code fit their type
-pub small_answer : (a : reply.Answer) (vs : List Val) → Is (row the_type) a vs → Small (answer_in a)
-small_answer (Now t) vs p = (owed the_type the_laws (Now t) vs p).0.1
-small_answer (Tie hold) vs p = tt
-small_answer (Taken n) vs p = (owed the_type the_laws (Taken n) vs p).0.1
-small_answer (Refused _ r) vs p = tt
-
-refused_fits : (n : ℕ) (r : Refusal) → n < 2 ^ 64 → length (refused_line n r) ≤ 8192
-unfolding refused_line bytes
-refused_fits n r h =
-    simp length-append (omega (arith, digits_few n h, digits_few (number_of r) (omega (arith, number_small r))))
-
-pub answer_fits : (n : ℕ) (a : Answer) → n < 2 ^ 64 → Small a → length (answer_line n a) ≤ 8192
-unfolding answer_line print bytes
-answer_fits n (clock_now t) h s = simp length-append (omega (arith, digits_few t s))
-answer_fits n (tie_now true) h s = omega arith
-answer_fits n (tie_now false) h s = omega arith
-answer_fits n (taken c) h s = simp length-append (omega (arith, digits_few c.count s))
-answer_fits n (refused _ r) h s = refused_fits n r h
-
-pub grant_fits : (n g : ℕ) → n < 2 ^ 64 → g < 2 ^ 64 → length (granted_line n g) ≤ 8192
-unfolding granted_line bytes
-grant_fits n g h l = simp length-append (omega (arith, digits_few n h, digits_few g l))
-
-cell_few : (k n : ℕ) → n < 2 ^ 64 → length (cell_text k n) ≤ 21
-unfolding cell_text bytes
-cell_few zero n h = omega arith
-cell_few (suc zero) n h = omega arith
-cell_few (suc (suc zero)) n h = omega (arith, digits_few n h)
-cell_few (suc (suc (suc zero))) n h = omega (arith, digits_few n h)
-cell_few (suc (suc (suc (suc k)))) n h = omega (arith, digits_few n h)
-
-cells_few : (h : Head) (t : List ℕ) (s b k : ℕ) → length (cell_texts h t s b k) ≤ 2 + k * 22
-unfolding cell_texts bytes
-cells_few h t s b zero = omega arith
-cells_few h t s b (suc k) =
-    let v = cell h t s b in
-    let low : number_in v < 2 ^ 64 = omega arith in
-    omega (arith, length-append (cell_text (kind_of v) (number_in v)) (cell_texts h t s (suc b) k), cell_few (kind_of v) (number_in v) low, cells_few h t s (suc b) k)
-
-pub slot_fits : (h : Head) (t : List ℕ) (s : ℕ) → s < 64 → h.bridges ≤ 8 → length (slot_line h t s) ≤ 8192
-unfolding slot_line bytes
-slot_fits h t s l m =
-    omega (arith, length-append (digits (suc s)) (cell_texts h t s 0 h.bridges), digits_few (suc s) (omega arith), cells_few h t s 0 h.bridges)
 
 -- ---- a line that is refused or written
 
 module _ (causes : List (Option Refusal)) (line out : List ℕ) where
-  line_refused : (r : cause.Refusal) → first_of causes ≡ some (refusal_in r) → WroteLine (line_written causes line out) (writing.Refused 0 r) out
+  line_refused : (r : cause.Refusal) → first_of causes ≡ some (refusal_in r) → WroteLine (line_written causes line out) (Err r) out
   unfolding line_written
   line_refused r e = record { answer = rw e refl; output = rw e refl }
 
   line_written_lem : {after : List ℕ} {n : ℕ} → first_of causes ≡ none → length line ≤ 8192 → 8192 ≤ length out → Wrote out 0 line after n
-      → WroteLine (line_written causes line out) (writing.Written n) after
+      → WroteLine (line_written causes line out) (Ok n) after
   unfolding line_written
   line_written_lem e h l w = let both = wrote_fits w (omega arith) in record { answer = rw e (ap written both.1); output = rw e both.0 }
 
 -- 8: the output is too short, whatever else is tried
-pub line_short : (cs : List (Option Refusal)) (line out : List ℕ) → length out < 8192 → WroteLine (line_written (output_short out ∷ cs) line out) (writing.Refused 0 TooShort) out
+pub line_short : (cs : List (Option Refusal)) (line out : List ℕ) → length out < 8192 → WroteLine (line_written (output_short out ∷ cs) line out) (Err TooShort) out
 line_short cs line out h = line_refused (output_short out ∷ cs) line out TooShort (met too_short (ltb (length out) 8192) cs (ltb_yes (length out) 8192 h))
 
 -- it is not, and nothing else is tried
 pub line_whole : (line out : List ℕ) {after : List ℕ} {n : ℕ} → 8192 ≤ length out → length line ≤ 8192 → Wrote out 0 line after n
-    → WroteLine (line_written (output_short out ∷ []) line out) (writing.Written n) after
+    → WroteLine (line_written (output_short out ∷ []) line out) (Ok n) after
 line_whole line out l h w = line_written_lem (output_short out ∷ []) line out (passed too_short (ltb (length out) 8192) [] (ltb_no (length out) 8192 l) ∙ first_of_none) h l w
 
 -- ---- the line of a slot, by the cause that holds
 
 -- 8: fewer than 32 records
 pub slot_few : (n : ℕ) (head : record-of-head.Head) (ps : List record-of-preset.Preset) (t : List ℕ) (s : ℕ) (out : List ℕ) → 8192 ≤ length out → n < 32
-    → WroteLine (slot_written n head ps t s out) (writing.Refused 0 TooShort) out
+    → WroteLine (slot_written n head ps t s out) (Err TooShort) out
 slot_few n head ps t s out long few =
     line_refused (slot_causes n head ps t s out) (slot_line (head_in head ps) t (s - 1)) out TooShort
     (passed too_short (ltb (length out) 8192) _ (ltb_no (length out) 8192 long) ∙ met too_short (ltb n 32) _ (ltb_yes n 32 few))
@@ -146,28 +72,26 @@ module _ (n : ℕ) (head : record-of-head.Head) (ps : List record-of-preset.Pres
   slot_outside = not (within 1 head.slots s)
 
   refused_with : (r : cause.Refusal) → first_of (frame_causes_of head ps (start_of h t) ++ (try out_of_limits slot_outside ∷ [])) ≡ some (refusal_in r)
-      → WroteLine (slot_written n head ps t s out) (writing.Refused 0 r) out
+      → WroteLine (slot_written n head ps t s out) (Err r) out
   refused_with r e =
       line_refused (slot_causes n head ps t s out) (slot_line h t (s - 1)) out r (passed too_short (ltb (length out) 8192) _ (ltb_no (length out) 8192 long) ∙ passed too_short (ltb n 32) _ (ltb_no n 32 enough) ∙ e)
 
   -- a cause of the table or of the head record
-  pub slot_stopped : (r : cause.Refusal) → some (refusal_in r) ≡ first_of (frame_causes_of head ps (start_of h t)) → WroteLine (slot_written n head ps t s out) (writing.Refused 0 r) out
+  pub slot_stopped : (r : cause.Refusal) → some (refusal_in r) ≡ first_of (frame_causes_of head ps (start_of h t)) → WroteLine (slot_written n head ps t s out) (Err r) out
   slot_stopped r e = refused_with r (append_some (frame_causes_of head ps (start_of h t)) _ (refusal_in r) (sym e))
 
   module _ (free : none ≡ first_of (frame_causes_of head ps (start_of h t))) where
-    outside : slot_outside ≡ true → WroteLine (slot_written n head ps t s out) (writing.Refused 0 OutOfLimits) out
+    outside : slot_outside ≡ true → WroteLine (slot_written n head ps t s out) (Err OutOfLimits) out
     outside e = refused_with OutOfLimits (append_none (frame_causes_of head ps (start_of h t)) _ (sym free) ∙ met out_of_limits slot_outside [] e)
 
     -- no slot has the number
-    pub slot_low : s < 1 → WroteLine (slot_written n head ps t s out) (writing.Refused 0 OutOfLimits) out
-    slot_low l = outside (rw (leb_no 1 s l) refl)
-
-    pub slot_high : 1 ≤ s → head.slots < s → WroteLine (slot_written n head ps t s out) (writing.Refused 0 OutOfLimits) out
-    slot_high m l = outside (rw (leb_yes 1 s m, leb_no s head.slots l) refl)
+    pub slot_none : (s < 1) ⊎ ((1 ≤ s) × (head.slots < s)) → WroteLine (slot_written n head ps t s out) (Err OutOfLimits) out
+    slot_none (inl l) = outside (rw (leb_no 1 s l) refl)
+    slot_none (inr l) = outside (rw (leb_yes 1 s l.0, leb_no s head.slots l.1) refl)
 
     -- no cause holds, and the line was written
     pub slot_written_lem : {after : List ℕ} {end : ℕ} → 1 ≤ s → s ≤ head.slots → Wrote out 0 (line_of_slot head.bridges t (s - 1)) after end
-        → WroteLine (slot_written n head ps t s out) (writing.Written end) after
+        → WroteLine (slot_written n head ps t s out) (Ok end) after
     slot_written_lem m l w =
         let v = record_valid head ps (frame_known head ps (start_of h t) (sym free)).1 in
         let low : s - 1 < 64 = omega (arith, v.slots_high) in
@@ -199,10 +123,10 @@ module _ (slots : ℕ) (t : List ℕ) (s : ℕ) (out : List ℕ) where
   same_line false false false false h k e = refl
 
 -- the line of a slot with the first 32 records by value is that with the list
-pub slot_list : (head : record-of-head.Head) (ps : List record-of-preset.Preset) (t : List ℕ) (s : ℕ) (out : List ℕ) {r : Writing} {after : List ℕ}
-    → WroteLine (slot_written (length ps) head (loaded ps) t s out) r after → WroteLine (slot_written (length ps) head ps t s out) r after
+pub slot_list : (head : record-of-head.Head) (ps : List record-of-preset.Preset) (t : List ℕ) (s : ℕ) (out : List ℕ) {r : Result ℕ cause.Refusal} {after : List ℕ}
+    → WroteLine (slot_written (length ps) head (take 32 ps) t s out) r after → WroteLine (slot_written (length ps) head ps t s out) r after
 slot_list head ps t s out {r} {after} d =
     subst (λ (o : WriteOutcome). WroteLine o r after)
-    (same_line head.slots t s out (leb head.count 32) (ltb (length ps) 32) (ltb (length out) 8192) (ltb (length t) 512) (head_in head (loaded ps)) (head_in head ps)
-    (λ short few. head_list head ps (le_of head.count 32 few) (ge_of (length ps) 32 short)))
+    (same_line head.slots t s out (leb head.count 32) (ltb (length ps) 32) (ltb (length out) 8192) (ltb (length t) 512) (head_in head (take 32 ps)) (head_in head ps)
+    (λ short few. head_list head ps (le_of head.count 32 few)))
     d

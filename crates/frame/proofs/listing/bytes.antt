@@ -1,2 +1,3 @@
 -- The lines of slots as bytes.
 pub mod SlotLines
+pub mod LineSizes

@@ -22,7 +22,7 @@ use Rattle.station.specs.Writing.{forms_of, text_of}
 use Rattle.station.specs.Reading.{Reading, Means, too_long, no_text, by_lines, head_of}
 use Rattle.station.specs.Types.{head_in}
 use Rattle.station.specs.declared.types.Preset as record-of-preset
-use Rattle.station.specs.declared.heads.HeadRead.{HeadRead}
+use Rattle.station.specs.ReadHead.{HeadRead}
 use Rattle.station.proofs.Theorems.{of_valid, lines_first, lines_join, join_append, read_means}
 use Rattle.station.proofs.Theorems.{read_written, read_lines, ReadAccepted}
 use Rattle.placing.specs.Outcomes.{PlanAnswer, plan_of}

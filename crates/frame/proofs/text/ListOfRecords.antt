@@ -1,34 +1,33 @@
 -- A whole text where the preset records stand in a list, law by law.
 --
--- In order: a text that is too long, fewer than 32 records, and enough of them (`text_long`, `text_few`, `text_enough`), and the claim (`list_claim`); the first 32
--- records as a text leaves them, written back to the list (`text_list`); what a refusal leaves (`refused_same`), and the entry `run_text` (`text_entry`).
+-- In order: a text that is too long, fewer than 32 records, and enough of them (`listed_long`, `listed_few`, `listed_other`), and the claim (`list_claim`); what a refusal leaves
+-- (`refused_same`); the first 32 records as a text leaves them, before the others (`left_list`); the entry `run_text` (`entry_long`, `entry_few`, `entry_enough`).
 -- Assumes nothing.
 use Prim.Native.Nat.{ℕ, ◌≤◌, ◌<◌}
 use native.Mathlib.Omega.{arith}
 use mathlib.Core.Path.{◌≡◌, refl, sym, ◌∙◌, ap, subst}
 use mathlib.Core.Bool.{Bool}
-use mathlib.Core.List.{List, map}
-use lib.ListN.{length, length-map}
+use mathlib.Core.List.{List, ◌++◌, map, append_assoc}
+use lib.ListN.{length, take, drop, take-append-drop}
+use lib.Seq.{length-take-le, drop-append-le}
 use lib.Dec.{ltb}
+use Rattle.std.specs.Prelude.{Err}
 use Rattle.laws.proofs.Tests.{Is, is, is_true, is_false}
 use Rattle.laws.proofs.Comparisons.{lt_of, ge_of, ltb_yes, ltb_no}
 use Rattle.station.specs.Head.{Head}
 use Rattle.station.specs.Refusal.{Refusal, too_short, text_too_long, first_of}
-use Rattle.station.proofs.Theorems.{means_head_of, read_valid, saved_loaded, saved_over}
+use Rattle.station.proofs.Theorems.{means_head_of, read_valid}
 use Rattle.station.specs.declared.types.Preset as record-of-preset
 use Rattle.station.specs.declared.types.Head as record-of-head
 use Rattle.station.specs.declared.types.Refusal.TheVariants.{TooShort, TextTooLong}
-use Rattle.station.specs.ReadHead.{record_of, records_over}
-use Rattle.station.specs.Records.{loaded, saved}
+use Rattle.station.specs.declared.types.Fault.{Fault}
+use Rattle.station.specs.ReadHead.{record_of, records_over, fault}
 use Rattle.frame.specs.Text.{Whole, not_read, not_planned, ran, whole_of}
 use Rattle.frame.specs.Demands.{Ends, too_long, too_short_lem, head_refused, is_not_planned, is_planned}
 use Rattle.frame.proofs.Demands.{demand_1}
-use Rattle.frame.specs.declared.text.TextRun as run
-use Rattle.frame.specs.TextDone.{whole_with_output, refused_at, end_of, presets_after, table_after, clock_after, hold_after, output_after, Leaves, TextDone}
-use Rattle.frame.specs.method.TextParts.{refused_run}
-use Rattle.frame.proofs.text.WholeText.{beside_long, beside_short, beside_whole, text_claim, leaves_refused}
-use Rattle.frame.specs.declared.text.TextAnswer as answer
-use Rattle.frame.specs.TextEntry.{whole_on_slice, TextOnSlice, answer_of, text_left, SliceClaim, TextEntry}
+use Rattle.frame.specs.TextDone.{whole_with_output, TextRun, refused_at, end_of, presets_after, table_after, clock_after, hold_after, output_after, Leaves, TextDone}
+use Rattle.frame.proofs.text.WholeText.{beside_long, beside_short, beside_whole, text_claim, leaves_at_start}
+use Rattle.frame.specs.TextEntry.{whole_on_slice, TextOnSlice, TextAnswer, answer_of, text_left, SliceClaim, TextEntry}
 
 -- ---- by the causes 10 and 8 of the list
 
@@ -56,18 +55,7 @@ module _ (n : ℕ) (text t out : List ℕ) where
   list_claim : SliceClaim n text t out
   list_claim = record { short_list = listed_few; other_list = listed_other; claim = text_claim text t out }
 
-  module _ (head : record-of-head.Head) (ps : List record-of-preset.Preset) (clock : ℕ) (hold : Bool) {r : run.TextRun} where
-    pub text_long : 32768 < length text → r ≡ refused_run 0 TextTooLong head ps clock hold → TextOnSlice n text head ps t clock hold out t out r
-    text_long l e = leaves_refused head ps t clock hold out 0 TextTooLong (listed_long l) e
-
-    pub text_few : length text ≤ 32768 → n < 32 → r ≡ refused_run 0 TooShort head ps clock hold → TextOnSlice n text head ps t clock hold out t out r
-    text_few l k e = leaves_refused head ps t clock hold out 0 TooShort (listed_few l k) e
-
-    module _ {t₁ out₁ : List ℕ} where
-      pub text_enough : 32 ≤ n → TextDone text head ps t clock hold out t₁ out₁ r → TextOnSlice n text head ps t clock hold out t₁ out₁ r
-      text_enough k d = subst (λ (w : Whole). Leaves w head ps t clock hold out t₁ out₁ r) (sym (listed_other k)) d
-
--- ---- the records written back
+-- ---- the first 32 records
 
 -- a head that is read has at most 32 presets, and the list as many records
 abbrev Fits : ℕ → Whole → Type 0
@@ -105,44 +93,53 @@ refused_same (not_planned h k r) t out clock hold n c q = (refl, refl, refl, ref
 refused_same (ran h k g r) t out clock hold n c q = absurd (let z : ◌≡◌ {A = ℕ} 0 1 = cc in omega arith)
 
 module _ (ps : List record-of-preset.Preset) where
-  -- the presets of a head over the first records
-  over_list : (h : Head) → (length h.presets ≤ 32) × (32 ≤ length ps) → saved ps (records_over h.presets (loaded ps)) 32 ≡ records_over h.presets ps
+  -- the presets of a head over the first records, before the others, are those over the list
+  over_list : (h : Head) → (length h.presets ≤ 32) × (32 ≤ length ps) → records_over h.presets (take 32 ps) ++ drop 32 ps ≡ records_over h.presets ps
   over_list h fits =
-      let long : length (map record_of h.presets) ≡ length h.presets = length-map h.presets record_of in
-      rw (sym long) (saved_over ps (map record_of h.presets) (omega (arith, long, fits.0)) fits.1)
+      append_assoc (map record_of h.presets) (drop (length h.presets) (take 32 ps)) (drop 32 ps)
+      ∙ ap (λ (l : List record-of-preset.Preset). map record_of h.presets ++ l)
+      (sym (drop-append-le (length h.presets) (take 32 ps) (drop 32 ps) (omega (arith, fits.0, length-take-le 32 ps fits.1)))
+      ∙ ap (drop (length h.presets)) (take-append-drop 32 ps))
 
-  left_list : (w : Whole) → Fits (length ps) w → saved ps (presets_after w (loaded ps)) 32 ≡ presets_after w ps
+  left_list : (w : Whole) → Fits (length ps) w → presets_after w (take 32 ps) ++ drop 32 ps ≡ presets_after w ps
   unfolding presets_after
-  left_list (not_read k c) fits = saved_loaded ps 32
+  left_list (not_read k c) fits = take-append-drop 32 ps
   left_list (not_planned h k c) fits = over_list h fits
   left_list (ran h k g r) fits = over_list h fits
 
-  -- what a text leaves of the first 32 records by value, written back, is what it leaves of the list
-  text_list : (text t out : List ℕ) (head : record-of-head.Head) (clock : ℕ) (hold : Bool) {t₁ out₁ : List ℕ} {zs : List record-of-preset.Preset} {r : run.TextRun}
-      → TextOnSlice (length ps) text head (loaded ps) t clock hold out t₁ out₁ r → zs ≡ saved ps r.presets 32
-      → TextOnSlice (length ps) text head ps t clock hold out t₁ out₁ (text_left (answer_of r) zs)
-  text_list text t out head clock hold x e = record {
-    ended = x.ended;
-    head = x.head;
-    presets =
-        e
-        ∙ ap (λ (l : List record-of-preset.Preset). saved ps l 32) x.presets
-        ∙ left_list (whole_on_slice (length ps) text t out) (listed_fits (length ps) text t out);
-    table = x.table;
-    clock = x.clock;
-    hold = x.hold;
-    output = x.output;
-  }
+  module _ (text t out : List ℕ) (head : record-of-head.Head) (clock : ℕ) (hold : Bool) where
+    -- the entry, from what is left of the list
+    text_entry : {t₁ out₁ : List ℕ} {zs : List record-of-preset.Preset} {y : TextAnswer} → TextOnSlice (length ps) text head ps t clock hold out t₁ out₁ (text_left y zs)
+        → TextEntry text head ps t clock hold out zs t₁ out₁ y
+    text_entry done = record {
+      done = done;
+      unchanged = λ n c q.
+          let same = refused_same (whole_on_slice (length ps) text t out) t out clock hold n c (sym done.ended ∙ q) in
+          (done.table ∙ same.0, done.clock ∙ same.1, done.hold ∙ same.2, done.output ∙ same.3);
+      claim = list_claim (length ps) text t out;
+    }
 
-  pub text_entry : (text t out : List ℕ) (head : record-of-head.Head) (clock : ℕ) (hold : Bool) {t₁ out₁ : List ℕ} {zs : List record-of-preset.Preset} {r : run.TextRun} {y : answer.TextAnswer}
-      → TextOnSlice (length ps) text head (loaded ps) t clock hold out t₁ out₁ r → zs ≡ saved ps r.presets 32 → y ≡ answer_of r → TextEntry text head ps t clock hold out zs t₁ out₁ y
-  text_entry text t out head clock hold {t₁} {out₁} {zs} {r} {y} x e a = record {
-    done = done;
-    unchanged = λ n c q.
-        let same = refused_same (whole_on_slice (length ps) text t out) t out clock hold n c (sym done.ended ∙ q) in
-        (done.table ∙ same.0, done.clock ∙ same.1, done.hold ∙ same.2, done.output ∙ same.3);
-    claim = list_claim (length ps) text t out;
-  }
-    where
-      done : TextOnSlice (length ps) text head ps t clock hold out t₁ out₁ (text_left y zs)
-      done = subst (λ (b : answer.TextAnswer). TextOnSlice (length ps) text head ps t clock hold out t₁ out₁ (text_left b zs)) (sym a) (text_list text t out head clock hold x e)
+    -- refused before any line is read
+    pub entry_long : {f : Fault} → 32768 < length text → f ≡ fault 0 TextTooLong → TextEntry text head ps t clock hold out ps t out (record { ended = Err f; head = head; clock = clock; hold = hold })
+    entry_long l e = text_entry (leaves_at_start head ps t clock hold out TextTooLong (listed_long (length ps) text t out l) e)
+
+    pub entry_few : length text ≤ 32768 → length ps < 32 → TextEntry text head ps t clock hold out ps t out (record { ended = Err (fault 0 TooShort); head = head; clock = clock; hold = hold })
+    entry_few l k = text_entry (leaves_at_start head ps t clock hold out TooShort (listed_few (length ps) text t out l k) refl)
+
+    -- what a text leaves of the first 32 records, before the others, is what it leaves of the list
+    pub entry_enough : {first : List record-of-preset.Preset} {t₁ out₁ : List ℕ} {r : TextRun} → 32 ≤ length ps → first ≡ take 32 ps
+        → TextDone text head first t clock hold out t₁ out₁ r → TextEntry text head ps t clock hold out (r.presets ++ drop 32 ps) t₁ out₁ (answer_of r)
+    entry_enough {first} {t₁} {out₁} {r} long same d =
+        let w = whole_on_slice (length ps) text t out in
+        let x : Leaves w head (take 32 ps) t clock hold out t₁ out₁ r =
+        subst (λ (v : Whole). Leaves v head (take 32 ps) t clock hold out t₁ out₁ r) (sym (listed_other (length ps) text t out long))
+        (subst (λ (qs : List record-of-preset.Preset). TextDone text head qs t clock hold out t₁ out₁ r) same d) in
+        text_entry (record {
+          ended = x.ended;
+          head = x.head;
+          presets = ap (λ (l : List record-of-preset.Preset). l ++ drop 32 ps) x.presets ∙ left_list w (listed_fits (length ps) text t out);
+          table = x.table;
+          clock = x.clock;
+          hold = x.hold;
+          output = x.output;
+        })

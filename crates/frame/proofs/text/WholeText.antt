@@ -8,10 +8,13 @@ use native.Mathlib.Omega.{arith}
 use mathlib.Core.Path.{◌≡◌, refl, sym, ◌∙◌, ap, subst}
 use mathlib.Core.Bool.{Bool, true}
 use mathlib.Core.Option.{Option, none, some}
+use mathlib.Core.Logic.{◌⊎◌, inl, inr}
 use mathlib.Core.List.{List, [], ◌∷◌, ◌++◌, map}
 use lib.ListN.{length, take, drop, take-append-drop}
 use lib.Seq.{get_or-take}
 use lib.Dec.{ltb, leb}
+use Rattle.std.specs.Prelude.{Result, Ok, Err, MatchResult, IsErrAnd}
+use Rattle.std.proofs.lemmas.Result.{err_from_is_err_and}
 use Rattle.laws.proofs.Tests.{Is, is, is_true, is_false, both}
 use Rattle.laws.proofs.Comparisons.{lt_of, ge_of, leb_yes, ltb_yes, ltb_no}
 use Rattle.station.specs.Head as meant
@@ -19,29 +22,25 @@ use Rattle.station.specs.Head.{Head, Valid, valid}
 use Rattle.station.specs.Refusal.{Refusal, too_short, text_too_long, first_of}
 use Rattle.station.specs.Reading.{Reading, head_of}
 use Rattle.station.specs.Types.{refusal_in, presets_in, head_in, valid_record}
-use Rattle.station.specs.ReadHead.{head_record, record_of, records_over}
+use Rattle.station.specs.ReadHead.{head_record, record_of, records_over, extent, fault, HeadRead}
 use Rattle.station.specs.Wrote.{Wrote}
 use Rattle.station.specs.declared.types.Preset as record-of-preset
 use Rattle.station.specs.declared.types.Head as record-of-head
 use Rattle.station.specs.declared.types.Refusal as cause
-use Rattle.station.specs.declared.heads.HeadRead.{HeadRead}
-use Rattle.station.specs.declared.heads.ReadAnswer.TheVariants.{Accepted}
+use Rattle.station.specs.declared.types.Fault.{Fault}
 use Rattle.station.proofs.Theorems.{of_valid, read_valid, records_back, ReadAccepted, ReadRefused, wrote_then}
 use Rattle.placing.specs.Outcomes.{PlanAnswer, PlanOutcome, plan_causes, plan_of}
 use Rattle.placing.specs.PlanDone.{plan_meant, replied_in, PlanDone}
-use Rattle.placing.specs.declared.plan.Planned as planned
-use Rattle.placing.specs.declared.plan.PlanAnswer.TheVariants.{Granted, Refused}
+use Rattle.placing.specs.State.{State, state_at}
+use Rattle.placing.specs.declared.moment.Moment.{Moment}
 use Rattle.placing.proofs.Theorems.{causes_none, plan_claim}
-use Rattle.frame.specs.declared.text.Ended.TheVariants as ends
-use Rattle.frame.specs.declared.text.TextRun as result
-use Rattle.frame.specs.declared.text.lines.Lines as lines-result
 use Rattle.frame.specs.Event.{Run}
 use Rattle.frame.specs.Text.{Whole, not_read, not_planned, ran, start_of, events_of, whole_with_plan, whole_with_head, whole_of}
 use Rattle.frame.specs.Listing.{granted_lines, slot_lines, listing_of}
 use Rattle.frame.specs.method.SlotLines.{lines_of_slots}
-use Rattle.frame.specs.method.TextLines.{LinesStart, lines_run, RanLines}
-use Rattle.frame.specs.TextDone.{whole_with_output, End, end_of, head_after, presets_after, table_after, clock_after, hold_after, output_after, Leaves, TextClaim}
-use Rattle.frame.specs.method.TextParts.{refused_run, HeadStart}
+use Rattle.frame.specs.method.TextLines.{LinesStart, lines_run, Lines, lines_answer, RanLines}
+use Rattle.frame.specs.TextDone.{whole_with_output, End, TextRun, text_run, end_of, head_after, presets_after, table_after, clock_after, hold_after, output_after, Leaves, TextClaim}
+use Rattle.frame.specs.method.TextParts.{HeadStart}
 use Rattle.frame.proofs.listing.bytes.SlotLines.{slot_lines_head}
 use Rattle.frame.proofs.text.AfterHead.{read_short, whole_ran, lines_start}
 use Rattle.frame.proofs.Demands.{demand_1, demand_2, demand_3_planned, ran_granted, ran_is}
@@ -83,6 +82,11 @@ module _ (text t : List ℕ) where
   unfolding whole_with_head
   whole_planned {h} {n} s e = whole_head (read_short text h n e) s ∙ ap (λ (x : Reading). whole_with_head text x t) e
 
+-- an output or a table that is too short
+pub short_start : (text t out : List ℕ) → length text ≤ 32768 → (length out < 8192) ⊎ ((8192 ≤ length out) × (length t < 512)) → whole_with_output text t out ≡ not_read 0 too_short
+short_start text t out l (inl s) = beside_short text t out l s
+short_start text t out l (inr s) = beside_whole text t out l s.0 ∙ whole_short text t l s.1
+
 -- a text that ran beside some output ran
 pub beside_ran : (text t out : List ℕ) {h : Head} {n : ℕ} {g : List ℕ} {r : Run} → whole_with_output text t out ≡ ran h n g r → whole_of text t ≡ ran h n g r
 beside_ran text t out {h} {n} {g} {r} e = go (is (ltb 32768 (length text))) (is (ltb (length out) 8192))
@@ -114,25 +118,38 @@ text_claim text t out = record {
 
 -- ---- a refusal
 
-module _ {w : Whole} (head : record-of-head.Head) (ps : List record-of-preset.Preset) (t : List ℕ) (clock : ℕ) (hold : Bool) (out : List ℕ) {r : result.TextRun} where
+module _ {w : Whole} (head : record-of-head.Head) (ps : List record-of-preset.Preset) (t : List ℕ) (clock : ℕ) (hold : Bool) (out : List ℕ) where
   -- before the head is read: nothing is changed
-  pub leaves_refused : (n : ℕ) (c : cause.Refusal) → w ≡ not_read n (refusal_in c) → r ≡ refused_run n c head ps clock hold → Leaves w head ps t clock hold out t out r
+  pub leaves_refused : {f : Fault} → w ≡ not_read f.line (refusal_in f.cause) → Leaves w head ps t clock hold out t out (record { ended = Err f; head = head; presets = ps; clock = clock; hold = hold })
   unfolding end_of head_after presets_after table_after clock_after hold_after output_after
-  leaves_refused n c e s = rw (e, s) (record { ended = refl; head = refl; presets = refl; table = refl; clock = refl; hold = refl; output = refl })
+  leaves_refused e = rw e (record { ended = refl; head = refl; presets = refl; table = refl; clock = refl; hold = refl; output = refl })
+
+  -- and before any line of it is
+  pub leaves_at_start : (c : cause.Refusal) {f : Fault} → w ≡ not_read 0 (refusal_in c) → f ≡ fault 0 c
+      → Leaves w head ps t clock hold out t out (record { ended = Err f; head = head; presets = ps; clock = clock; hold = hold })
+  leaves_at_start c e q = leaves_refused (rw q e)
 
   -- of the plan: the head is the one read
-  leaves_unplanned : (h : Head) (n : ℕ) (c : cause.Refusal) → w ≡ not_planned h n (refusal_in c) → head ≡ head_record h → ps ≡ records_over h.presets ps
-      → r ≡ refused_run n c head ps clock hold → Leaves w head ps t clock hold out t out r
+  leaves_unplanned : (h : Head) {f : Fault} → w ≡ not_planned h f.line (refusal_in f.cause) → head ≡ head_record h → ps ≡ records_over h.presets ps
+      → Leaves w head ps t clock hold out t out (record { ended = Err f; head = head; presets = ps; clock = clock; hold = hold })
   unfolding end_of head_after presets_after table_after clock_after hold_after output_after
-  leaves_unplanned h n c e a b s = rw (e, s) (record { ended = refl; head = a; presets = b; table = refl; clock = refl; hold = refl; output = refl })
+  leaves_unplanned h e a b = rw e (record { ended = refl; head = a; presets = b; table = refl; clock = refl; hold = refl; output = refl })
 
   -- a text that ran: its listing was written
-  leaves_ran : (h : Head) (n : ℕ) (g : List ℕ) (x : Run) {out₁ : List ℕ} {end : ℕ} → w ≡ ran h n g x → head ≡ head_record h → ps ≡ records_over h.presets ps
-      → Wrote out 0 (listing_of (ran h n g x)) out₁ end
-      → r ≡ record { ended = ends.Ran end; head = head; presets = ps; clock = x.after.clock; hold = x.after.hold } → Leaves w head ps t clock hold out x.after.table out₁ r
+  leaves_ran : (h : Head) (n : ℕ) (g : List ℕ) (x : Run) {out₁ u : List ℕ} {end : ℕ} {m : Moment} → w ≡ ran h n g x → head ≡ head_record h → ps ≡ records_over h.presets ps
+      → Wrote out 0 (listing_of (ran h n g x)) out₁ end → state_at u m ≡ x.after → Leaves w head ps t clock hold out u out₁ (text_run (Ok end) head ps m)
   unfolding end_of head_after presets_after table_after clock_after hold_after output_after
-  leaves_ran h n g x {out₁} {end} e a b m s =
-      rw (e, s) (record { ended = ap End.listed m.position; head = a; presets = b; table = refl; clock = refl; hold = refl; output = m.output })
+  leaves_ran h n g x {out₁} {u} {end} {m} e a b l s =
+      rw e
+      (record {
+        ended = ap End.listed l.position;
+        head = a;
+        presets = b;
+        table = ap (λ (z : State). z.table) s;
+        clock = ap (λ (z : State). z.clock) s;
+        hold = ap (λ (z : State). z.hold) s;
+        output = l.output;
+      })
 
 -- ---- a head that was read, and its plan
 
@@ -179,33 +196,33 @@ module _ {head : record-of-head.Head} {ps : List record-of-preset.Preset} {text 
   unfolding plan_meant
   meant_plan = rw (causes_none head ps t s.long is_valid, plan_meant) refl
 
-  module _ {u : List ℕ} {p : planned.Planned} (d : PlanDone head ps t u p) where
+  module _ {u : List ℕ} {p : Result (List ℕ) cause.Refusal} (d : PlanDone head ps t u p) where
     table_is : u ≡ (plan_of h t).table
     table_is = d.table ∙ ap (λ (o : PlanOutcome). o.table) meant_plan
 
-    answer_is : replied_in (take head.count p.grants) p.answer ≡ (plan_of h t).answer
+    answer_is : replied_in head.count p ≡ (plan_of h t).answer
     answer_is = d.answer ∙ ap (λ (o : PlanOutcome). o.answer) meant_plan
 
     -- the plan is refused
-    pub run_refused : (clock : ℕ) (hold : Bool) (out : List ℕ) {k : ℕ} {c : cause.Refusal} {r : result.TextRun} → p.answer ≡ Refused k c → r ≡ refused_run n c head ps clock hold
-        → Leaves (whole_of text t) head ps t clock hold out u out r
+    pub run_refused : (clock : ℕ) (hold : Bool) (out : List ℕ) {c : cause.Refusal} → p ≡ Err c
+        → Leaves (whole_of text t) head ps t clock hold out u out (record { ended = Err (fault n c); head = head; presets = ps; clock = clock; hold = hold })
     unfolding whole_with_plan
-    run_refused clock hold out {k} {c} {r} a e =
-        let q : (plan_of h t).answer ≡ PlanAnswer.refused k (refusal_in c) = sym answer_is ∙ ap (replied_in (take head.count p.grants)) a in
+    run_refused clock hold out {c} a =
+        let q : (plan_of h t).answer ≡ PlanAnswer.refused 0 (refusal_in c) = sym answer_is ∙ ap (replied_in head.count) a in
         let w : whole_of text t ≡ not_planned h n (refusal_in c) =
         whole_planned text t s.long s.reads ∙ ap (λ (x : PlanAnswer). whole_with_plan text h n x (plan_of h t).table) q in
         let same : u ≡ t = table_is ∙ plan_unchanged h t (refusal_in c) q in
-        rw same (leaves_unplanned head ps t clock hold out h n c w own_head own_presets e)
+        rw same (leaves_unplanned head ps t clock hold out h w own_head own_presets)
 
     -- the plan is granted
-    module _ (a : p.answer ≡ Granted) where
+    module _ {grants : List ℕ} (a : p ≡ Ok grants) where
       abbrev g : List ℕ
-      g = take head.count p.grants
+      g = take head.count grants
 
       granted : (plan_of h t).answer ≡ PlanAnswer.granted g
-      granted = sym answer_is ∙ ap (replied_in g) a
+      granted = sym answer_is ∙ ap (replied_in head.count) a
 
-      handed : ReadAccepted text ps (record { answer = Accepted n k; head = head; presets = ps }) n k
+      handed : ReadAccepted text ps (record { answer = Ok (extent n k); head = head; presets = ps }) n k
       handed = record { reads = s.reads; bytes = s.bytes; valid = ok; count = s.count; past = refl }
 
       pub lines_may_start : LinesStart head ps text k n (start_of h u)
@@ -221,39 +238,50 @@ module _ {head : record-of-head.Head} {ps : List record-of-preset.Preset} {text 
           ∙ ap (λ (v : List ℕ). ran h n g (lines_run h text k (start_of h v))) (sym table_is)
 
       -- granted lines, answers and slots make the listing
-      listing_wrote : {out l₁ l₂ l₃ v : List ℕ} {position end : ℕ} {r : lines-result.Lines}
-          → Wrote out 0 (granted_lines p.grants 0 (presets_in head.count ps)) l₁ position → RanLines h text k n (start_of h u) l₁ position v l₂ r
+      listing_wrote : {out l₁ l₂ l₃ v : List ℕ} {position end : ℕ} {r : Lines}
+          → Wrote out 0 (granted_lines grants 0 (presets_in head.count ps)) l₁ position → RanLines h text k n (start_of h u) l₁ position v l₂ r
           → Wrote l₂ r.position (lines_of_slots head.slots head.bridges v) l₃ end → Wrote out 0 (listing_of (ran h n g x)) l₃ end
       unfolding listing_of
       listing_wrote {l₂} {l₃} {v} {end} {r} w₁ y w₃ =
-          let first : granted_lines p.grants 0 h.presets ≡ granted_lines g 0 h.presets =
-          granted_take p.grants head.count 0 h.presets (omega (arith, s.count)) in
+          let first : granted_lines grants 0 h.presets ≡ granted_lines g 0 h.presets =
+          granted_take grants head.count 0 h.presets (omega (arith, s.count)) in
           let last : lines_of_slots head.slots head.bridges v ≡ slot_lines h x.after.table 0 h.slots =
           slot_lines_head h v ok.slots_high ok.bridges_high ∙ ap (λ (m : List ℕ). slot_lines h m 0 h.slots) y.table in
           wrote_then (rw first at w₁) (wrote_then y.output (rw last at w₃))
 
-      pub run_done : (clock : ℕ) (hold : Bool) {out l₁ l₂ l₃ v : List ℕ} {position end : ℕ} {r : lines-result.Lines} {o : result.TextRun}
-          → Wrote out 0 (granted_lines p.grants 0 (presets_in head.count ps)) l₁ position → RanLines h text k n (start_of h u) l₁ position v l₂ r
-          → Wrote l₂ r.position (lines_of_slots head.slots head.bridges v) l₃ end
-          → o ≡ record { ended = ends.Ran end; head = head; presets = ps; clock = r.clock; hold = r.hold } → Leaves (whole_of text t) head ps t clock hold out v l₃ o
-      run_done clock hold {out} {l₁} {l₂} {l₃} {v} {position} {end} {r} {o} w₁ y w₃ e =
-          let q : o ≡ record { ended = ends.Ran end; head = head; presets = ps; clock = x.after.clock; hold = x.after.hold } =
-          e
-          ∙ ap (λ (c : ℕ). record { ended = ends.Ran end; head = head; presets = ps; clock = c; hold = r.hold }) y.clock
-          ∙ ap (λ (b : Bool). record { ended = ends.Ran end; head = head; presets = ps; clock = x.after.clock; hold = b }) y.hold in
-          rw y.table (leaves_ran head ps t clock hold out h n g x whole_is own_head own_presets (listing_wrote w₁ y w₃) q)
+      pub run_done : (clock : ℕ) (hold : Bool) {out l₁ l₂ l₃ v : List ℕ} {position answered end : ℕ} {m : Moment}
+          → Wrote out 0 (granted_lines grants 0 (presets_in head.count ps)) l₁ position → RanLines h text k n (start_of h u) l₁ position v l₂ (lines_answer answered m)
+          → Wrote l₂ answered (lines_of_slots head.slots head.bridges v) l₃ end → Leaves (whole_of text t) head ps t clock hold out v l₃ (text_run (Ok end) head ps m)
+      run_done clock hold {out} w₁ y w₃ =
+          leaves_ran head ps t clock hold out h n g x whole_is own_head own_presets (listing_wrote w₁ y w₃) (rw (y.table, y.clock, y.hold) refl)
+
+-- what is known where an error was put in place of another
+pub mapped_err : {X E D : Type 0} (P : E → D → Type 0) (r : Result X E) (q : Result X D) (d : D) → MatchResult r (λ x. q ≡ Ok x) (λ e. IsErrAnd q (P e)) → q ≡ Err d
+    → (e : E) × (r ≡ Err e) × P e d
+mapped_err {X} {E} {D} P (Ok y) q d m w = let s : ◌≡◌ {A = Result X D} (Ok y) (Err d) = sym m ∙ w in cc
+mapped_err {X} {E} {D} P (Err e) q d m w =
+    let p = err_from_is_err_and q m in
+    let s : ◌≡◌ {A = Result X D} (Err p.0) (Err d) = sym p.1 ∙ w in
+    let z : p.0 ≡ d = cc in
+    (e, refl, subst (P e) z p.2)
+
+pub mapped_ok : {X E D : Type 0} (P : E → D → Type 0) (r : Result X E) (q : Result X D) (x : X) → MatchResult r (λ y. q ≡ Ok y) (λ e. IsErrAnd q (P e)) → q ≡ Ok x → r ≡ Ok x
+mapped_ok {X} {E} {D} P (Ok y) q z m w =
+    let s : ◌≡◌ {A = Result X D} (Ok y) (Ok z) = sym m ∙ w in
+    let i : y ≡ z = cc in
+    ap Ok i
+mapped_ok {X} {E} {D} P (Err e) q z m w =
+    let p = err_from_is_err_and q m in
+    let s : ◌≡◌ {A = Result X D} (Err p.0) (Ok z) = sym p.1 ∙ w in cc
 
 -- ---- the reading handed on
 
 -- a head that was refused
 pub run_unread : {text t out : List ℕ} {head : record-of-head.Head} {old : List record-of-preset.Preset} {r : HeadRead} {n : ℕ} {c : cause.Refusal} {clock : ℕ} {hold : Bool}
-    {o : result.TextRun} → ReadRefused text head old r n c → length text ≤ 32768 → 512 ≤ length t → 8192 ≤ length out
-    → o ≡ refused_run n c r.head r.presets clock hold → Leaves (whole_with_output text t out) head old t clock hold out t out o
-run_unread {text} {t} {out} {head} {old} {r} {n} {c} {clock} {hold} {o} a short long m e =
-    leaves_refused head old t clock hold out n c (beside_whole text t out short m ∙ whole_refused text t short long a.reads)
-    (e
-    ∙ ap (λ (x : record-of-head.Head). refused_run n c x r.presets clock hold) a.head
-    ∙ ap (λ (ps : List record-of-preset.Preset). refused_run n c head ps clock hold) a.presets)
+    → ReadRefused text head old r n c → length text ≤ 32768 → 512 ≤ length t → 8192 ≤ length out
+    → Leaves (whole_with_output text t out) head old t clock hold out t out (record { ended = Err (fault n c); head = r.head; presets = r.presets; clock = clock; hold = hold })
+run_unread {text} {t} {out} {head} {old} {r} {n} {c} {clock} {hold} a short long m =
+    rw (a.head, a.presets) (leaves_refused head old t clock hold out (beside_whole text t out short m ∙ whole_refused text t short long a.reads))
 
 -- a head that was read
 pub head_start : {text : List ℕ} {old : List record-of-preset.Preset} {r : HeadRead} {n k : ℕ} {t : List ℕ} → ReadAccepted text old r n k → 512 ≤ length t
@@ -274,7 +302,7 @@ presets_read text h n (PlanAnswer.granted g) v a b e = ap (λ (l : List record-o
 presets_read text h n (PlanAnswer.refused _ c) v a b e = ap (λ (l : List record-of-preset.Preset). map record_of h.presets ++ l) e
 
 pub run_accepted : {text t out : List ℕ} (head : record-of-head.Head) {old : List record-of-preset.Preset} {r : HeadRead} {n k clock : ℕ} {hold : Bool} {t₁ out₁ : List ℕ}
-    {o : result.TextRun} → ReadAccepted text old r n k → 512 ≤ length t → 8192 ≤ length out
+    {o : TextRun} → ReadAccepted text old r n k → 512 ≤ length t → 8192 ≤ length out
     → Leaves (whole_of text t) r.head r.presets t clock hold out t₁ out₁ o → Leaves (whole_with_output text t out) head old t clock hold out t₁ out₁ o
 run_accepted {text} {t} {out} head {old} {r} {n} {k} {clock} {hold} {t₁} {out₁} {o} a l m x =
     let h = head_in r.head r.presets in

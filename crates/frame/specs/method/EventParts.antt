@@ -2,22 +2,22 @@
 --
 -- In order: a clock (`clock_causes`, `clock_answer`, `clock_after`, `ClockDone`); what an event line asks for, as it was read (`asked_in`), and what that comes to (`line_outcome`, `line_meant`).
 -- Assumes nothing.
-use Rattle.std.specs.Prelude.{ℕ, ◌≡◌, Bool, not, List, [], ◌∷◌, ltb}
+use Rattle.std.specs.Prelude.{ℕ, ◌≡◌, Bool, not, List, [], ◌∷◌, ltb, Result, Ok, Err}
 use Rattle.std.proofs.Math.Option.{Option, none, some}
 use Rattle.station.specs.Refusal.{Refusal, out_of_limits, clock_back, try, first_of}
 use Rattle.station.specs.Form.{form}
 use Rattle.station.specs.Types.{head_in, refusal_in}
-use Rattle.station.specs.declared.types.Job as record-of-job
+use Rattle.station.specs.declared.types.Refusal as cause
 use Rattle.station.specs.declared.types.Preset as record-of-preset
 use Rattle.station.specs.declared.types.Head as record-of-head
 use Rattle.station.specs.Event.{event_in}
 use Rattle.station.specs.declared.events.Event as read
-use Rattle.station.specs.declared.events.Event.TheVariants.{SetClock, PlaceJobs, SetTie, Fault}
+use Rattle.station.specs.declared.events.Event.TheVariants.{Clock, Call, Tie}
 use Rattle.placing.specs.Valid.{clock_in}
 use Rattle.placing.specs.State.{State}
 use Rattle.placing.specs.Causes.{call_jobs}
 use Rattle.placing.specs.CallDone.{call_meant}
-use Rattle.frame.specs.declared.types.Outcome as result
+use Rattle.frame.specs.Types as result
 use Rattle.frame.specs.Event.{Asked, set_clock, set_tie, place_jobs, fault, Answer, clock_now, tie_now, refused, answer_of, Outcome, clock_state, tie_state}
 use Rattle.frame.specs.Types.{answer_in}
 
@@ -40,11 +40,11 @@ pub record ClockDone (slots c : ℕ) (order : Bool) (t : ℕ) (r : result.Outcom
   pub hold : r.hold ≡ order
 
 -- What an event line asks for, as it was read: a clock that stops at 65,535, the jobs that were kept, an order of ties, or the fault.
-abbrev pub asked_in : read.Event → List record-of-job.Job → Asked
-asked_in (SetClock t) js = set_clock t
-asked_in (PlaceJobs n) js = place_jobs (call_jobs n js)
-asked_in (SetTie hold) js = set_tie hold
-asked_in (Fault r) js = fault (refusal_in r)
+abbrev pub asked_in : Result read.Event cause.Refusal → Asked
+asked_in (Ok (Clock t)) = set_clock t
+asked_in (Ok (Call c)) = place_jobs (call_jobs c.count c.jobs)
+asked_in (Ok (Tie hold)) = set_tie hold
+asked_in (Err r) = fault (refusal_in r)
 
 -- What that comes to: a clock is refused by its own causes alone or set, and the table stays; a call is what `call_meant` says, which tries the causes of the
 -- frame itself, and the clock stays; a tie is set; a fault changes nothing.
@@ -60,4 +60,4 @@ line_outcome head ps st (fault r) = record { answer = refused 0 r; after = st }
 
 -- An event line, by what was read of it. On a frame that meets none of its own causes this is `event_of` of the line: `line_event_lem` of proofs/Running.
 abbrev pub line_meant : record-of-head.Head → List record-of-preset.Preset → State → List ℕ → Outcome
-line_meant head ps st l = line_outcome head ps st (asked_in (event_in (form l)).event (event_in (form l)).jobs)
+line_meant head ps st l = line_outcome head ps st (asked_in (event_in (form l)))

@@ -1,6 +1,6 @@
 -- The lines of slots as the code writes them: from the number of bridges and the table, whatever they are. Document 01, "One listing, whole".
 -- Assumes nothing.
-use Rattle.std.specs.Prelude.{ℕ, false, cond, ◌&&◌, List, [], eqb, ltb, leb}
+use Rattle.std.specs.Prelude.{ℕ, false, cond, ◌&&◌, List, [], ltb, leb}
 use Rattle.station.specs.Limits.{most_slots, most_bridges}
 use Rattle.station.specs.Head.{Head}
 use Rattle.frame.specs.Listing.{slot_line, slot_lines}
@@ -8,10 +8,6 @@ use Rattle.frame.specs.Listing.{slot_line, slot_lines}
 -- a head of which only the number of bridges counts, as it does in a slot's line
 abbrev pub of_bridges : ℕ → Head
 of_bridges n = record { slots = 0; bridges = n; supply = 0; hold = false; busy = []; presets = [] }
-
--- "m, o or c for kinds 2, 3, 4"
-abbrev pub letter_of : ℕ → ℕ
-letter_of k = cond (eqb k 2) 109 (cond (eqb k 3) 111 99)
 
 -- the line of slot s, counted from 0; no byte for a slot or a number of bridges that no frame has
 unfoldable pub line_of_slot : ℕ → List ℕ → ℕ → List ℕ

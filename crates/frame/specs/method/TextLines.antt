@@ -1,7 +1,7 @@
 -- What the lines of a text from a byte on come to, as events on a running frame, and the bytes that answer them. Document 01, "The station text" and "One
 -- listing, whole".
 -- Assumes nothing.
-use Rattle.std.specs.Prelude.{ℕ, ◌≤◌, ◌≡◌, List, map, true, length, drop}
+use Rattle.std.specs.Prelude.{ℕ, ◌≤◌, ◌≡◌, Bool, List, map, true, length, drop}
 use Rattle.station.specs.Limits.{most_bytes}
 use Rattle.station.specs.Head.{Head}
 use Rattle.station.specs.Text.{lines}
@@ -10,8 +10,8 @@ use Rattle.station.specs.Wrote.{Wrote}
 use Rattle.station.specs.declared.types.Preset as record-of-preset
 use Rattle.station.specs.declared.types.Head as record-of-head
 use Rattle.placing.specs.State.{State}
+use Rattle.placing.specs.declared.moment.Moment.{Moment}
 use Rattle.placing.specs.Claims.{Running}
-use Rattle.frame.specs.declared.text.lines.Lines as result
 use Rattle.frame.specs.Event.{Event, line, Run, run_of}
 use Rattle.frame.specs.Listing.{answer_lines}
 
@@ -32,8 +32,17 @@ events_from text at = map line (lines (drop at text))
 abbrev pub lines_run : Head → List ℕ → ℕ → State → Run
 lines_run h text from st = run_of h st (events_from text from)
 
+-- what the lines leave beside the table and the output: the clock, the order of ties, and the place after the last answer
+pub record Lines : Type 0 where
+  pub clock : ℕ
+  pub hold : Bool
+  pub position : ℕ
+
+abbrev pub lines_answer : ℕ → Moment → Lines
+lines_answer position m = record { clock = m.clock; hold = m.hold; position = position }
+
 -- The table is now u, and the output l is now l₁: each line from the byte on was an event, and its answer was written. `first` lines went before.
-pub record RanLines (h : Head) (text : List ℕ) (from first : ℕ) (st : State) (l : List ℕ) (position : ℕ) (u l₁ : List ℕ) (r : result.Lines) : Type 0 where
+pub record RanLines (h : Head) (text : List ℕ) (from first : ℕ) (st : State) (l : List ℕ) (position : ℕ) (u l₁ : List ℕ) (r : Lines) : Type 0 where
   pub table : u ≡ (lines_run h text from st).after.table
   pub clock : r.clock ≡ (lines_run h text from st).after.clock
   pub hold : r.hold ≡ (lines_run h text from st).after.hold

@@ -1,21 +1,12 @@
--- The parts of a whole text: what the code that runs one is held to.
---
--- In order: a refusal (`refused_run`); what a head that was read hands on (`HeadStart`).
+-- The part of a whole text that runs a head that was read: what it is handed (`HeadStart`).
 -- Assumes nothing.
-use Rattle.std.specs.Prelude.{ℕ, ◌≤◌, ◌≡◌, Bool, List, length}
+use Rattle.std.specs.Prelude.{ℕ, ◌≤◌, ◌≡◌, List, length}
 use Rattle.station.specs.Limits.{least_cells}
 use Rattle.station.specs.Types.{head_in}
 use Rattle.station.specs.Writing.{text_of}
 use Rattle.station.specs.Reading.{Reading, head_of}
 use Rattle.station.specs.declared.types.Preset as record-of-preset
 use Rattle.station.specs.declared.types.Head as record-of-head
-use Rattle.station.specs.declared.types.Refusal as cause
-use Rattle.frame.specs.declared.text.Ended.TheVariants.{Refused}
-use Rattle.frame.specs.declared.text.TextRun as result
-
--- a refusal: its line and cause, with the head, the presets, the clock and the order of ties that it leaves
-abbrev pub refused_run : ℕ → cause.Refusal → record-of-head.Head → List record-of-preset.Preset → ℕ → Bool → result.TextRun
-refused_run n c head ps clock hold = record { ended = Refused n c; head = head; presets = ps; clock = clock; hold = hold }
 
 -- What a head that was read hands to its plan and to the lines after it: the records stand for the text's head of n lines and k bytes, and the lent table is
 -- long enough.

@@ -1,46 +1,49 @@
 -- Laws of the listing's lines, as the writers meet them.
 --
--- In order: the text of a cell by its kind (`letter_m`, `letter_o`, `letter_c`, `cell_lettered`); the cells of a slot one by one (`cell_texts_step`); the lines
--- of slots one by one (`slot_lines_step`), what a frame's size lets pass (`line_of_slot_lem`, `no_slot`, `no_bridges`, `lines_of_slots_lem`, `no_slots`, `lines_no_bridges`),
--- and that only the number of bridges counts (`slot_line_head`, `slot_lines_head`); the granted lines one by one (`granted_step`, `granted_many`).
+-- In order: the text of a cell by what it holds (`text_in`, `cell_kind`); the cells of a slot one by one (`cell_texts_step`); the lines
+-- of slots one by one (`slot_lines_step`), what a frame's size lets pass (`line_of_slot_lem`, `no_line`, `lines_of_slots_lem`, `no_lines`),
+-- and that only the number of bridges counts (`slot_line_head`, `slot_lines_head`); the granted lines one by one (`granted_step`).
 -- Assumes nothing.
 use Prim.Native.Nat.{ℕ, zero, suc, ◌-◌, ◌≤◌, ◌<◌}
 use native.Mathlib.Omega.{arith}
 use mathlib.Core.Path.{◌≡◌, refl, sym, ◌∙◌, ap}
+use mathlib.Core.Logic.{◌⊎◌, inl, inr}
 use mathlib.Core.List.{List, [], ◌∷◌, ◌++◌, append_assoc, map}
 use lib.ListN.{length, take, drop, get_or}
-use lib.Seq.{take_all}
 use Rattle.laws.specs.Lists.{at}
-use Rattle.laws.proofs.Comparisons.{eqb_yes, eqb_no, ltb_yes, ltb_no, leb_yes, leb_no}
+use Rattle.laws.proofs.Comparisons.{ltb_yes, ltb_no, leb_yes, leb_no}
 use Rattle.station.specs.Head.{Head}
 use Rattle.station.specs.declared.types.Preset as record-of-preset
 use Rattle.station.specs.Types.{preset_in, presets_in, no_record}
 use Rattle.station.specs.Text.{bytes}
 use Rattle.station.specs.Decimal.{digits}
 use Rattle.station.proofs.Theorems.{records_step}
+use Rattle.placing.specs.declared.cells.Kind.{Kind}
+use Rattle.placing.specs.declared.cells.Kind.TheVariants.{Empty, Busy, Mandatory, Optional, Call, Other}
+use Rattle.placing.specs.Types.{kind_in}
 use Rattle.placing.specs.Table.{cell, kind_of, number_in}
 use Rattle.frame.specs.Listing.{granted_line, cell_text, cell_texts, slot_line, slot_lines, granted_lines}
-use Rattle.frame.specs.method.SlotLines.{of_bridges, letter_of, line_of_slot, lines_of_slots}
+use Rattle.frame.specs.method.SlotLines.{of_bridges, line_of_slot, lines_of_slots}
 
 -- ---- the text of a cell
 
-pub letter_m : (k : ℕ) → k ≡ 2 → 109 ≡ letter_of k
-letter_m k e = rw (eqb_yes k 2 e) refl
+-- by what the cell holds
+abbrev pub text_in : Kind → ℕ → List ℕ
+text_in Empty n = bytes "0"
+text_in Busy n = bytes "-"
+text_in Mandatory n = bytes "m" ++ digits n
+text_in Optional n = bytes "o" ++ digits n
+text_in Call n = bytes "c" ++ digits n
+text_in Other n = bytes "c" ++ digits n
 
-pub letter_o : (k : ℕ) → (k ≡ 2 → ⊥) → k ≡ 3 → 111 ≡ letter_of k
-letter_o k m e = rw (eqb_no k 2 m, eqb_yes k 3 e) refl
-
-pub letter_c : (k : ℕ) → (k ≡ 2 → ⊥) → (k ≡ 3 → ⊥) → 99 ≡ letter_of k
-letter_c k m o = rw (eqb_no k 2 m, eqb_no k 3 o) refl
-
--- a cell that is neither empty nor busy: its letter and its number
-pub cell_lettered : (k n : ℕ) → (k ≡ 0 → ⊥) → (k ≡ 1 → ⊥) → cell_text k n ≡ (letter_of k ∷ []) ++ digits n
-unfolding cell_text bytes
-cell_lettered zero n e b = absurd (e refl)
-cell_lettered (suc zero) n e b = absurd (b refl)
-cell_lettered (suc (suc zero)) n e b = refl
-cell_lettered (suc (suc (suc zero))) n e b = refl
-cell_lettered (suc (suc (suc (suc k)))) n e b = ap (λ (c : ℕ). (c ∷ []) ++ digits n) (letter_c (suc (suc (suc (suc k)))) (λ q. omega arith) (λ q. omega arith))
+pub cell_kind : (k n : ℕ) → cell_text k n ≡ text_in (kind_in k) n
+unfolding cell_text
+cell_kind zero n = refl
+cell_kind (suc zero) n = refl
+cell_kind (suc (suc zero)) n = refl
+cell_kind (suc (suc (suc zero))) n = refl
+cell_kind (suc (suc (suc (suc zero)))) n = refl
+cell_kind (suc (suc (suc (suc (suc k))))) n = refl
 
 -- ---- the cells of a slot, and the lines of slots
 
@@ -63,13 +66,10 @@ module _ (n : ℕ) (t : List ℕ) (s : ℕ) where
   unfolding line_of_slot
   line_of_slot_lem h l = rw (ltb_yes s 64 h, leb_yes n 8 l) refl
 
-  pub no_slot : 64 ≤ s → line_of_slot n t s ≡ []
+  pub no_line : (64 ≤ s) ⊎ ((s < 64) × (8 < n)) → line_of_slot n t s ≡ []
   unfolding line_of_slot
-  no_slot h = rw (ltb_no s 64 h) refl
-
-  pub no_bridges : s < 64 → 8 < n → line_of_slot n t s ≡ []
-  unfolding line_of_slot
-  no_bridges h l = rw (ltb_yes s 64 h, leb_no n 8 l) refl
+  no_line (inl h) = rw (ltb_no s 64 h) refl
+  no_line (inr l) = rw (ltb_yes s 64 l.0, leb_no n 8 l.1) refl
 
 -- the slots of some frame have their lines, others no byte
 module _ (k n : ℕ) (t : List ℕ) where
@@ -77,13 +77,10 @@ module _ (k n : ℕ) (t : List ℕ) where
   unfolding lines_of_slots
   lines_of_slots_lem h l = rw (leb_yes k 64 h, leb_yes n 8 l) refl
 
-  pub no_slots : 64 < k → lines_of_slots k n t ≡ []
+  pub no_lines : (64 < k) ⊎ ((k ≤ 64) × (8 < n)) → lines_of_slots k n t ≡ []
   unfolding lines_of_slots
-  no_slots h = rw (leb_no k 64 h) refl
-
-  pub lines_no_bridges : k ≤ 64 → 8 < n → lines_of_slots k n t ≡ []
-  unfolding lines_of_slots
-  lines_no_bridges h l = rw (leb_yes k 64 h, leb_no n 8 l) refl
+  no_lines (inl h) = rw (leb_no k 64 h) refl
+  no_lines (inr l) = rw (leb_yes k 64 l.0, leb_no n 8 l.1) refl
 
 -- ---- only the number of bridges counts
 
@@ -118,7 +115,3 @@ pub granted_step : (g : List ℕ) (i n : ℕ) (ps : List record-of-preset.Preset
     ≡ granted_line (get_or ps i no_record).number (at g i) ++ granted_lines g (suc i) (map preset_in (drop (suc i) (take n ps)))
 unfolding granted_lines
 granted_step g i n ps h l = rw (records_step i n ps h l) refl
-
--- no more presets than there are records
-pub granted_many : (n : ℕ) (ps : List record-of-preset.Preset) → length ps ≡ 32 → 32 < n → presets_in n ps ≡ presets_in 32 ps
-granted_many n ps e h = ap (map preset_in) (take_all n ps (omega arith) ∙ sym (take_all 32 ps (omega arith)))

@@ -3,10 +3,10 @@ use Rattle.frame.specs.TextDone.{whole_with_output}
 use Rattle.frame.proofs.listing.WholeListing.{lists_ran, lists_refused}
 use Rattle.frame.proofs.listing.list.Goals as goal
 
-pub returns-in-Ran : goal.returns-in-Ran
-returns-in-Ran c = let a = c.args in
-    lists_ran (whole_with_output a.text.now a.table.now a.out.now) c.run_text_by_value-run.ensures.done c.in-Ran.is
+pub returns-in-Ok : goal.returns-in-Ok
+returns-in-Ok c = let a = c.args in
+    lists_ran (whole_with_output a.text.now a.table.now a.out.now) c.run_text_by_value.ensures.done c.in-Ok.is
 
-pub returns-in-Refused : goal.returns-in-Refused
-returns-in-Refused c = let a = c.args in
-    lists_refused (whole_with_output a.text.now a.table.now a.out.now) c.run_text_by_value-run.ensures.done c.in-Refused.is c.refused_line.ensures
+pub returns-in-Err : goal.returns-in-Err
+returns-in-Err c = let a = c.args in
+    lists_refused (whole_with_output a.text.now a.table.now a.out.now) c.run_text_by_value.ensures.done c.in-Err.is c.refused_line.ensures

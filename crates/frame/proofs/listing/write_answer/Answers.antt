@@ -1,7 +1,7 @@
 -- `listing::write_answer` meets its contract. Assumes nothing.
 use Rattle.frame.specs.Types.{answer_in}
 use Rattle.frame.specs.Listing.{answer_line}
-use Rattle.frame.proofs.listing.OneLine.{small_answer, answer_fits, line_short, line_whole}
+use Rattle.frame.proofs.listing.OneLine.{line_short, line_whole}
 use Rattle.frame.proofs.listing.write_answer.Goals as goal
 
 pub returns-then-out-lt-LEAST_OUTPUT : goal.returns-then-out-lt-LEAST_OUTPUT
@@ -9,5 +9,4 @@ returns-then-out-lt-LEAST_OUTPUT c = let a = c.args in line_short _ (answer_line
 
 pub returns : goal.returns
 returns c = let a = c.args in
-    line_whole (answer_line a.line (answer_in a.answer)) a.out.now c.if-out-lt-LEAST_OUTPUT.false
-    (answer_fits a.line (answer_in a.answer) c.ranges.line.fits (small_answer a.answer _ c.well_formed.1.1.0)) c.answer_line.ensures
+    line_whole (answer_line a.line (answer_in a.answer)) a.out.now c.if-out-lt-LEAST_OUTPUT.false c.answer_line.ensures.fits c.answer_line.ensures.wrote

@@ -1,7 +1,8 @@
 -- `listing::write_grant` meets its contract. Assumes nothing.
 use native.Mathlib.Omega.{arith}
 use Rattle.frame.specs.Listing.{granted_line}
-use Rattle.frame.proofs.listing.OneLine.{grant_fits, line_short, line_whole}
+use Rattle.frame.proofs.listing.OneLine.{line_short, line_whole}
+use Rattle.frame.proofs.listing.bytes.LineSizes.{grant_fits}
 use Rattle.frame.proofs.listing.write_grant.Goals as goal
 
 pub returns-then-out-lt-LEAST_OUTPUT : goal.returns-then-out-lt-LEAST_OUTPUT
@@ -9,4 +10,4 @@ returns-then-out-lt-LEAST_OUTPUT c = let a = c.args in line_short _ (granted_lin
 
 pub returns : goal.returns
 returns c = let a = c.args in
-    line_whole (granted_line a.number a.slots) a.out.now c.if-out-lt-LEAST_OUTPUT.false (grant_fits a.number a.slots (omega arith) (omega arith)) c.granted_line.ensures
+    line_whole (granted_line a.number a.slots) a.out.now c.if-out-lt-LEAST_OUTPUT.false (grant_fits a.number a.slots (omega arith) (omega arith)) (rw (c.from.ensures, c.from-2.ensures) at c.granted_line.ensures)

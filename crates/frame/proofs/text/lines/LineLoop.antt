@@ -1,35 +1,39 @@
 -- The loop over the lines of a text, or those after its head: what holds between two lines, and at the end.
 --
--- In order: between two lines (`AtEvent`, `at_first`); at a line (`line_inside`, `line_bytes`), and after it (`at_next`); no line is left (`at_end`).
+-- In order: between two lines (`AtEvent`, `at_first`); at a line (`line_room`), and after it (`at_next`); no line is left (`at_end`).
 -- Assumes nothing.
 use Prim.Native.Nat.{ℕ, suc, ◌+◌, ◌≤◌, ◌<◌}
 use native.Mathlib.Omega.{arith}
 use native.Mathlib.Numerals.{add-one}
 use mathlib.Core.Path.{◌≡◌, refl, sym, ◌∙◌, ap, subst}
-use mathlib.Core.Bool.{Bool, true}
+use mathlib.Core.Bool.{true}
 use mathlib.Core.Option.{none}
 use mathlib.Core.List.{List, [], ◌∷◌, ◌++◌, map}
 use lib.ListN.{length, drop, length-drop}
+use Rattle.std.specs.Prelude.{Result}
 use Rattle.station.specs.Head.{Head}
-use Rattle.station.specs.Line.{line_of}
+use Rattle.station.specs.Text.{lines}
 use Rattle.station.specs.Refusal.{first_of}
 use Rattle.station.specs.Types.{head_in, valid_record}
 use Rattle.station.specs.Wrote.{Wrote, Left}
 use Rattle.station.specs.declared.types.Preset as record-of-preset
 use Rattle.station.specs.declared.types.Head as record-of-head
-use Rattle.station.proofs.Theorems.{line_some, line_within, lines_at, lines_past, left_all, left_wrote, left_none}
+use Rattle.station.specs.declared.types.Refusal as cause
+use Rattle.station.proofs.Theorems.{lines_few, left_all, left_wrote, left_none}
 use Rattle.placing.specs.Causes.{frame_causes_of}
 use Rattle.placing.specs.Table.{cell}
-use Rattle.placing.specs.State.{State, state_of}
+use Rattle.placing.specs.State.{State, state_at}
+use Rattle.placing.specs.declared.moment.Moment.{Moment}
+use Rattle.placing.specs.declared.counts.Counts.{Counts}
 use Rattle.placing.specs.Claims.{Running}
 use Rattle.placing.specs.method.Counts.{CountsOf}
-use Rattle.frame.specs.declared.types.Outcome as result
+use Rattle.frame.specs.declared.types.Answer as reply
 use Rattle.frame.specs.Event.{Event, line, Answer, Outcome, event_of, run_of}
-use Rattle.frame.specs.Types.{answer_in}
+use Rattle.frame.specs.Types.{answer_in, outcome}
 use Rattle.frame.specs.Listing.{answer_line, answer_lines}
 use Rattle.frame.specs.EventDone.{Yields}
 use Rattle.frame.specs.method.EventParts.{line_meant}
-use Rattle.frame.specs.method.TextLines.{LinesStart, events_from, lines_run, RanLines}
+use Rattle.frame.specs.method.TextLines.{LinesStart, lines_run, lines_answer, RanLines}
 use Rattle.frame.proofs.OneEvent.{event_running}
 use Rattle.frame.proofs.KeptCells.{run_kept}
 use Rattle.placing.proofs.Theorems.{running_frame}
@@ -62,43 +66,41 @@ event_size h st e run = (run_kept h st (e ∷ []) run).past.long
 -- ---- between two lines
 
 -- The lines of a text from the byte `from` on are run on the state `start`, `first` lines having gone before, and the answers go into the output l from `position` on.
--- So far n lines of the text were read, to the byte at; they left the table u, the clock c, the order of ties and the output l₁, whose next place is r. The counts are those of u and c.
-pub record AtEvent (head : record-of-head.Head) (ps : List record-of-preset.Preset) (text : List ℕ) (from first : ℕ) (start : State) (l : List ℕ) (position at n c : ℕ) (hold : Bool) (r : ℕ) (u l₁ marks : List ℕ) (admitted : ℕ) (xs : List ℕ) : Type 0 where
+-- So far n lines of the text were read, and those that are left are `left`; they left the table u, the clock and the order of ties of the moment m, and the output l₁, whose next place is r.
+-- The counts k are those of u and the clock.
+pub record AtEvent (head : record-of-head.Head) (ps : List record-of-preset.Preset) (text : List ℕ) (from first : ℕ) (start : State) (l : List ℕ) (position : ℕ) (left : List (List ℕ)) (n : ℕ)
+    (m : Moment) (r : ℕ) (u l₁ : List ℕ) (k : Counts) : Type 0 where
   pub valid : valid_record head ps ≡ true
-  pub running : Running (head_in head ps) (state_of u c hold)
-  pub counted : CountsOf (head_in head ps) c (cell (head_in head ps) u) marks admitted xs
+  pub running : Running (head_in head ps) (state_at u m)
+  pub counted : CountsOf (head_in head ps) m.clock (cell (head_in head ps) u) k
   pub size : length u ≡ length start.table
-  pub inside : at ≤ length text
-  pub few : n ≤ at
-  pub short : length text ≤ 32768
-  pub after : (run_of (head_in head ps) (state_of u c hold) (events_from text at)).after ≡ (lines_run (head_in head ps) text from start).after
+  pub room : n + length left ≤ 32768
+  pub after : (run_of (head_in head ps) (state_at u m) (map line left)).after ≡ (lines_run (head_in head ps) text from start).after
   pub output :
       Left l position (answer_lines first (lines_run (head_in head ps) text from start).answers) l₁ r
-      (answer_lines n (run_of (head_in head ps) (state_of u c hold) (events_from text at)).answers)
+      (answer_lines n (run_of (head_in head ps) (state_at u m) (map line left)).answers)
 
-pub at_first : (head : record-of-head.Head) (ps : List record-of-preset.Preset) (text : List ℕ) (from first : ℕ) (t : List ℕ) (c : ℕ) (hold : Bool) (l : List ℕ) (position : ℕ)
-    {marks xs : List ℕ} {admitted : ℕ} → LinesStart head ps text from first (state_of t c hold)
-    → (valid_record head ps ≡ true → 512 ≤ length t → CountsOf (head_in head ps) c (cell (head_in head ps) t) marks admitted xs)
-    → AtEvent head ps text from first (state_of t c hold) l position from first c hold position t l marks admitted xs
-at_first head ps text from first t c hold l position s k = record {
+pub at_first : (head : record-of-head.Head) (ps : List record-of-preset.Preset) (text : List ℕ) (from first : ℕ) (t : List ℕ) (m : Moment) (l : List ℕ) (position : ℕ)
+    {k : Counts} → LinesStart head ps text from first (state_at t m)
+    → (valid_record head ps ≡ true → 512 ≤ length t → CountsOf (head_in head ps) m.clock (cell (head_in head ps) t) k)
+    → AtEvent head ps text from first (state_at t m) l position (lines (drop from text)) first m position t l k
+at_first head ps text from first t m l position s right = record {
   valid = s.valid;
   running = s.running;
-  counted = k s.valid s.running.long;
+  counted = right s.valid s.running.long;
   size = refl;
-  inside = s.inside;
-  few = s.few;
-  short = s.short;
+  room = omega (arith, s.few, s.inside, s.short, lines_few (drop from text), length-drop from text);
   after = refl;
-  output = left_all l position (answer_lines first (lines_run (head_in head ps) text from (state_of t c hold)).answers);
+  output = left_all l position (answer_lines first (lines_run (head_in head ps) text from (state_at t m)).answers);
 }
 
-module _ {head : record-of-head.Head} {ps : List record-of-preset.Preset} {text : List ℕ} {from first : ℕ} {start : State} {l : List ℕ} {position at n c : ℕ} {hold : Bool} {r : ℕ} {u l₁ marks : List ℕ} {admitted : ℕ} {xs : List ℕ}
-    (a : AtEvent head ps text from first start l position at n c hold r u l₁ marks admitted xs) where
+module _ {head : record-of-head.Head} {ps : List record-of-preset.Preset} {text : List ℕ} {from first : ℕ} {start : State} {l : List ℕ} {position : ℕ} {left : List (List ℕ)} {n : ℕ}
+    {m : Moment} {r : ℕ} {u l₁ : List ℕ} {k : Counts} (a : AtEvent head ps text from first start l position left n m r u l₁ k) where
   abbrev h : Head
   h = head_in head ps
 
   abbrev st : State
-  st = state_of u c hold
+  st = state_at u m
 
   -- what is to be written for the whole run
   abbrev all : List ℕ
@@ -110,78 +112,65 @@ module _ {head : record-of-head.Head} {ps : List record-of-preset.Preset} {text 
 
   -- ---- at a line
 
-  module _ {x : List ℕ} (within : at < length text) (here : x ≡ line_of (drop at text)) where
-    pub line_inside : at + length x ≤ length text
-    line_inside = rw here (line_within text at a.inside)
-
-    pub line_bytes : 0 < length x
-    line_bytes = rw here (line_some (drop at text) (omega (arith, length-drop at text)))
-
-    abbrev rest : List Event
-    rest = events_from text (at + length x)
+  module _ {x : List ℕ} {rest : List (List ℕ)} (here : left ≡ x ∷ rest) where
+    pub line_room : n + 1 ≤ 32768
+    line_room = omega (arith, a.room, ap length here)
 
     abbrev done : Outcome
     done = event_of h st (line x)
 
-    events_here : events_from text at ≡ line x ∷ rest
-    events_here = rw here (ap (map line) (lines_at text at within))
-
     -- what the event leaves goes to those after it, and its answer is written before theirs
-    after_here : (run_of h st (events_from text at)).after ≡ (run_of h done.after rest).after
-    after_here = ap (λ (es : List Event). (run_of h st es).after) events_here ∙ (run_cons h st (line x) rest).0
+    after_here : (run_of h st (map line left)).after ≡ (run_of h done.after (map line rest)).after
+    after_here = ap (λ (ls : List (List ℕ)). (run_of h st (map line ls)).after) here ∙ (run_cons h st (line x) (map line rest)).0
 
-    output_here : answer_lines n (run_of h st (events_from text at)).answers
-        ≡ answer_line (suc n) done.answer ++ answer_lines (suc n) (run_of h done.after rest).answers
+    output_here : answer_lines n (run_of h st (map line left)).answers
+        ≡ answer_line (suc n) done.answer ++ answer_lines (suc n) (run_of h done.after (map line rest)).answers
     output_here =
-        ap (λ (es : List Event). answer_lines n (run_of h st es).answers) events_here
-        ∙ ap (answer_lines n) (run_cons h st (line x) rest).1
-        ∙ answers_cons n done.answer (run_of h done.after rest).answers
+        ap (λ (ls : List (List ℕ)). answer_lines n (run_of h st (map line ls)).answers) here
+        ∙ ap (answer_lines n) (run_cons h st (line x) (map line rest)).1
+        ∙ answers_cons n done.answer (run_of h done.after (map line rest)).answers
 
     -- the event was answered, and its answer written
-    pub at_next : {u₁ l₂ : List ℕ} {o : result.Outcome} {r₁ : ℕ} {marks₁ xs₁ : List ℕ} {admitted₁ : ℕ}
-        → (valid_record head ps ≡ true → Running h st → CountsOf h c (cell h u) marks admitted xs
-        → Yields (line_meant head ps st x) u₁ o × CountsOf h o.clock (cell h u₁) marks₁ admitted₁ xs₁)
-        → Wrote l₁ r (answer_line (n + 1) (answer_in o.answer)) l₂ r₁
-        → AtEvent head ps text from first start l position (at + length x) (n + 1) o.clock o.hold r₁ u₁ l₂ marks₁ admitted₁ xs₁
-    at_next {u₁} {l₂} {o} {r₁} d w =
+    pub at_next : {u₁ l₂ : List ℕ} {y : Result reply.Answer cause.Refusal} {m₁ : Moment} {r₁ : ℕ} {k₁ : Counts}
+        → (valid_record head ps ≡ true → Running h st → CountsOf h m.clock (cell h u) k
+        → Yields (line_meant head ps st x) u₁ (outcome y m₁) × CountsOf h m₁.clock (cell h u₁) k₁)
+        → Wrote l₁ r (answer_line (n + 1) (answer_in y)) l₂ r₁
+        → AtEvent head ps text from first start l position rest (n + 1) m₁ r₁ u₁ l₂ k₁
+    at_next {u₁} {l₂} {y} {m₁} {r₁} d w =
         let left_by_lem = d a.valid a.running a.counted in
-        let y = line_done head ps st at_free x left_by_lem.0 in
-        let run : Running h (state_of u₁ o.clock o.hold) = rw (y.clock, y.table, y.hold) (event_running h st (line x) a.running) in
-        let left : state_of u₁ o.clock o.hold ≡ done.after = rw (y.table, y.clock, y.hold) refl in
-        let f = a.few in
+        let z = line_done head ps st at_free x left_by_lem.0 in
+        let run : Running h (state_at u₁ m₁) = rw (z.clock, z.table, z.hold) (event_running h st (line x) a.running) in
+        let leaves : state_at u₁ m₁ ≡ done.after = rw (z.table, z.clock, z.hold) refl in
         let wrote : Wrote l₁ r (answer_line (suc n) done.answer) l₂ r₁ =
-        subst (λ (z : Answer). Wrote l₁ r (answer_line (suc n) z) l₂ r₁) y.answer
-        (subst (λ (m : ℕ). Wrote l₁ r (answer_line m (answer_in o.answer)) l₂ r₁) (add-one n) w) in
+        subst (λ (b : Answer). Wrote l₁ r (answer_line (suc n) b) l₂ r₁) z.answer
+        (subst (λ (i : ℕ). Wrote l₁ r (answer_line i (answer_in y)) l₂ r₁) (add-one n) w) in
         rw (add-one n)
         (record {
           valid = a.valid;
           running = run;
           counted = left_by_lem.1;
-          size = ap length y.table ∙ event_size h st (line x) a.running ∙ a.size;
-          inside = line_inside;
-          few = omega (arith, line_bytes);
-          short = a.short;
-          after = ap (λ (v : State). (run_of h v rest).after) left ∙ sym after_here ∙ a.after;
+          size = ap length z.table ∙ event_size h st (line x) a.running ∙ a.size;
+          room = omega (arith, a.room, ap length here);
+          after = ap (λ (v : State). (run_of h v (map line rest)).after) leaves ∙ sym after_here ∙ a.after;
           output =
-              subst (λ (v : State). Left l position all l₂ r₁ (answer_lines (suc n) (run_of h v rest).answers)) (sym left)
-              (left_wrote (answer_line (suc n) done.answer) (answer_lines (suc n) (run_of h done.after rest).answers)
+              subst (λ (v : State). Left l position all l₂ r₁ (answer_lines (suc n) (run_of h v (map line rest)).answers)) (sym leaves)
+              (left_wrote (answer_line (suc n) done.answer) (answer_lines (suc n) (run_of h done.after (map line rest)).answers)
               (subst (Left l position all l₁ r) output_here a.output) wrote);
         })
 
   -- ---- no line is left
 
-  pub at_end : length text ≤ at → RanLines h text from first start l position u l₁ (record { clock = c; hold = hold; position = r })
-  at_end past =
-      let none_left : events_from text at ≡ [] = ap (map line) (lines_past text at past) in
+  pub at_end : left ≡ [] → RanLines h text from first start l position u l₁ (lines_answer r m)
+  at_end none_left =
       let z = run_none h st in
-      let left : st ≡ (lines_run h text from start).after = sym z.0 ∙ ap (λ (es : List Event). (run_of h st es).after) (sym none_left) ∙ a.after in
+      let same : st ≡ (lines_run h text from start).after = sym z.0 ∙ ap (λ (ls : List (List ℕ)). (run_of h st (map line ls)).after) (sym none_left) ∙ a.after in
       record {
-        table = ap (λ (s : State). s.table) left;
-        clock = ap (λ (s : State). s.clock) left;
-        hold = ap (λ (s : State). s.hold) left;
+        table = ap (λ (s : State). s.table) same;
+        clock = ap (λ (s : State). s.clock) same;
+        hold = ap (λ (s : State). s.hold) same;
         output =
             left_none
             (subst (Left l position all l₁ r)
-            (ap (λ (es : List Event). answer_lines n (run_of h st es).answers) none_left ∙ ap (answer_lines n) z.1 ∙ answers_none n)
+            (ap (λ (ls : List (List ℕ)). answer_lines n (run_of h st (map line ls)).answers) none_left ∙ ap (answer_lines n) z.1 ∙ answers_none n)
             a.output);
       }

@@ -1,13 +1,24 @@
 -- `text::run_head` meets its contract: the plan is refused, or granted lines, answers and slots make the listing. Assumes nothing.
-use mathlib.Core.Path.{refl}
-use Rattle.frame.proofs.text.WholeText.{run_refused, lines_may_start, run_done}
+use mathlib.Core.Path.{◌≡◌}
+use Rattle.std.proofs.Common.{rules}
+use Rattle.std.proofs.lemmas.Result.{err_from_is_err_and}
+use Rattle.station.specs.ReadHead.{fault}
+use Rattle.frame.proofs.text.WholeText.{mapped_err, mapped_ok, run_refused, lines_may_start, run_done}
 use Rattle.frame.proofs.text.run_head.Goals as goal
 
-pub returns-in-Refused : goal.returns-in-Refused
-returns-in-Refused c = run_refused c.requires c.plan_by_value-planned.ensures.done c.args.clock c.args.hold c.args.out.now c.in-Refused.is c.refused.ensures
+pub returns-in_err-grants : goal.returns-in_err-grants
+returns-in_err-grants c = let a = c.args in
+    let m = mapped_err _ c.plan_by_value.result c.map_err.result c.in_err-grants.field-0.0 c.map_err.ensures.cases c.in_err-grants.was in
+    let p = err_from_is_err_and c.from_residual.result c.from_residual.ensures.1 in
+    let k = m.2 in
+    let e : c.in_err-grants.field-0.0 ≡ fault a.read.lines m.0 = search rules in
+    rw (p.1, p.2, e) (run_refused c.requires c.plan_by_value.ensures.done a.moment.now.clock a.moment.now.hold a.out.now m.1)
 
-pub run_lines-ran-requires : goal.run_lines-ran-requires
-run_lines-ran-requires c = lines_may_start c.requires c.plan_by_value-planned.ensures.done c.in_default.is
+pub run_lines-answered-requires : goal.run_lines-answered-requires
+run_lines-answered-requires c =
+    lines_may_start c.requires c.plan_by_value.ensures.done (mapped_ok _ c.plan_by_value.result c.map_err.result c.in_ok-grants.grants c.map_err.ensures.cases c.in_ok-grants.was)
 
 pub returns : goal.returns
-returns c = run_done c.requires c.plan_by_value-planned.ensures.done c.in_default.is c.args.clock c.args.hold c.granted_lines-granted.ensures c.run_lines-ran.ensures c.slot_lines-end.ensures refl
+returns c = let a = c.args in
+    let planned = mapped_ok _ c.plan_by_value.result c.map_err.result c.in_ok-grants.grants c.map_err.ensures.cases c.in_ok-grants.was in
+    run_done c.requires c.plan_by_value.ensures.done planned a.moment.now.clock a.moment.now.hold c.granted_lines-granted.ensures c.run_lines-answered.ensures c.slot_lines.ensures

@@ -5,14 +5,12 @@ use Rattle.frame.proofs.event.asked.asked_clock.Goals as goal
 
 pub returns-then-not-clock_in : goal.returns-then-not-clock_in
 returns-then-not-clock_in c = let a = c.args in
-    rw c.answered.ensures (clock_out a.slots a.clock a.to a.hold (sym c.clock_in.ensures ∙ c.if-not-clock_in.true))
+    clock_out a.slots a.moment.now.clock a.to a.moment.now.hold (sym c.clock_in.ensures ∙ c.if-not-clock_in.true)
 
-pub returns-then-to-clock : goal.returns-then-to-clock
-returns-then-to-clock c = let a = c.args in
-    rw c.answered-then-to-clock.ensures
-    (clock_below a.slots a.clock a.to a.hold (sym c.clock_in.ensures ∙ c.if-not-clock_in.false) c.if-to-clock.true)
+pub returns-then-to-moment : goal.returns-then-to-moment
+returns-then-to-moment c = let a = c.args in
+    clock_below a.slots a.moment.now.clock a.to a.moment.now.hold (sym c.clock_in.ensures ∙ c.if-not-clock_in.false) c.if-to-moment.true
 
 pub returns : goal.returns
 returns c = let a = c.args in
-    rw c.answered-2.ensures
-    (clock_set_lem a.slots a.clock a.to a.hold (sym c.clock_in.ensures ∙ c.if-not-clock_in.false) c.if-to-clock.false)
+    clock_set_lem a.slots a.moment.now.clock a.to a.moment.now.hold (sym c.clock_in.ensures ∙ c.if-not-clock_in.false) c.if-to-moment.false

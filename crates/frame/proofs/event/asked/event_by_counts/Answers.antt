@@ -1,32 +1,50 @@
 -- `event::asked::event_by_counts` meets its contract: a law for what each line asks. Assumes nothing.
-use Rattle.placing.specs.State.{state_of}
+use Prim.Native.Nat.{ℕ}
+use mathlib.Core.Path.{sym, ◌∙◌, ap}
+use Rattle.std.specs.Prelude.{Result, Ok}
+use Rattle.std.proofs.lemmas.Result.{err_from_is_err_and}
+use Rattle.station.specs.declared.types.Refusal as cause
+use Rattle.placing.specs.CallDone.{call_answer_in}
+use Rattle.placing.specs.State.{state_at}
+use Rattle.frame.specs.Event.{answer_of}
 use Rattle.frame.proofs.event.EventAnswers.{line_clock, line_place, line_tie, line_fault, clock_counts}
 use Rattle.frame.proofs.event.asked.event_by_counts.Goals as goal
 
-pub returns-in-SetClock : goal.returns-in-SetClock
-returns-in-SetClock c = λ v run right.
-    let a = c.args in (
-      line_clock a.head a.presets (state_of a.table.now a.clock a.hold) a.line.now c.read_event-read.ensures c.in-SetClock.is c.asked_clock-done.ensures,
-      clock_counts a.head a.presets _ (state_of a.table.now a.clock a.hold) c.asked_clock-done.ensures v run right c.pass_slots.ensures,
+pub returns-in_err-t : goal.returns-in_err-t
+returns-in_err-t c = λ v run right.
+    let a = c.args in
+    let p = err_from_is_err_and c.from_residual.result c.from_residual.ensures.1 in
+    rw (p.1, p.2) (line_fault a.head a.presets (state_at a.table.now a.moment.now) a.line.now c.read_event.ensures c.in_err-t.was, right)
+
+pub returns-in-Clock : goal.returns-in-Clock
+returns-in-Clock c = λ v run right.
+    let a = c.args in
+    let st = state_at a.table.now a.moment.now in (
+      line_clock a.head a.presets st a.line.now c.read_event.ensures (c.in_ok-t.was ∙ ap Ok c.in-Clock.is) c.asked_clock-answer.ensures,
+      clock_counts a.head a.presets _ st c.asked_clock-answer.ensures v run right c.pass_slots.ensures.kept c.pass_slots.ensures.passed,
     )
 
-pub returns-in-PlaceJobs : goal.returns-in-PlaceJobs
-returns-in-PlaceJobs c = λ v run right.
+pub returns-in_err-evicted-in-Call : goal.returns-in_err-evicted-in-Call
+returns-in_err-evicted-in-Call c = λ v run right.
     let a = c.args in
-    let done = c.call_by_counts-answer.ensures v run right in (
-      line_place a.head a.presets (state_of a.table.now a.clock a.hold) a.line.now c.read_event-read.ensures c.in-PlaceJobs.is done.0
-          c.call_outcome.ensures.0 c.call_outcome.ensures.1 c.call_outcome.ensures.2,
-      rw c.call_outcome.ensures.1 done.1,
+    let done = c.call_by_counts.ensures v run right in
+    let p = err_from_is_err_and c.from_residual-in_err-evicted-in-Call.result c.from_residual-in_err-evicted-in-Call.ensures.1 in
+    rw (p.1, p.2) (
+      line_place a.head a.presets (state_at a.table.now a.moment.now) a.line.now c.read_event.ensures (c.in_ok-t.was ∙ ap Ok c.in-Call.is) done.0
+          (sym (ap (λ (x : Result ℕ cause.Refusal). answer_of (call_answer_in x)) c.in_err-evicted-in-Call.was)),
+      done.1,
     )
 
-pub returns-in-SetTie : goal.returns-in-SetTie
-returns-in-SetTie c = λ v run right.
+pub returns-in_ok-evicted-in-Call : goal.returns-in_ok-evicted-in-Call
+returns-in_ok-evicted-in-Call c = λ v run right.
     let a = c.args in
-    rw c.answered.ensures
-    (line_tie a.head a.presets (state_of a.table.now a.clock a.hold) a.line.now c.read_event-read.ensures c.in-SetTie.is, right)
+    let done = c.call_by_counts.ensures v run right in (
+      line_place a.head a.presets (state_at a.table.now a.moment.now) a.line.now c.read_event.ensures (c.in_ok-t.was ∙ ap Ok c.in-Call.is) done.0
+          (sym (ap (λ (x : Result ℕ cause.Refusal). answer_of (call_answer_in x)) c.in_ok-evicted-in-Call.was)),
+      done.1,
+    )
 
-pub returns-in-Fault : goal.returns-in-Fault
-returns-in-Fault c = λ v run right.
+pub returns-in-Tie : goal.returns-in-Tie
+returns-in-Tie c = λ v run right.
     let a = c.args in
-    rw c.answered-in-Fault.ensures
-    (line_fault a.head a.presets (state_of a.table.now a.clock a.hold) a.line.now c.read_event-read.ensures c.in-Fault.is, right)
+    (line_tie a.head a.presets (state_at a.table.now a.moment.now) a.line.now c.read_event.ensures (c.in_ok-t.was ∙ ap Ok c.in-Tie.is), right)

@@ -1,21 +1,31 @@
--- `listing::bytes::next_cell` meets its contract, by the kind of the cell. Assumes nothing.
+-- `listing::bytes::next_cell` meets its contract, by what the cell holds. Assumes nothing.
 use mathlib.Core.Path.{sym, ◌∙◌}
+use mathlib.Core.Logic.{inl, inr}
 use Rattle.station.specs.Text.{bytes}
 use Rattle.placing.specs.Table.{kind_of, number_in}
-use Rattle.frame.specs.Listing.{cell_text}
-use Rattle.frame.proofs.listing.bytes.SlotLines.{cell_lettered}
+use Rattle.frame.proofs.listing.bytes.SlotLines.{cell_kind}
 use Rattle.frame.proofs.listing.bytes.next_cell.Goals as goal
 
-pub returns-then-kind-eq0 : goal.returns-then-kind-eq0
-unfolding cell_text bytes
-returns-then-kind-eq0 c = rw (sym c.kind_of-kind.ensures ∙ c.if-kind-eq0.true) c.word.ensures
-
-pub returns-then-kind-eq-BUSY_KIND : goal.returns-then-kind-eq-BUSY_KIND
-unfolding cell_text bytes
-returns-then-kind-eq-BUSY_KIND c = rw (sym c.kind_of-kind.ensures ∙ c.if-kind-eq-BUSY_KIND.true) c.word-then-kind-eq-BUSY_KIND.ensures
-
-pub returns : goal.returns
+pub returns-in-Empty : goal.returns-in-Empty
 unfolding bytes
-returns c = let value = c.args.value in
-    rw (cell_lettered (kind_of value) (number_in value) (rw c.kind_of-kind.ensures at c.if-kind-eq0.false) (rw c.kind_of-kind.ensures at c.if-kind-eq-BUSY_KIND.false))
-    (rw (c.letter-first.ensures, c.number_in.ensures.0, c.kind_of-kind.ensures) at c.lettered.ensures)
+returns-in-Empty c = let v = c.args.value in rw (cell_kind (kind_of v) (number_in v), sym c.of.ensures ∙ c.in-Empty.is) c.word.ensures
+
+pub returns-in-Busy : goal.returns-in-Busy
+unfolding bytes
+returns-in-Busy c = let v = c.args.value in rw (cell_kind (kind_of v) (number_in v), sym c.of.ensures ∙ c.in-Busy.is) c.word-in-Busy.ensures
+
+pub returns-in-Mandatory : goal.returns-in-Mandatory
+unfolding bytes
+returns-in-Mandatory c = let v = c.args.value in rw (cell_kind (kind_of v) (number_in v), sym c.of.ensures ∙ c.in-Mandatory.is) (rw c.number_in-number.ensures.0 at c.lettered.ensures)
+
+pub returns-in-Optional : goal.returns-in-Optional
+unfolding bytes
+returns-in-Optional c = let v = c.args.value in rw (cell_kind (kind_of v) (number_in v), sym c.of.ensures ∙ c.in-Optional.is) (rw c.number_in-number.ensures.0 at c.lettered-in-Optional.ensures)
+
+pub returns-in-Call : goal.returns-in-Call
+unfolding bytes
+returns-in-Call c = let v = c.args.value in
+    elim c.in-Call.is [
+      | inl e ↦ rw (cell_kind (kind_of v) (number_in v), sym c.of.ensures ∙ e) (rw c.number_in-number.ensures.0 at c.lettered-in-Call.ensures)
+      | inr e ↦ rw (cell_kind (kind_of v) (number_in v), sym c.of.ensures ∙ e) (rw c.number_in-number.ensures.0 at c.lettered-in-Call.ensures)
+    ]

@@ -1,4 +1,5 @@
 -- `listing::bytes::slot_cells` meets its contract. The invariant: the cells from bridge b on are left. Assumes nothing.
+use Rattle.std.proofs.Common.{rules}
 use Prim.Native.Nat.{suc, ◌-◌}
 use native.Mathlib.Numerals.{add-one}
 use native.Mathlib.Omega.{arith}
@@ -19,35 +20,25 @@ overflow_mul-start c = let a = c.args in omega (arith, frame_le a.slot a.bridges
 pub loop-b-init : goal.loop-b-init
 loop-b-init c = let a = c.args in
     let all : a.bridges - 0 ≡ a.bridges = omega arith in
-    (omega arith, rw all (left_all a.out.now a.at (cell_texts (of_bridges a.bridges) a.table.now a.slot 0 a.bridges)))
+    rw all (left_all a.out.now a.at (cell_texts (of_bridges a.bridges) a.table.now a.slot 0 a.bridges))
 
 pub overflow_add-start : goal.overflow_add-start
 overflow_add-start c = let a = c.args in omega (arith, frame_le a.slot a.bridges (omega arith) (omega arith))
-
-pub overflow_add-b : goal.overflow_add-b
-overflow_add-b c = omega arith
-
-pub loop-b-smaller : goal.loop-b-smaller
-loop-b-smaller c = omega arith
 
 pub loop-b-preserved : goal.loop-b-preserved
 loop-b-preserved c = let loop = c.loop-b in
     let a = c.args in
     let h = of_bridges a.bridges in
     let t = a.table.now in
-    let v = cell h t a.slot loop.b in (
-      omega arith,
-      rw add-one
-          (left_wrote (bytes " " ++ cell_text (kind_of v) (number_in v)) (cell_texts h t a.slot (suc loop.b) (a.bridges - suc loop.b))
-          (rw (cell_texts_step h t a.slot loop.b a.bridges c.loop-b-test.true) at loop.invariant.1) (rw c.cell_at-value.ensures at c.next_cell-position.ensures)),
-    )
-
-pub shape_of-out : goal.shape_of-out
-shape_of-out c = c.loop-b.invariant.1.size
+    let v = cell h t a.slot loop.b in
+    let value : c.unwrap_or-value.result ≡ v = search rules in
+    rw add-one
+    (left_wrote (bytes " " ++ cell_text (kind_of v) (number_in v)) (cell_texts h t a.slot (suc loop.b) (a.bridges - suc loop.b))
+    (rw (cell_texts_step h t a.slot loop.b a.bridges c.loop-b-test.true) at loop.invariant) (rw value at c.next_cell-position.ensures))
 
 pub returns : goal.returns
 unfolding cell_texts
 returns c = let loop = c.loop-b in
     let a = c.args in
-    let e : a.bridges - loop.b ≡ 0 = omega arith in
-    rw e at loop.invariant.1
+    let none-left : a.bridges - loop.b ≡ 0 = omega arith in
+    rw none-left at loop.invariant

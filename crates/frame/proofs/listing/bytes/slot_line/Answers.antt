@@ -4,14 +4,11 @@ use Rattle.station.specs.Text.{bytes}
 use Rattle.station.proofs.Theorems.{left_then, wrote_none, wrote_then}
 use Rattle.frame.specs.Listing.{slot_line, cell_texts}
 use Rattle.frame.specs.method.SlotLines.{of_bridges}
-use Rattle.frame.proofs.listing.bytes.SlotLines.{line_of_slot_lem, no_slot, no_bridges}
+use Rattle.frame.proofs.listing.bytes.SlotLines.{line_of_slot_lem, no_line}
 use Rattle.frame.proofs.listing.bytes.slot_line.Goals as goal
 
 pub returns-then-slot-ge-MOST_SLOTS : goal.returns-then-slot-ge-MOST_SLOTS
-returns-then-slot-ge-MOST_SLOTS c = let a = c.args in rw (no_slot a.bridges a.table.now a.slot c.if-slot-ge-MOST_SLOTS.true) (wrote_none a.out.now a.at)
-
-pub returns-then-bridges-gt-MOST_BRIDGES : goal.returns-then-bridges-gt-MOST_BRIDGES
-returns-then-bridges-gt-MOST_BRIDGES c = let a = c.args in rw (no_bridges a.bridges a.table.now a.slot c.if-slot-ge-MOST_SLOTS.false c.if-bridges-gt-MOST_BRIDGES.true) (wrote_none a.out.now a.at)
+returns-then-slot-ge-MOST_SLOTS c = let a = c.args in rw (no_line a.bridges a.table.now a.slot c.then-slot-ge-MOST_SLOTS.either) (wrote_none a.out.now a.at)
 
 pub returns : goal.returns
 unfolding slot_line bytes

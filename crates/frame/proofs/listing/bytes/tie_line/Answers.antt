@@ -7,6 +7,6 @@ pub returns-then-hold : goal.returns-then-hold
 unfolding print bytes
 returns-then-hold c = rw c.if-hold.true c.word.ensures
 
-pub returns : goal.returns
+pub returns-else-hold : goal.returns-else-hold
 unfolding print bytes
-returns c = rw c.if-hold.false c.word-2.ensures
+returns-else-hold c = rw c.if-hold.false c.word-else-hold.ensures

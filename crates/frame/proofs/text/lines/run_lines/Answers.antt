@@ -1,36 +1,23 @@
 -- `text::lines::run_lines` meets its contract. The invariant is `AtEvent`: the lines that are left, run from here on, come to what the whole run comes to, their
--- answers are what is left to be written, and the counts are those of the table and the clock. The measure is what is left of the text. Assumes nothing.
+-- answers are what is left to be written, and the counts are those of the table and the clock. Assumes nothing.
+use Prim.Native.Nat.{ℕ, ◌-◌}
 use native.Mathlib.Omega.{arith}
-use Rattle.frame.proofs.text.lines.LineLoop.{at_first, line_inside, line_bytes, at_next, at_end}
+use mathlib.Core.Path.{◌≡◌}
+use mathlib.Core.List.{List}
+use lib.ListN.{length, take, drop, length-drop}
+use lib.Seq.{take_all}
+use Rattle.frame.proofs.text.lines.LineLoop.{at_first, at_next, at_end}
 use Rattle.frame.proofs.text.lines.run_lines.Goals as goal
 
-pub loop-at-init : goal.loop-at-init
-loop-at-init c = let a = c.args in
-    at_first a.head a.presets a.text.now a.from a.first a.table.now a.start a.order a.out.now a.position c.requires c.counts_of-counts.ensures
+pub loop-line-init : goal.loop-line-init
+loop-line-init c = let a = c.args in
+    let rest : List ℕ = drop a.gone.bytes a.text.now in
+    let whole : take (length a.text.now - a.gone.bytes) rest ≡ rest = take_all (length a.text.now - a.gone.bytes) rest (omega (arith, length-drop a.gone.bytes a.text.now)) in
+    rw (c.into_iter-line-iterator.ensures.into_iter_gives, c.new-line-items.ensures, whole)
+    (at_first a.head a.presets a.text.now a.gone.bytes a.gone.lines a.table.now a.moment.now a.out.now a.position c.requires c.of-counts.ensures)
 
-pub overflow_add-n : goal.overflow_add-n
-overflow_add-n c = let i = c.loop-at.invariant in
-    omega (arith, i.few, i.inside, i.short)
-
-pub overflow_add-at : goal.overflow_add-at
-overflow_add-at c = let x = c in
-    let i = x.loop-at.invariant in
-    omega (arith, line_inside i x.loop-at-test.true x.line_at-line.ensures, i.short)
-
-pub loop-at-smaller : goal.loop-at-smaller
-loop-at-smaller c = let x = c in
-    let i = x.loop-at.invariant in
-    omega (arith, line_bytes i x.loop-at-test.true x.line_at-line.ensures, x.loop-at-test.true)
-
-pub loop-at-preserved : goal.loop-at-preserved
-loop-at-preserved c = let x = c in
-    at_next x.loop-at.invariant x.loop-at-test.true x.line_at-line.ensures c.event_by_counts-done.ensures c.answer_line-next.ensures
-
-pub shape_of-table : goal.shape_of-table
-shape_of-table c = c.loop-at.invariant.size
-
-pub shape_of-out : goal.shape_of-out
-shape_of-out c = c.loop-at.invariant.output.size
+pub loop-line-preserved : goal.loop-line-preserved
+loop-line-preserved c = at_next c.loop-line.invariant c.in-Some.ensures.steps c.event_by_counts-answer.ensures c.answer_line-next.ensures.wrote
 
 pub returns : goal.returns
-returns c = at_end c.loop-at.invariant c.loop-at-test.false
+returns c = at_end c.loop-line.invariant c.in-None.ensures.steps.0
