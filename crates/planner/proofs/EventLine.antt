@@ -1,7 +1,6 @@
 -- What `planner_event` answers and leaves, law by law.
 --
--- In order: what an event line comes to by the causes 8 of the frame and of the presets (`on-..`); one that is refused by these (`event_short_frame`,
--- `event_short_presets`); a refusal changes nothing (`refused_keeps`); one that is handed on (`event_run`, `event_handed`).
+-- In order: what an event line comes to by the causes 8 of the frame and of the presets (`on-..`); one that is refused by these (`event_short`); a refusal changes nothing (`refused_keeps`); one that is handed on (`event_run`, `event_handed`).
 -- Assumes nothing.
 use Prim.Native.Nat.{ℕ, ◌≤◌, ◌<◌}
 use native.Mathlib.Omega.{arith}
@@ -9,6 +8,7 @@ use mathlib.Core.Path.{◌≡◌, refl, sym, ◌∙◌, ap, subst}
 use mathlib.Core.Bool.{Bool}
 use mathlib.Core.Option.{Option, none, some}
 use mathlib.Core.List.{List, [], ◌∷◌}
+use mathlib.Core.Logic.{inl, inr}
 use lib.ListN.{length}
 use Rattle.laws.proofs.Comparisons.{ltb_yes, ltb_no}
 use Rattle.station.specs.Head.{Head}
@@ -16,18 +16,20 @@ use Rattle.station.specs.Refusal.{Refusal, too_short, first_of}
 use Rattle.station.specs.Types.{head_in}
 use Rattle.station.specs.declared.types.Preset as record-of-preset
 use Rattle.station.specs.declared.types.Head as record-of-head
+use Rattle.station.specs.declared.types.Station.{Station}
+use Rattle.placing.specs.declared.moment.Moment.{Moment}
 use Rattle.placing.specs.State.{State, state_of}
 use Rattle.placing.specs.Claims.{Running}
 use Rattle.placing.specs.Causes.{causes_of}
 use Rattle.frame.specs.Event.{Answer, Event, refused, Outcome}
 use Rattle.frame.specs.Types.{answer_in}
-use Rattle.frame.specs.declared.types.Outcome as result
+use Rattle.frame.specs.Types as result
 use Rattle.frame.specs.Demands.{EventIs, stopped, clock_set, tie_set, placed}
 use Rattle.frame.proofs.Theorems.{event_is, demand_3, done_running}
 use Rattle.frame.specs.EventDone.{event_meant, EventDone}
 use Rattle.planner.specs.Layout.{records_in, frame_numbers, tie_in_force, head_of_numbers, clock_of_numbers, hold_of_numbers, tie_over, clock_over}
 use Rattle.planner.proofs.RoundTrip.{run_head, run_clock, run_hold, run_same}
-use Rattle.planner.specs.Exports.{head_on, state_on, RunningOn, event_on, answer_returned, value, EventLeaves, EventPromise}
+use Rattle.planner.specs.Exports.{head_on, state_on, RunningOn, ShortOf, LentStation, event_on, answer_returned, value, EventLeaves, EventPromise}
 
 -- a refusal changes nothing
 is_keeps : {h : Head} {st : State} {e : Event} {o : Outcome} → EventIs h st e o → 0 < (answer_returned o.answer).number → o.after ≡ st
@@ -70,11 +72,9 @@ module _ (f p t l : List ℕ) where
     record { unchanged = λ z. (refl, refl); kept = λ run. run; claim = demand_3 (head_on f p) state (Event.line l ∷ []) },
   )
 
-  pub event_short_frame : length f < frame_numbers → Done f t 0 8
-  event_short_frame s = event_stopped (on_short_frame s)
-
-  pub event_short_presets : frame_numbers ≤ length f → length p < 128 → Done f t 0 8
-  event_short_presets k s = event_stopped (on_short_presets k s)
+  pub event_short : ShortOf f p → Done f t 0 8
+  event_short (inl s) = event_stopped (on_short_frame s)
+  event_short (inr s) = event_stopped (on_short_presets s.0 s.1)
 
   module _ {f₁ t₁ : List ℕ} {x : result.Outcome} (k : frame_numbers ≤ length f) (s : 128 ≤ length p) (d : EventDone (head_of_numbers f) (records_in p) state (Event.line l) t₁ x)
       (a : f₁ ≡ tie_over tie_in_force x.hold (clock_over x.clock f)) where
@@ -115,8 +115,8 @@ module _ (f p t l : List ℕ) where
     )
 
   -- the same of what was read of the frame and of the presets
-  pub event_handed : (hd : record-of-head.Head) (ps : List record-of-preset.Preset) (c : ℕ) (hold : Bool) (x : result.Outcome) {f₁ f₂ t₁ : List ℕ} {n r : ℕ} → frame_numbers ≤ length f → 128 ≤ length p
-      → hd ≡ head_of_numbers f → ps ≡ records_in p → c ≡ clock_of_numbers f → hold ≡ hold_of_numbers f → EventDone hd ps (state_of t c hold) (Event.line l) t₁ x
+  pub event_handed : (st : Station) (m : Moment) (x : result.Outcome) {f₁ f₂ t₁ : List ℕ} {n r : ℕ} → LentStation f p st → m.clock ≡ clock_of_numbers f → m.hold ≡ hold_of_numbers f
+      → EventDone st.head st.presets (state_of t m.clock m.hold) (Event.line l) t₁ x
       → f₂ ≡ clock_over x.clock f → f₁ ≡ tie_over tie_in_force x.hold f₂ → n ≡ value (answer_returned (answer_in x.answer)) → r ≡ (answer_returned (answer_in x.answer)).number → Done f₁ t₁ n r
-  event_handed hd ps c hold x k s a b e i d clocked tied n r =
-      event_run {x = x} k s (rw (a, b, e, i) at d) (tied ∙ ap (tie_over tie_in_force x.hold) clocked) n r
+  event_handed st m x lent e i d clocked tied n r =
+      event_run {x = x} lent.numbers lent.records (rw (lent.head, lent.list, e, i) at d) (tied ∙ ap (tie_over tie_in_force x.hold) clocked) n r

@@ -1,7 +1,6 @@
 -- What `planner_plan` answers and leaves, law by law.
 --
--- In order: what a plan comes to by the causes 8 of the frame, of the presets and of the grants (`on-..`); a plan that is refused by these (`plan_short_frame`,
--- `plan_short_presets`, `plan_short_grants`), and that one that is made met none of them (`plan_passes`); a refusal changes nothing, and what is planned is a running frame (`plan_keeps`, `plan_runs`); a plan that is refused, and
+-- In order: what a plan comes to by the causes 8 of the frame, of the presets and of the grants (`on-..`); a plan that is refused by these (`plan_short`, `plan_short_grants`), and that one that is made met none of them (`plan_passes`); a refusal changes nothing, and what is planned is a running frame (`plan_keeps`, `plan_runs`); a plan that is refused, and
 -- one that is made (`plan_refused`, `plan_made`; `refused_handed`, `made_handed`).
 -- Assumes nothing.
 use Prim.Native.Nat.{ℕ, ◌≤◌, ◌<◌}
@@ -13,6 +12,8 @@ use mathlib.Core.List.{List, []}
 use lib.ListN.{length, take}
 use lib.Seq.{sets}
 use lib.Dec.{ltb}
+use mathlib.Core.Logic.{inl, inr}
+use Rattle.std.specs.Prelude.{Result, Ok, Err}
 use Rattle.laws.specs.Lists.{at}
 use Rattle.laws.proofs.Tests.{Is, is, is_true, is_false, true_of_not}
 use Rattle.laws.proofs.Comparisons.{lt_of, ge_of, ltb_yes, ltb_no}
@@ -29,14 +30,13 @@ use Rattle.placing.specs.Claims.{Running}
 use Rattle.placing.specs.Outcomes.{PlanAnswer, PlanOutcome, plan_causes, plan_of}
 use Rattle.placing.proofs.Theorems.{plan_claim}
 use Rattle.placing.specs.Causes.{causes_of}
-use Rattle.placing.specs.declared.plan.Planned as result
-use Rattle.placing.specs.declared.plan.PlanAnswer.TheVariants.{Granted, Refused}
+use Rattle.station.specs.declared.types.Station.{Station}
 use Rattle.placing.specs.PlanDone.{plan_meant, replied_in, grants_in, PlanDone}
 use Rattle.frame.specs.Text.{start_of}
 use Rattle.frame.proofs.Theorems.{planned_running}
 use Rattle.planner.specs.Layout.{records_in, frame_numbers, head_of_numbers, hold_of_numbers, started}
 use Rattle.planner.proofs.RoundTrip.{started_head, started_clock, started_hold}
-use Rattle.planner.specs.Exports.{head_on, state_on, plan_on, plan_returned, grants_after, PlanLeaves, PlanPromise}
+use Rattle.planner.specs.Exports.{head_on, state_on, ShortOf, LentStation, plan_on, plan_returned, grants_after, PlanLeaves, PlanPromise}
 use Rattle.placing.specs.Types.{filled}
 
 -- a refused plan leaves the table
@@ -128,16 +128,14 @@ module _ (f p t g : List ℕ) where
     record { unchanged = λ z. refl; claim = plan_claim (head_on f p) t; starts = λ z. absurd (number_some too_short z); running = λ z. absurd (number_some too_short z) },
   )
 
-  pub plan_short_frame : length f < frame_numbers → Done t g 8
-  plan_short_frame s = plan_stopped (on_short_frame s)
-
-  pub plan_short_presets : frame_numbers ≤ length f → length p < 128 → Done t g 8
-  plan_short_presets k s = plan_stopped (on_short_presets k s)
+  pub plan_short : ShortOf f p → Done t g 8
+  plan_short (inl s) = plan_stopped (on_short_frame s)
+  plan_short (inr s) = plan_stopped (on_short_presets s.0 s.1)
 
   pub plan_short_grants : frame_numbers ≤ length f → 128 ≤ length p → length g < 32 → Done t g 8
   plan_short_grants k m s = plan_stopped (on_short_grants k m s)
 
-  module _ {t₁ : List ℕ} {x : result.Planned} (k : frame_numbers ≤ length f) (m : 128 ≤ length p) (s : 32 ≤ length g) (d : PlanDone (head_of_numbers f) (records_in p) t t₁ x) where
+  module _ {t₁ : List ℕ} {x : Result (List ℕ) cause.Refusal} (k : frame_numbers ≤ length f) (m : 128 ≤ length p) (s : 32 ≤ length g) (d : PlanDone (head_of_numbers f) (records_in p) t t₁ x) where
     abbrev meant : PlanOutcome
     meant = plan_meant (head_of_numbers f) (records_in p) t
 
@@ -160,27 +158,27 @@ module _ (f p t g : List ℕ) where
       },
     )
 
-    plan_refused : {n : ℕ} {c : cause.Refusal} {r : ℕ} → x.answer ≡ Refused n c → r ≡ number_of (refusal_in c) → Done t₁ g r
+    plan_refused : {c : cause.Refusal} {r : ℕ} → x ≡ Err c → r ≡ number_of (refusal_in c) → Done t₁ g r
     unfolding grants_after
-    plan_refused {n} {c} {r} q e =
-        let is : meant.answer ≡ PlanAnswer.refused n (refusal_in c) = sym d.answer ∙ ap (replied_in (take (head_of_numbers f).count x.grants)) q in
+    plan_refused {c} {r} q e =
+        let is : meant.answer ≡ PlanAnswer.refused 0 (refusal_in c) = sym d.answer ∙ ap (replied_in (head_of_numbers f).count) q in
         plan_done (e ∙ sym (ap (λ (x : PlanAnswer). (plan_returned x).number) is)) (sym (ap (λ (a : PlanAnswer). grants_after a g) is))
 
-    plan_made : {g₁ : List ℕ} → x.answer ≡ Granted → g₁ ≡ sets g 0 x.grants → Done t₁ g₁ 0
+    plan_made : {l g₁ : List ℕ} → x ≡ Ok l → g₁ ≡ sets g 0 l → Done t₁ g₁ 0
     unfolding grants_after
-    plan_made {g₁} q e =
-        let is : meant.answer ≡ PlanAnswer.granted (take (head_of_numbers f).count x.grants) = sym d.answer ∙ ap (replied_in (take (head_of_numbers f).count x.grants)) q in
+    plan_made {l} {g₁} q e =
+        let is : meant.answer ≡ PlanAnswer.granted (take (head_of_numbers f).count l) = sym d.answer ∙ ap (replied_in (head_of_numbers f).count) q in
+        let filled_up : l ≡ filled 32 (length (grants_in meant.answer)) (at (grants_in meant.answer)) = rw q at d.grants in
         plan_done (sym (ap (λ (x : PlanAnswer). (plan_returned x).number) is))
         (e
-        ∙ ap (sets g 0) d.grants
+        ∙ ap (sets g 0) filled_up
         ∙ ap (λ (a : PlanAnswer). sets g 0 (filled 32 (length (grants_in a)) (at (grants_in a)))) is
         ∙ sym (ap (λ (a : PlanAnswer). grants_after a g) is))
 
   -- the same of what was read of the frame and of the presets
-  module _ (hd : record-of-head.Head) (ps : List record-of-preset.Preset) (x : result.Planned) {t₁ : List ℕ} (k : frame_numbers ≤ length f) (m : 128 ≤ length p) (s : 32 ≤ length g)
-      (a : hd ≡ head_of_numbers f) (b : ps ≡ records_in p) (d : PlanDone hd ps t t₁ x) where
-    pub refused_handed : {n : ℕ} {c : cause.Refusal} {r : ℕ} → x.answer ≡ Refused n c → r ≡ number_of (refusal_in c) → Done t₁ g r
-    refused_handed = plan_refused k m s (rw (a, b) at d)
+  module _ (st : Station) (x : Result (List ℕ) cause.Refusal) {t₁ : List ℕ} (lent : LentStation f p st) (s : 32 ≤ length g) (d : PlanDone st.head st.presets t t₁ x) where
+    pub refused_handed : {c : cause.Refusal} {r : ℕ} → x ≡ Err c → r ≡ number_of (refusal_in c) → Done t₁ g r
+    refused_handed = plan_refused lent.numbers lent.records s (rw (lent.head, lent.list) at d)
 
-    pub made_handed : {g₁ : List ℕ} → x.answer ≡ Granted → g₁ ≡ sets g 0 x.grants → Done t₁ g₁ 0
-    made_handed = plan_made k m s (rw (a, b) at d)
+    pub made_handed : {l g₁ : List ℕ} → x ≡ Ok l → g₁ ≡ sets g 0 l → Done t₁ g₁ 0
+    made_handed = plan_made lent.numbers lent.records s (rw (lent.head, lent.list) at d)

@@ -1,8 +1,8 @@
 -- What `planner_read_rows` answers and leaves, law by law.
 --
--- In order: the code's answer and the masks by value, as numbers (`answered`, `placed`); how rows read beside a record (`reading-..`), and the head that is read (`read_head`); how they
+-- In order: the code's answer and the masks by value, as numbers (`answered_number`, `answered_count`, `placed`); how rows read beside a record (`reading-..`), and the head that is read (`read_head`); how they
 -- read by the causes 10 and 8 of the frame and of the presets (`on-..`), and what the paper says of them beside a head that passes (`on_rows`, `rows_meant`); rows that are refused by these
--- causes (`rows_long`, `rows_short_frame`, `rows_short_presets`); rows that are read (`rows_run`, `rows_handed`).
+-- causes (`rows_long`, `rows_short`); rows that are read (`rows_run`, `rows_handed`).
 -- Assumes nothing.
 use Prim.Native.Nat.{ℕ, ◌≤◌, ◌<◌}
 use native.Mathlib.Omega.{arith}
@@ -11,6 +11,8 @@ use mathlib.Core.Bool.{true, false}
 use mathlib.Core.List.{List}
 use lib.ListN.{length}
 use lib.Dec.{ltb}
+use mathlib.Core.Logic.{inl, inr}
+use Rattle.station.specs.declared.types.Station.{Station}
 use Rattle.laws.proofs.Tests.{Is, is, is_true, is_false}
 use Rattle.laws.proofs.Comparisons.{lt_of, ge_of, ltb_yes, ltb_no}
 use Rattle.station.specs.Head.{Head, with_busy}
@@ -18,7 +20,7 @@ use Rattle.station.specs.Refusal.{Refusal, out_of_limits, too_short, text_too_lo
 use Rattle.station.specs.Types.{head_in, valid_record}
 use Rattle.station.specs.declared.types.Preset as record-of-preset
 use Rattle.station.specs.declared.types.Head as record-of-head
-use Rattle.station.specs.declared.rows.RowsRead as result
+use Rattle.station.specs.RowEntries as result
 use Rattle.station.specs.Reading.{Reading, accepted, refused}
 use Rattle.station.specs.ReadRows.{read_rows, RowsMean}
 use Rattle.station.specs.RowEntries.{rows_reading, rows_read}
@@ -26,12 +28,16 @@ use Rattle.station.proofs.Theorems.{number_some, refusal_of_lem, rows_mean, rows
 use Rattle.placing.proofs.Theorems.{record_valid}
 use Rattle.planner.specs.Layout.{records_in, frame_numbers, head_of_numbers, masks_over}
 use Rattle.planner.proofs.RoundTrip.{masks_head, masks_same}
-use Rattle.planner.specs.Exports.{Returned, value, head_on, HeadPasses, rows_returned, rows_answered, rows_on, rows_frame, RowsLeaves, RowsPromise}
+use Rattle.planner.specs.Exports.{value, head_on, HeadPasses, rows_returned, number_in, count_in, ShortOf, LentStation, rows_on, rows_frame, RowsLeaves, RowsPromise}
 
 -- the code's answer as numbers
-answered : (x : Reading) (h : record-of-head.Head) → rows_answered (rows_read x h).answer ≡ rows_returned x
-answered (accepted g n) h = refl
-answered (refused n c) h = rw (refusal_of_lem c) refl
+answered_number : (x : Reading) (h : record-of-head.Head) → number_in (rows_read x h).answer ≡ (rows_returned x).number
+answered_number (accepted g n) h = refl
+answered_number (refused n c) h = rw (refusal_of_lem c) refl
+
+answered_count : (x : Reading) (h : record-of-head.Head) → count_in (rows_read x h).answer ≡ value (rows_returned x)
+answered_count (accepted g n) h = refl
+answered_count (refused n c) h = refl
 
 -- the masks by value, written to the frame
 placed : (x : Reading) (f : List ℕ) → masks_over (rows_read x (head_of_numbers f)).head.busy f ≡ rows_frame x f
@@ -115,11 +121,9 @@ module _ (t f p : List ℕ) where
   pub rows_long : 32768 < length t → Done f 0 10
   rows_long l = rows_stopped text_too_long (on_long l)
 
-  pub rows_short_frame : length t ≤ 32768 → length f < frame_numbers → Done f 0 8
-  rows_short_frame l s = rows_stopped too_short (on_short_frame l s)
-
-  pub rows_short_presets : length t ≤ 32768 → frame_numbers ≤ length f → length p < 128 → Done f 0 8
-  rows_short_presets l k s = rows_stopped too_short (on_short_presets l k s)
+  pub rows_short : length t ≤ 32768 → ShortOf f p → Done f 0 8
+  rows_short l (inl s) = rows_stopped too_short (on_short_frame l s)
+  rows_short l (inr s) = rows_stopped too_short (on_short_presets l s.0 s.1)
 
   module _ {f₁ : List ℕ} {n r : ℕ} (l : length t ≤ 32768) (k : frame_numbers ≤ length f) (s : 128 ≤ length p) (e : r ≡ (rows_returned read).number) (m : n ≡ value (rows_returned read))
       (a : f₁ ≡ rows_frame read f) where
@@ -149,11 +153,12 @@ module _ (t f p : List ℕ) where
     )
 
   -- the same of what was read of the frame and of the presets
-  pub rows_handed : (hd : record-of-head.Head) (ps : List record-of-preset.Preset) (x : result.RowsRead) {f₁ : List ℕ} {n r : ℕ} → length t ≤ 32768 → frame_numbers ≤ length f → 128 ≤ length p
-      → hd ≡ head_of_numbers f → ps ≡ records_in p → x ≡ rows_read (rows_reading 32 hd ps t) hd
-      → f₁ ≡ masks_over x.head.busy f → n ≡ value (rows_answered x.answer) → r ≡ (rows_answered x.answer).number → Done f₁ n r
-  rows_handed hd ps x l k s a b d e m c =
-      let is_read : x ≡ rows_read read (head_of_numbers f) = rw (a, b) at d in
-      let returned : rows_answered x.answer ≡ rows_returned read = ap (λ (y : result.RowsRead). rows_answered y.answer) is_read ∙ answered read (head_of_numbers f) in
-      rows_run l k s (c ∙ ap (λ (y : Returned). y.number) returned) (m ∙ ap value returned)
+  pub rows_handed : (st : Station) (x : result.RowsRead) {f₁ : List ℕ} {n r : ℕ} → length t ≤ 32768 → LentStation f p st
+      → x ≡ rows_read (rows_reading 32 st.head st.presets t) st.head
+      → f₁ ≡ masks_over x.head.busy f → n ≡ count_in x.answer → r ≡ number_in x.answer → Done f₁ n r
+  rows_handed st x l lent d e m c =
+      let is_read : x ≡ rows_read read (head_of_numbers f) = rw (lent.head, lent.list) at d in
+      rows_run l lent.numbers lent.records
+      (c ∙ ap (λ (y : result.RowsRead). number_in y.answer) is_read ∙ answered_number read (head_of_numbers f))
+      (m ∙ ap (λ (y : result.RowsRead). count_in y.answer) is_read ∙ answered_count read (head_of_numbers f))
       (e ∙ ap (λ (y : result.RowsRead). masks_over y.head.busy f) is_read ∙ placed read f)

@@ -1,7 +1,7 @@
 -- What `planner_write_rows` answers and leaves, law by law.
 --
 -- In order: the causes 8 of the frame and of the presets (`on-..`); where none holds the frame and the presets pass (`passes`), and what is written is short (`fits`) and read back
--- (`rows_back`); what is claimed follows from what is answered and left (`claimed`); rows that are refused by 8 (`write_short_frame`, `write_short_presets`); rows that are handed on
+-- (`rows_back`); what is claimed follows from what is answered and left (`claimed`); rows that are refused by 8 (`write_short`); rows that are handed on
 -- (`write_handed`).
 -- Assumes nothing.
 use Prim.Native.Nat.{ℕ, ◌≤◌, ◌<◌}
@@ -13,6 +13,9 @@ use mathlib.Core.List.{List, [], ◌∷◌}
 use lib.ListN.{length, drop}
 use lib.Seq.{take-append_seam}
 use lib.Dec.{ltb}
+use mathlib.Core.Logic.{inl, inr}
+use Rattle.std.specs.Prelude.{Result}
+use Rattle.station.specs.declared.types.Station.{Station}
 use Rattle.laws.proofs.Tests.{true_of_not}
 use Rattle.laws.proofs.Comparisons.{ge_of, ltb_yes, ltb_no}
 use Rattle.station.specs.Head.{Valid, with_busy}
@@ -20,7 +23,7 @@ use Rattle.station.specs.Refusal.{Refusal, out_of_limits, too_short, try, first_
 use Rattle.station.specs.Types.{valid_record}
 use Rattle.station.specs.declared.types.Preset as record-of-preset
 use Rattle.station.specs.declared.types.Head as record-of-head
-use Rattle.station.specs.declared.write.Writing as code
+use Rattle.station.specs.declared.types.Refusal as code
 use Rattle.station.specs.WriteHead.{Answer, answer_in, answer_of, output_of, write_causes}
 use Rattle.station.specs.Reading.{accepted}
 use Rattle.station.specs.Row.{mask_rows, rows_text}
@@ -29,7 +32,7 @@ use Rattle.station.proofs.Theorems.{number_some, first_none, rows_fit, rows_roun
 use Rattle.placing.proofs.Theorems.{record_valid}
 use Rattle.planner.specs.Layout.{records_in, frame_numbers, head_of_numbers}
 use Rattle.planner.proofs.RowsRead.{on_rows}
-use Rattle.planner.specs.Exports.{head_on, HeadPasses, written_returned, value, rows_on, rows_write_causes, rows_written, RowsWrittenLeaves, RowsWrittenPromise}
+use Rattle.planner.specs.Exports.{head_on, ShortOf, LentStation, HeadPasses, written_returned, value, rows_on, rows_write_causes, rows_written, RowsWrittenLeaves, RowsWrittenPromise}
 
 module _ (f p out : List ℕ) where
   abbrev cause : Option Refusal
@@ -105,18 +108,16 @@ module _ (f p out : List ℕ) where
   write_stopped : cause ≡ some too_short → Done out 0 8
   write_stopped e = write_done (rw e refl) (rw e refl) (rw e refl)
 
-  pub write_short_frame : length f < frame_numbers → Done out 0 8
-  write_short_frame s = write_stopped (on_short_frame s)
+  pub write_short : ShortOf f p → Done out 0 8
+  write_short (inl s) = write_stopped (on_short_frame s)
+  write_short (inr s) = write_stopped (on_short_presets s.0 s.1)
 
-  pub write_short_presets : frame_numbers ≤ length f → length p < 128 → Done out 0 8
-  write_short_presets k s = write_stopped (on_short_presets k s)
-
-  pub write_handed : (hd : record-of-head.Head) (ps : List record-of-preset.Preset) (x : code.Writing) {out₁ : List ℕ} {n r : ℕ} → frame_numbers ≤ length f → 128 ≤ length p
-      → hd ≡ head_of_numbers f → ps ≡ records_in p → WroteRows 32 hd ps out x out₁
+  pub write_handed : (st : Station) (x : Result ℕ code.Refusal) {out₁ : List ℕ} {n r : ℕ} → LentStation f p st → WroteRows 32 st.head st.presets out x out₁
       → n ≡ value (written_returned (answer_in x)) → r ≡ (written_returned (answer_in x)).number → Done out₁ n r
   unfolding first_of
-  write_handed hd ps x k s a b d m e =
-      let w : WroteRows 32 (head_of_numbers f) (records_in p) out x _ = rw (a, b) at d in
-      let same : answer_in x ≡ answer_of cause (length text) = w.answer ∙ ap (λ (c : Option Refusal). answer_of c (length text)) (sym (on_enough k s)) in
+  write_handed st x lent d m e =
+      let w : WroteRows 32 (head_of_numbers f) (records_in p) out x _ = rw (lent.head, lent.list) at d in
+      let enough = on_enough lent.numbers lent.records in
+      let same : answer_in x ≡ answer_of cause (length text) = w.answer ∙ ap (λ (c : Option Refusal). answer_of c (length text)) (sym enough) in
       write_done (e ∙ ap (λ (y : Answer). (written_returned y).number) same) (m ∙ ap (λ (y : Answer). value (written_returned y)) same)
-      (w.output ∙ ap (λ (c : Option Refusal). output_of c text out) (sym (on_enough k s)))
+      (w.output ∙ ap (λ (c : Option Refusal). output_of c text out) (sym enough))

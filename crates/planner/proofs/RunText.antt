@@ -1,7 +1,7 @@
 -- What `planner_run_text` answers and leaves, law by law.
 --
 -- In order: what a text comes to by the causes 10 and 8 of the frame and of the presets (`on-..`), and that one that ran met none of them (`on_ran`); a text that is refused by these
--- (`text_long`, `text_short_frame`, `text_short_presets`); what is left of the head and of the records by value, written back (`frame_left_lem`, `presets_left`) and read again
+-- (`text_long`, `text_short`); what is left of the head and of the records by value, written back (`frame_left_lem`, `presets_left`) and read again
 -- (`head_again`, `ran_left`); a text that is run (`text_run`, `text_handed`).
 -- Assumes nothing.
 use Prim.Native.Nat.{ℕ, ◌≤◌, ◌<◌}
@@ -11,6 +11,11 @@ use mathlib.Core.Bool.{Bool}
 use mathlib.Core.List.{List, map}
 use lib.ListN.{length, drop, length-map, length-append, length-drop}
 use lib.Dec.{ltb}
+use mathlib.Core.Logic.{inl, inr}
+use Rattle.std.specs.Prelude.{Result, Ok, Err}
+use Rattle.station.specs.declared.types.Fault.{Fault}
+use Rattle.station.specs.declared.types.Station.{Station}
+use Rattle.placing.specs.declared.moment.Moment.{Moment}
 use Rattle.laws.proofs.Tests.{Is, is, is_true, is_false}
 use Rattle.laws.proofs.Comparisons.{lt_of, ge_of, ltb_yes, ltb_no}
 use Rattle.station.specs.Head.{Head}
@@ -24,12 +29,21 @@ use Rattle.station.proofs.Theorems.{number_some}
 use Rattle.placing.specs.Claims.{Running}
 use Rattle.frame.specs.Text.{Whole, not_read, not_planned, ran}
 use Rattle.frame.specs.Event.{Run}
-use Rattle.frame.specs.declared.text.TextRun as run
+use Rattle.frame.specs.TextDone as run
 use Rattle.frame.specs.TextDone.{whole_with_output, End, end_in, end_of, head_after, presets_after, table_after, clock_after, hold_after, output_after, TextDone}
 use Rattle.frame.proofs.Theorems.{beside_long, text_claim}
 use Rattle.planner.specs.Layout.{records_in, bytes_over, frame_numbers, head_of_numbers, clock_of_numbers, hold_of_numbers, numbers_over}
 use Rattle.planner.proofs.RoundTrip.{records_back, bytes_back, bytes_over_rest, length_records, head_back, clock_back_lem, hold_back, read_same}
-use Rattle.planner.specs.Exports.{head_on, state_on, RunningOn, text_on, end_returned, value, frame_left, frame_after, records_after, TextLeaves, TextPromise}
+use Rattle.planner.specs.Exports.{head_on, state_on, RunningOn, text_on, end_returned, value, frame_left, frame_after, records_after, TextLeaves, TextPromise, ShortOf, LentStation, number_in, count_in}
+
+-- the end of a text as numbers
+ended_number : (a : Result ℕ Fault) → number_in a ≡ (end_returned (end_in a)).number
+ended_number (Ok n) = refl
+ended_number (Err f) = refl
+
+ended_count : (a : Result ℕ Fault) → count_in a ≡ value (end_returned (end_in a))
+ended_count (Ok n) = refl
+ended_count (Err f) = refl
 
 unread : {c : Refusal} {h : Head} {m : ℕ} {g : List ℕ} {x : Run} → not_read 0 c ≡ ran h m g x → ⊥
 unread q = let z : ◌≡◌ {A = ℕ} 0 1 = cc in omega arith
@@ -83,11 +97,9 @@ module _ (text f p t out : List ℕ) where
   pub text_long : 32768 < length text → Done f p t out 0 10
   text_long l = text_stopped text_too_long (on_long l)
 
-  pub text_short_frame : length text ≤ 32768 → length f < frame_numbers → Done f p t out 0 8
-  text_short_frame l s = text_stopped too_short (on_short_frame l s)
-
-  pub text_short_presets : length text ≤ 32768 → frame_numbers ≤ length f → length p < 128 → Done f p t out 0 8
-  text_short_presets l k s = text_stopped too_short (on_short_presets l k s)
+  pub text_short : length text ≤ 32768 → ShortOf f p → Done f p t out 0 8
+  text_short l (inl s) = text_stopped too_short (on_short_frame l s)
+  text_short l (inr s) = text_stopped too_short (on_short_presets l s.0 s.1)
 
   -- what a text leaves of the frame and of the records by value, written back
   frame_left_lem : (w : Whole) → frame_left (end_of w out) (head_after w (head_of_numbers f)) (clock_after w (clock_of_numbers f)) (hold_after w (hold_of_numbers f)) f ≡ frame_after w f
@@ -180,7 +192,8 @@ module _ (text f p t out : List ℕ) where
     )
 
   -- the same of what was read of the frame and of the presets
-  pub text_handed : (hd : record-of-head.Head) (ps : List record-of-preset.Preset) (c : ℕ) (hold : Bool) (x : run.TextRun) {f₁ p₁ t₁ out₁ : List ℕ} {n r : ℕ} → frame_numbers ≤ length f → 128 ≤ length p
-      → hd ≡ head_of_numbers f → ps ≡ records_in p → c ≡ clock_of_numbers f → hold ≡ hold_of_numbers f → TextDone text hd ps t c hold out t₁ out₁ x
-      → f₁ ≡ frame_left (end_in x.ended) x.head x.clock x.hold f → p₁ ≡ bytes_over x.presets p → n ≡ value (end_returned (end_in x.ended)) → r ≡ (end_returned (end_in x.ended)).number → Done f₁ p₁ t₁ out₁ n r
-  text_handed hd ps c hold x k s a b e i d f₂ p₂ n r = text_run {x = x} k s (rw (a, b, e, i) at d) f₂ p₂ n r
+  pub text_handed : (st : Station) (m : Moment) (x : run.TextRun) {f₁ p₁ t₁ out₁ : List ℕ} {n r : ℕ} → LentStation f p st → m.clock ≡ clock_of_numbers f → m.hold ≡ hold_of_numbers f
+      → TextDone text st.head st.presets t m.clock m.hold out t₁ out₁ x
+      → f₁ ≡ frame_left (end_in x.ended) x.head x.clock x.hold f → p₁ ≡ bytes_over x.presets p → n ≡ count_in x.ended → r ≡ number_in x.ended → Done f₁ p₁ t₁ out₁ n r
+  text_handed st m x lent e i d f₂ p₂ n r =
+      text_run {x = x} lent.numbers lent.records (rw (lent.head, lent.list, e, i) at d) f₂ p₂ (n ∙ ended_count x.ended) (r ∙ ended_number x.ended)

@@ -9,14 +9,13 @@ use native.Mathlib.Omega.{arith}
 use mathlib.Core.Path.{◌≡◌, refl, sym, ◌∙◌, ap}
 use mathlib.Core.Bool.{Bool, true, false, beq}
 use mathlib.Core.List.{List, [], ◌∷◌}
+use Rattle.std.specs.Prelude.{Result, Ok, Err}
 use lib.ListN.{length, get_or, set, take, drop, drop_of_length-le}
 use lib.Seq.{sets, drop-cons, get_or-drop, take-suc, take-suc-set, take_all}
 use Rattle.laws.specs.Sums.{bit}
 use Rattle.station.specs.declared.types.Preset.{Preset}
 use Rattle.station.specs.declared.types.Head.{Head}
-use Rattle.station.specs.declared.types.Refusal.{Refusal}
-use Rattle.frame.specs.declared.text.Ended.{Ended}
-use Rattle.frame.specs.declared.text.Ended.TheVariants.{Ran, Refused}
+use Rattle.station.specs.declared.types.Fault.{Fault}
 use Rattle.frame.specs.TextDone.{end_in}
 use Rattle.station.specs.Types.{no_record}
 use Rattle.planner.specs.Layout.{record_at, first_records, records_in, bytes_of, head_tie, says_hold, head_over, tie_over}
@@ -107,9 +106,9 @@ module _ (place : ℕ) (hold : Bool) (l : List ℕ) {n : ℕ} {says : Bool} (rea
   tie_written e a put = put ∙ ap (set l place) a ∙ rw (compared ∙ e) refl
 
 -- what a text that ran leaves of a frame, and what a refusal leaves
-module _ (x : Ended) (head : Head) (clock : ℕ) (hold : Bool) (l : List ℕ) {l₁ l₂ : List ℕ} (e : l₁ ≡ head_over head clock l) where
-  pub ran_written : {n : ℕ} → x ≡ Ran n → l₂ ≡ sets l₁ 13 (bit head.hold ∷ bit hold ∷ 0 ∷ []) → l₂ ≡ frame_left (end_in x) head clock hold l
+module _ (x : Result ℕ Fault) (head : Head) (clock : ℕ) (hold : Bool) (l : List ℕ) {l₁ l₂ : List ℕ} (e : l₁ ≡ head_over head clock l) where
+  pub ran_written : {n : ℕ} → x ≡ Ok n → l₂ ≡ sets l₁ 13 (bit head.hold ∷ bit hold ∷ 0 ∷ []) → l₂ ≡ frame_left (end_in x) head clock hold l
   ran_written q e₂ = rw (q, e₂, e) refl
 
-  pub refused_written : {n : ℕ} {r : Refusal} → x ≡ Refused n r → l₂ ≡ tie_over head_tie head.hold l₁ → l₂ ≡ frame_left (end_in x) head clock hold l
+  pub refused_written : {f : Fault} → x ≡ Err f → l₂ ≡ tie_over head_tie head.hold l₁ → l₂ ≡ frame_left (end_in x) head clock hold l
   refused_written q e₂ = rw (q, e₂, e) refl

@@ -5,7 +5,7 @@
 -- (`EventLeaves`, `EventPromise`), `planner_plan` (`PlanLeaves`, `PlanPromise`), `planner_listing` (`ListingLeaves`, `ListingWhole`), `planner_read_rows`
 -- (`RowsLeaves`, `RowsPromise`), `planner_write_rows` (`RowsWrittenLeaves`, `RowsWrittenPromise`).
 -- Assumes nothing.
-use Rattle.std.specs.Prelude.{ℕ, ◌≤◌, ◌<◌, ◌≡◌, Bool, true, List, [], ◌∷◌, ◌++◌, map, length, take, ltb}
+use Rattle.std.specs.Prelude.{ℕ, ◌≤◌, ◌<◌, ◌≡◌, Bool, true, List, [], ◌∷◌, ◌++◌, map, length, take, ltb, Result, Ok, Err, ◌⊎◌}
 use Rattle.std.proofs.Math.Option.{Option, none, some}
 use Rattle.std.proofs.lemmas.List.Edits.{sets}
 use Rattle.laws.specs.Sums.{bit}
@@ -21,8 +21,8 @@ use Rattle.station.specs.Reading as reading
 use Rattle.station.specs.Row.{mask_rows, rows_text}
 use Rattle.station.specs.ReadRows.{RowsMean}
 use Rattle.station.specs.RowEntries.{rows_reading}
-use Rattle.station.specs.declared.rows.RowsAnswer.{RowsAnswer}
-use Rattle.station.specs.declared.rows.RowsAnswer.TheVariants.{Accepted, Refused}
+use Rattle.station.specs.declared.types.Fault.{Fault}
+use Rattle.station.specs.declared.types.Station.{Station}
 use Rattle.placing.specs.State.{State, state_of}
 use Rattle.placing.specs.Claims.{Running, PlanClaim}
 use Rattle.placing.specs.Outcomes.{PlanAnswer, PlanOutcome}
@@ -58,6 +58,17 @@ short_causes frame presets = try too_short (ltb (length frame) frame_numbers) �
 -- and "text above 32,768 bytes" is 10, before these
 abbrev pub text_causes : List ℕ → List ℕ → List ℕ → List (Option Refusal)
 text_causes text frame presets = try text_too_long (ltb most_bytes (length text)) ∷ short_causes frame presets
+
+-- what is too short of a frame and presets: the frame, or where that is long enough the presets
+abbrev pub ShortOf : List ℕ → List ℕ → Type 0
+ShortOf frame presets = (length frame < frame_numbers) ⊎ ((frame_numbers ≤ length frame) × (length presets < preset_bytes))
+
+-- the head and the records that a frame and presets, long enough, stand for, by value
+pub record LentStation (frame presets : List ℕ) (s : Station) : Type 0 where
+  pub numbers : frame_numbers ≤ length frame
+  pub records : preset_bytes ≤ length presets
+  pub head : s.head ≡ head_of_numbers frame
+  pub list : s.presets ≡ records_in presets
 
 -- a frame and presets that 8 and 2 let pass
 pub record HeadPasses (frame presets : List ℕ) : Type 0 where
@@ -109,10 +120,14 @@ abbrev pub rows_returned : reading.Reading → Returned
 rows_returned (reading.accepted g n) = accepts (n ∷ [])
 rows_returned (reading.refused n r) = refuses n r
 
--- the same of the code's answer
-abbrev pub rows_answered : RowsAnswer → Returned
-rows_answered (Accepted n) = accepts (n ∷ [])
-rows_answered (Refused n r) = refuses n (refusal_in r)
+-- the number that is returned for an answer of the code, and its count
+abbrev pub number_in : Result ℕ Fault → ℕ
+number_in (Ok n) = 0
+number_in (Err f) = number_of (refusal_in f.cause)
+
+abbrev pub count_in : Result ℕ Fault → ℕ
+count_in (Ok n) = n
+count_in (Err f) = f.line
 
 -- ---- planner_run_text
 

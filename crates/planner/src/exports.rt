@@ -3,27 +3,20 @@
 ghost use Rattle.std.specs.Prelude.{◌≤◌, length};
 ghost use Rattle.planner.specs.Exports.{text_on, TextLeaves, TextPromise, event_on, EventLeaves, EventPromise, plan_on, PlanLeaves, PlanPromise, ListingLeaves, ListingWhole, rows_on, RowsLeaves, RowsPromise, RowsWrittenLeaves, RowsWrittenPromise};
 
-use crate::answers::{
-    answer_count, answer_number, end_number, end_place, refusal_number, rows_count, rows_number,
-    written_count, written_number,
-};
+use crate::answers::{counted, refusal_number, returned, written};
 use crate::grants::save_grants;
-use crate::numbers::{clock_of, head_of, hold_of, save_clock, save_masks, save_run, save_tie};
-use crate::presets::{load_presets, save_presets};
-use crate::sizes::{FRAME_NUMBERS, PRESETS_BYTES};
+use crate::lent::lent_station;
+use crate::numbers::{moment_of, save_clock, save_masks, save_run, save_tie};
+use crate::presets::save_presets;
 use frame::event::event_by_value;
 use frame::listing::write_listing;
 use frame::text::run_text_by_value;
 use placing::cells::Cell;
-use placing::plan::{PlanAnswer, plan_by_value};
+use placing::plan::plan_by_value;
 use station::limits::{MOST_BYTES, MOST_PRESETS};
 use station::rows::read_rows_by_value;
 use station::rows::text::write_rows_by_value;
-
-// Document 01's numbers of "text above 32,768 bytes" and of what is lent too short.
-const TEXT_TOO_LONG: u32 = 10;
-
-const TOO_SHORT: u32 = 8;
+use station::types::Refusal;
 
 // Runs a whole text: 10 for more than 32,768 bytes, 8 for a frame below 16 numbers, presets below 128 bytes, an output below 8,192 bytes or a table below 512 cells,
 // then the head's causes, then 5. Where it ran, `end` is the number of bytes of the listing in the output, and frame, presets and table are those of the running
@@ -43,32 +36,23 @@ pub extern "C" fn planner_run_text(
 {
     *end = 0;
     if MOST_BYTES < text.len() {
-        return TEXT_TOO_LONG;
+        return refusal_number(Refusal::TextTooLong);
     }
-    if frame.len() < FRAME_NUMBERS {
-        return TOO_SHORT;
-    }
-    if presets.len() < PRESETS_BYTES {
-        return TOO_SHORT;
-    }
-    let head = head_of(frame);
-    let copied = load_presets(presets);
-    let run = run_text_by_value(
+    let Some(mut station) = lent_station(frame, presets) else {
+        return refusal_number(Refusal::TooShort);
+    };
+    let mut moment = moment_of(frame);
+    let ended = run_text_by_value(
         text,
-        head,
-        copied,
+        &mut station.head,
+        &mut station.presets,
         table,
-        clock_of(frame),
-        hold_of(frame),
+        &mut moment,
         out,
     );
-    let ended = run.ended;
-    let found = run.head;
-    let records = run.presets;
-    save_run(frame, ended, found, run.clock, run.hold);
-    save_presets(presets, records);
-    *end = end_place(ended);
-    end_number(ended)
+    save_run(frame, ended, station.head, moment);
+    save_presets(presets, station.presets);
+    returned(ended, end)
 }
 
 // One event line, its byte 10 included, on the running frame: 8 for a frame below 16 numbers, presets below 128 bytes or a table below 512 cells, 2 for a head that no
@@ -86,20 +70,14 @@ pub extern "C" fn planner_event(
     ensures claim { EventPromise frame.old presets.now table.old line.now frame.new table.new result }
 {
     *number = 0;
-    if frame.len() < FRAME_NUMBERS {
-        return TOO_SHORT;
-    }
-    if presets.len() < PRESETS_BYTES {
-        return TOO_SHORT;
-    }
-    let head = head_of(frame);
-    let copied = load_presets(presets);
-    let outcome = event_by_value(head, copied, table, clock_of(frame), hold_of(frame), line);
-    let answer = outcome.answer;
-    save_clock(frame, outcome.clock);
-    save_tie(frame, outcome.hold);
-    *number = answer_count(answer);
-    answer_number(answer)
+    let Some(station) = lent_station(frame, presets) else {
+        return refusal_number(Refusal::TooShort);
+    };
+    let mut moment = moment_of(frame);
+    let answer = event_by_value(station.head, station.presets, table, &mut moment, line);
+    save_clock(frame, moment.clock);
+    save_tie(frame, moment.hold);
+    returned(counted(answer), number)
 }
 
 // Plans a fresh frame: 8 for a frame below 16 numbers, presets below 128 bytes, grants below 32 bytes or a table below 512 cells, 2 for a head that no text yields, 5
@@ -115,25 +93,19 @@ pub extern "C" fn planner_plan(
     ensures done { PlanLeaves (plan_on frame.now presets.now table.old grants.old) grants.old table.new grants.new result }
     ensures claim { PlanPromise frame.now presets.now table.old table.new result }
 {
-    if frame.len() < FRAME_NUMBERS {
-        return TOO_SHORT;
-    }
-    if presets.len() < PRESETS_BYTES {
-        return TOO_SHORT;
-    }
+    let Some(station) = lent_station(frame, presets) else {
+        return refusal_number(Refusal::TooShort);
+    };
     if grants.len() < MOST_PRESETS {
-        return TOO_SHORT;
+        return refusal_number(Refusal::TooShort);
     }
-    let head = head_of(frame);
-    let copied = load_presets(presets);
-    let planned = plan_by_value(head, copied, table);
-    let answer = planned.answer;
-    let granted = planned.grants;
-    if let PlanAnswer::Refused(_, cause) = answer {
-        return refusal_number(cause);
+    match plan_by_value(station.head, station.presets, table) {
+        Ok(granted) => {
+            save_grants(grants, granted);
+            0
+        }
+        Err(cause) => refusal_number(cause),
     }
-    save_grants(grants, granted);
-    0
 }
 
 // Writes the listing of a whole text at the start of the output, as far as it has room for it: 10 for more than 32,768 bytes, 8 for an output below 8,192 bytes or a table
@@ -149,9 +121,8 @@ pub extern "C" fn planner_listing(
     ensures done { ListingLeaves text.now table.old out.old table.new out.new bytes.new result }
     ensures whole { 655360 ≤ length out.old → ListingWhole text.now table.old out.old out.new bytes.new }
 {
-    let written = write_listing(text, table, out);
-    *bytes = written_count(written);
-    written_number(written)
+    let listed = write_listing(text, table, out);
+    returned(written(listed), bytes)
 }
 
 // Puts the rows of a text in place of the frame's busy times: 10 for more than 32,768 bytes, 8 for a frame below 16 numbers or presets below 128 bytes, 2 for a head that no text
@@ -169,23 +140,14 @@ pub extern "C" fn planner_read_rows(
 {
     *row = 0;
     if MOST_BYTES < text.len() {
-        return TEXT_TOO_LONG;
+        return refusal_number(Refusal::TextTooLong);
     }
-    if frame.len() < FRAME_NUMBERS {
-        return TOO_SHORT;
-    }
-    if presets.len() < PRESETS_BYTES {
-        return TOO_SHORT;
-    }
-    let head = head_of(frame);
-    let copied = load_presets(presets);
-    let read = read_rows_by_value(text, head, copied);
-    let answer = read.answer;
-    let found = read.head;
-    let busy = found.busy;
-    save_masks(frame, busy);
-    *row = rows_count(answer);
-    rows_number(answer)
+    let Some(mut station) = lent_station(frame, presets) else {
+        return refusal_number(Refusal::TooShort);
+    };
+    let read = read_rows_by_value(text, &mut station.head, &station.presets);
+    save_masks(frame, station.head.busy);
+    returned(read, row)
 }
 
 // Writes the rows of the frame's busy times at the start of the output: 8 for a frame below 16 numbers, presets below 128 bytes or an output below 8,192 bytes, 2 for a head that no
@@ -201,15 +163,9 @@ pub extern "C" fn planner_write_rows(
     ensures claim { RowsWrittenPromise frame.now presets.now out.old out.new bytes.new result }
 {
     *bytes = 0;
-    if frame.len() < FRAME_NUMBERS {
-        return TOO_SHORT;
-    }
-    if presets.len() < PRESETS_BYTES {
-        return TOO_SHORT;
-    }
-    let head = head_of(frame);
-    let copied = load_presets(presets);
-    let written = write_rows_by_value(head, copied, out);
-    *bytes = written_count(written);
-    written_number(written)
+    let Some(station) = lent_station(frame, presets) else {
+        return refusal_number(Refusal::TooShort);
+    };
+    let rows = write_rows_by_value(station.head, station.presets, out);
+    returned(written(rows), bytes)
 }

@@ -9,23 +9,11 @@ use Rattle.planner.proofs.grants.save_grants.Goals as goal
 pub loop-i-init : goal.loop-i-init
 loop-i-init c = (omega arith, refl, refl)
 
-pub bounds-granted-i : goal.bounds-granted-i
-bounds-granted-i c = omega arith
-
-pub set_byte-requires : goal.set_byte-requires
-set_byte-requires c = omega arith
-
-pub overflow_add-i : goal.overflow_add-i
-overflow_add-i c = omega arith
-
-pub loop-i-smaller : goal.loop-i-smaller
-loop-i-smaller c = omega arith
-
 pub loop-i-preserved : goal.loop-i-preserved
 loop-i-preserved c = let l = c.loop-i in (
   omega arith,
-  ap length c.set_byte.ensures ∙ length-set l.grants l.i _ ∙ l.invariant.1,
-  number_more c.args.granted l.grants l.i l.i (l.i + 1) (omega arith) (omega (arith, c.well_formed.0)) c.set_byte.ensures ∙ l.invariant.2,
+  ap length c.set_value.ensures ∙ length-set l.grants l.i _ ∙ l.invariant.1,
+  number_more c.args.granted l.grants l.i l.i (l.i + 1) (omega arith) (omega (arith, c.well_formed.0)) c.set_value.ensures ∙ l.invariant.2,
 )
 
 pub shape_of-grants : goal.shape_of-grants

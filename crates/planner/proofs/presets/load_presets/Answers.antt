@@ -8,21 +8,6 @@ use Rattle.planner.proofs.presets.load_presets.Goals as goal
 pub loop-i-init : goal.loop-i-init
 loop-i-init c = (omega arith, refl, refl)
 
-pub preset_at-requires : goal.preset_at-requires
-preset_at-requires c = omega arith
-
-pub offset_bounds-copied-i : goal.offset_bounds-copied-i
-offset_bounds-copied-i c = omega arith
-
-pub bounds-copied-i : goal.bounds-copied-i
-bounds-copied-i c = omega arith
-
-pub overflow_add-i : goal.overflow_add-i
-overflow_add-i c = omega arith
-
-pub loop-i-smaller : goal.loop-i-smaller
-loop-i-smaller c = omega arith
-
 pub loop-i-preserved : goal.loop-i-preserved
 loop-i-preserved c = let l = c.loop-i in
     let a = c.args in

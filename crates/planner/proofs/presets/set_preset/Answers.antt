@@ -5,4 +5,4 @@ use Rattle.planner.proofs.presets.set_preset.Goals as goal
 
 pub returns : goal.returns
 returns c = let a = c.args in
-    record_written a.given a.presets.now (4 * a.i) c.set_byte.ensures c.set_byte-2.ensures c.set_byte-3.ensures c.set_byte-4.ensures
+    record_written a.given a.presets.now (4 * a.i) c.set_value.ensures c.set_value-2.ensures c.set_value-3.ensures c.set_value-4.ensures
