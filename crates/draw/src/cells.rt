@@ -3,61 +3,49 @@ ghost use Rattle.std.specs.Prelude.{◌≡◌, not, ◌&&◌, ◌<◌};
 ghost use Rattle.placing.specs.Table.{is_optional};
 
 use crate::output::{around, number, put};
-use placing::cells::{Cell, is_optional, kind_of, number_in};
+use placing::cells::{Cell, Kind, is_optional, number_in};
 use std::io;
-
-// The kinds of cells, as document 01 counts them. Whatever is of no other kind is drawn as a call's.
-const EMPTY: u16 = 0;
-
-const BUSY: u16 = 1;
-
-const MANDATORY: u16 = 2;
-
-const OPTIONAL: u16 = 3;
 
 // Whether a cell is lost: it was optional and is so no more.
 fn is_lost(was: Cell, cell: Cell) -> bool
     ensures { result ≡ (is_optional was && not (is_optional cell)) }
 {
-    if is_optional(was) {
-        return !is_optional(cell);
-    }
-    false
+    is_optional(was) && !is_optional(cell)
 }
 
-// The colour of a kind: red, green and blue, a byte each.
-fn colour(kind: u16) -> u64
+// The colour of a kind: red, green and blue, a byte each. What is of no kind is drawn as a call's.
+fn colour(kind: Kind) -> u64
     ensures { result < 16777216 }
 {
     match kind {
-        EMPTY => 0xffffff,
-        BUSY => 0xb8b8b8,
-        MANDATORY => 0xc6e0f9,
-        OPTIONAL => 0xfff6c4,
-        _ => 0xffdcb8,
+        Kind::Empty => 0xffffff,
+        Kind::Busy => 0xb8b8b8,
+        Kind::Mandatory => 0xc6e0f9,
+        Kind::Optional => 0xfff6c4,
+        Kind::Call | Kind::Other => 0xffdcb8,
     }
 }
 
 // Writes a rectangle's fill, and its end.
-fn fill(rt: &impl Print, kind: u16) -> io::Result<()> {
+fn fill(rt: &impl Print, kind: Kind) -> io::Result<()> {
     put(rt, b"\" fill=\"#")?;
     print!(rt; "{:06x}", colour(kind))?;
     put(rt, b"\"/>")
 }
 
 // Writes the hatching of a kind: of mandatory cells a thick border inside, of optional ones slanted lines, of a call's level lines; of busy and empty ones none.
-fn hatching(rt: &impl Print, kind: u16) -> io::Result<()> {
+fn hatching(rt: &impl Print, kind: Kind) -> io::Result<()> {
     match kind {
-        EMPTY | BUSY => Ok(()),
-        MANDATORY => put(
+        Kind::Empty | Kind::Busy => Ok(()),
+        Kind::Mandatory => put(
             rt,
             b"<path d=\"M3 3h38v26h-38z\" fill=\"none\" stroke=\"#1d4f91\" stroke-width=\"3\"/>",
         ),
-        OPTIONAL => put(
+        Kind::Optional => put(
             rt,
             b"<path d=\"M0 8l8-8M0 16l16-16M0 24l24-24M0 32l32-32M8 32l32-32M16 32l28-28M24 32l20-20M32 32l12-12M40 32l4-4\" stroke=\"#8f6b00\"/>",
         ),
-        _ => put(
+        Kind::Call | Kind::Other => put(
             rt,
             b"<path d=\"M0 4h44M0 8h44M0 12h44M0 16h44M0 20h44M0 24h44M0 28h44\" stroke=\"#b04a00\"/>",
         ),
@@ -75,19 +63,20 @@ fn number_of(rt: &impl Print, cell: Cell) -> io::Result<()> {
 
 // Writes what stands in a cell: `-` where it is busy, else the kind's letter and the number; nothing where it is empty.
 fn label(rt: &impl Print, cell: Cell) -> io::Result<()> {
-    match kind_of(cell) {
-        EMPTY => {}
-        BUSY => put(rt, b"<tspan font-weight=\"bold\">-</tspan>")?,
-        MANDATORY => put(rt, b"m")?,
-        OPTIONAL => put(rt, b"o")?,
-        _ => put(rt, b"c")?,
+    match Kind::of(cell) {
+        Kind::Empty => {}
+        Kind::Busy => put(rt, b"<tspan font-weight=\"bold\">-</tspan>")?,
+        Kind::Mandatory => put(rt, b"m")?,
+        Kind::Optional => put(rt, b"o")?,
+        Kind::Call | Kind::Other => put(rt, b"c")?,
     }
     number_of(rt, cell)
 }
 
 // Writes a cell's label, on a plate of the kind's colour with this upper edge; the label stands on the line `base`.
 fn labelled(rt: &impl Print, cell: Cell, plate: usize, base: usize) -> io::Result<()> {
-    if kind_of(cell) == EMPTY {
+    let kind = Kind::of(cell);
+    if kind == Kind::Empty {
         return Ok(());
     }
     around(
@@ -96,7 +85,7 @@ fn labelled(rt: &impl Print, cell: Cell, plate: usize, base: usize) -> io::Resul
         plate,
         b"\" width=\"32\" height=\"16",
     )?;
-    fill(rt, kind_of(cell))?;
+    fill(rt, kind)?;
     around(rt, b"<text x=\"22\" y=\"", base, b"\">")?;
     label(rt, cell)?;
     put(rt, b"</text>")
@@ -119,9 +108,10 @@ fn lost_mark(rt: &impl Print, was: Cell) -> io::Result<()> {
 
 // Writes a cell with its upper left corner at the origin, marked where it is lost, by what it was before.
 pub fn cell_at_origin(rt: &impl Print, was: Cell, cell: Cell) -> io::Result<()> {
+    let kind = Kind::of(cell);
     put(rt, b"<rect width=\"44\" height=\"32")?;
-    fill(rt, kind_of(cell))?;
-    hatching(rt, kind_of(cell))?;
+    fill(rt, kind)?;
+    hatching(rt, kind)?;
     if is_lost(was, cell) {
         labelled(rt, cell, 13, 25)?;
         lost_mark(rt, was)?;

@@ -11,73 +11,82 @@ mod parts; // parts.rt: the cells, slots, bridges, clock and legend of a frame
 mod pictures; // pictures.rt: the pictures
 
 use frame::event::event_by_value;
-use frame::text::{Ended, run_text_by_value};
-use lines::last_event;
+use frame::text::run_text_by_value;
+use lines::{Event, last_event};
+use parts::View;
 use pictures::{both_frames, plan_frame, refused_text};
 use placing::cells::Cell;
+use placing::check::FIRST_CLOCK;
+use placing::moment::Moment;
 use reading::read_full;
-use station::heads::{ReadAnswer, read_head_by_value};
-use station::types::{Head, NO_HEAD, NO_PRESETS, Preset};
+use station::heads::read_head_by_value;
+use station::types::{NO_HEAD, NO_PRESETS, Station};
 use std::io;
 
-// Draws a frame as the lines before the last event left it, with the clock and the order of ties, and as this event leaves it. No event is one of no bytes: then it is the plan.
+// Draws a frame as the lines before the last event left it, with the clock and the order of ties, and as this event leaves it; the plan where there is none.
 fn draw_frame(
     rt: &impl Print,
-    head: Head,
-    presets: [Preset; 32],
-    before: [Cell; 512],
-    clock: usize,
-    hold: bool,
-    event: &[u8],
-    line: usize,
+    station: Station,
+    table: &[Cell; 512],
+    moment: Moment,
+    event: Option<Event>,
 ) -> io::Result<()> {
-    let slots = head.slots;
-    let bridges = head.bridges;
-    if event.len() == 0 {
-        return plan_frame(rt, slots, bridges, before, clock);
-    }
-    let mut after = before;
-    let done = event_by_value(head, presets, &mut after, clock, hold, event);
-    let answer = done.answer;
-    both_frames(
-        rt, slots, bridges, before, clock, event, line, answer, after, done.clock,
-    )
+    let head = station.head;
+    let before = View {
+        slots: head.slots,
+        bridges: head.bridges,
+        was: table,
+        is: table,
+        clock: moment.clock,
+    };
+    let Some(event) = event else {
+        return plan_frame(rt, before);
+    };
+    let mut left = *table;
+    let mut then = moment;
+    let answer = event_by_value(head, station.presets, &mut left, &mut then, event.line);
+    let after = View {
+        is: &left,
+        clock: then.clock,
+        ..before
+    };
+    both_frames(rt, before, event, answer, after)
 }
 
-// Runs the text before its last event, and draws the frame. The event is line `line` of the whole text; it has no bytes where there is none.
-fn draw_text(rt: &impl Print, text: &[u8], event: &[u8], line: usize) -> io::Result<()> {
+// Runs the text before its last event, and draws the frame.
+fn draw_text(rt: &impl Print, text: &[u8], event: Option<Event>) -> io::Result<()> {
+    let mut head = NO_HEAD;
+    let mut presets = NO_PRESETS;
     let mut table = [0u16; 512];
+    let mut moment = Moment {
+        clock: FIRST_CLOCK,
+        hold: false,
+    };
     // the least output that is taken; the listing in it is not used
     let mut listing = [0u8; 8192];
-    let run = run_text_by_value(
+    match run_text_by_value(
         text,
-        NO_HEAD,
-        NO_PRESETS,
+        &mut head,
+        &mut presets,
         &mut table,
-        1,
-        false,
+        &mut moment,
         &mut listing,
-    );
-    let ended = run.ended;
-    let head = run.head;
-    let presets = run.presets;
-    match ended {
-        Ended::Ran(_) => draw_frame(rt, head, presets, table, run.clock, run.hold, event, line),
-        Ended::Refused(n, cause) => refused_text(rt, n, cause),
+    ) {
+        Ok(_) => draw_frame(rt, Station { head, presets }, &table, moment, event),
+        Err(fault) => refused_text(rt, fault),
     }
 }
 
 // Draws a text. What its head is refused for, and its plan, is said in the picture.
 fn draw(rt: &impl Print, text: &[u8]) -> io::Result<()> {
-    let read = read_head_by_value(text, NO_HEAD, NO_PRESETS);
-    let answer = read.answer;
-    match answer {
-        ReadAnswer::Accepted(_, bytes) => {
-            let last = last_event(text, bytes);
-            let start = last.start;
-            draw_text(rt, &text[0..start], &text[start..], last.line)
+    let mut head = NO_HEAD;
+    let mut presets = NO_PRESETS;
+    match read_head_by_value(text, &mut head, &mut presets) {
+        Ok(read) => {
+            let (before, event) = last_event(text, read.bytes);
+            draw_text(rt, before, event)
         }
-        ReadAnswer::Refused(n, cause) => refused_text(rt, n, cause),
+        Err(fault) => refused_text(rt, fault),
     }
 }
 

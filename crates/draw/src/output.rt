@@ -1,6 +1,4 @@
 // Bytes and numbers to standard output. Each function stops at the first write that fails, and reports it.
-ghost use Rattle.std.specs.Prelude.{◌≤◌, length};
-
 use crate::lines::{content, plain, shown};
 use std::io;
 
@@ -27,28 +25,12 @@ pub fn moved(rt: &impl Print, x: usize, y: usize) -> io::Result<()> {
     around(rt, b"", y, b")\">")
 }
 
-// Writes one byte.
-fn byte(rt: &impl Print, b: u8) -> io::Result<()> {
-    let one = [b];
-    put(rt, &one)
-}
-
-// Writes the first n bytes of a line, as they are shown.
-fn first_bytes(rt: &impl Print, line: &[u8], n: usize) -> io::Result<()>
-    requires { n ≤ length line.now }
-{
-    let mut i = 0;
-    while i < n {
-        byte(rt, plain(line[i]))?;
-        i += 1;
-    }
-    Ok(())
-}
-
 // Writes what is shown of a line, and two dots where that is not all.
 pub fn shown_line(rt: &impl Print, line: &[u8]) -> io::Result<()> {
     let n = shown(line);
-    first_bytes(rt, line, n)?;
+    for &byte in &line[..n] {
+        put(rt, &[plain(byte)])?;
+    }
     if n < content(line) {
         put(rt, b"..")?;
     }

@@ -1,11 +1,10 @@
 // The pictures: the plan alone, the frame before and after an event, and a refused text.
 use crate::layout::{height, width};
+use crate::lines::Event;
 use crate::output::{around, put, shown_line};
-use crate::parts::{bridge_labels, clock_mark, legend, slots_and_cells};
+use crate::parts::{View, bridge_labels, clock_mark, legend, slots_and_cells};
 use frame::types::Answer;
-use placing::cells::Cell;
-use station::causes::cause_number;
-use station::types::Refusal;
+use station::types::{Fault, Refusal};
 use std::io;
 
 // Writes the rest of an `svg` element's start: its size.
@@ -45,21 +44,15 @@ fn begin_frame(rt: &impl Print, name: &[u8], y: usize, w: usize, h: usize) -> io
     put(rt, b"</tspan>")
 }
 
-// Writes `(refused N C)`.
-fn refused(rt: &impl Print, n: usize, cause: Refusal) -> io::Result<()> {
-    around(rt, b"(refused ", n, b" ")?;
-    around(rt, b"", cause_number(cause) as usize, b")")
-}
-
 // Writes what an event comes to, behind its line. An accepted clock or order of ties is that line.
-fn outcome(rt: &impl Print, answer: Answer, n: usize) -> io::Result<()> {
+fn outcome(rt: &impl Print, answer: Result<Answer, Refusal>, n: usize) -> io::Result<()> {
     match answer {
-        Answer::Now(_) => Ok(()),
-        Answer::Tie(_) => Ok(()),
-        Answer::Taken(lost) => around(rt, b": ", lost, b" lost"),
-        Answer::Refused(_, cause) => {
+        Ok(Answer::Now(_) | Answer::Tie(_)) => Ok(()),
+        Ok(Answer::Taken(lost)) => around(rt, b": ", lost, b" lost"),
+        Err(cause) => {
+            let fault = cause.at(n);
             put(rt, b": <tspan font-family=\"monospace\" font-size=\"12\">")?;
-            refused(rt, n, cause)?;
+            print!(rt; "{fault}")?;
             put(rt, b"</tspan>")
         }
     }
@@ -72,74 +65,55 @@ fn event_caption(rt: &impl Print, event: &[u8]) -> io::Result<()> {
     put(rt, b"</tspan>")
 }
 
-// Writes the rest of a frame's picture, after its caption: the frame as it is, with what was there before.
-fn frame(
-    rt: &impl Print,
-    slots: usize,
-    bridges: usize,
-    was: &[Cell],
-    is: &[Cell],
-    clock: usize,
-    with_lost: bool,
-) -> io::Result<()> {
+// Writes the rest of a frame's picture, after its caption.
+fn frame(rt: &impl Print, view: View, with_lost: bool) -> io::Result<()> {
     put(
         rt,
         b"</text>\n<text x=\"68\" y=\"62\" text-anchor=\"end\">slot</text>\n",
     )?;
     put(rt, b"<g text-anchor=\"end\">\n")?;
-    bridge_labels(rt, bridges)?;
+    bridge_labels(rt, view.bridges)?;
     put(rt, b"</g>\n<g text-anchor=\"middle\">\n")?;
-    slots_and_cells(rt, was, is, slots, bridges)?;
+    slots_and_cells(rt, view)?;
     put(rt, b"</g>\n")?;
-    clock_mark(rt, clock, slots, bridges)?;
-    legend(rt, bridges, with_lost)?;
+    clock_mark(rt, view)?;
+    legend(rt, view.bridges, with_lost)?;
     put(rt, b"</svg>\n")
 }
 
 // Writes the picture of a plan.
-pub fn plan_frame(
-    rt: &impl Print,
-    slots: usize,
-    bridges: usize,
-    table: [Cell; 512],
-    clock: usize,
-) -> io::Result<()> {
-    let w = width(slots, b"");
-    let h = height(bridges);
+pub fn plan_frame(rt: &impl Print, view: View) -> io::Result<()> {
+    let w = width(view.slots, b"");
+    let h = height(view.bridges);
     begin(rt, w, h)?;
     begin_frame(rt, b"plan", 0, w, h)?;
-    frame(rt, slots, bridges, &table, &table, clock, false)?;
+    frame(rt, view, false)?;
     put(rt, b"</svg>\n")
 }
 
-// Writes the picture of a frame before an event, which is line n, and after it.
+// Writes the picture of a frame before an event and after it.
 pub fn both_frames(
     rt: &impl Print,
-    slots: usize,
-    bridges: usize,
-    before: [Cell; 512],
-    clock: usize,
-    event: &[u8],
-    n: usize,
-    answer: Answer,
-    after: [Cell; 512],
-    next: usize,
+    before: View,
+    event: Event,
+    answer: Result<Answer, Refusal>,
+    after: View,
 ) -> io::Result<()> {
-    let w = width(slots, event);
-    let h = height(bridges);
+    let w = width(before.slots, event.line);
+    let h = height(before.bridges);
     begin(rt, w, 2 * h)?;
     begin_frame(rt, b"before", 0, w, h)?;
-    event_caption(rt, event)?;
-    frame(rt, slots, bridges, &before, &before, clock, false)?;
+    event_caption(rt, event.line)?;
+    frame(rt, before, false)?;
     begin_frame(rt, b"after", h, w, h)?;
-    event_caption(rt, event)?;
-    outcome(rt, answer, n)?;
-    frame(rt, slots, bridges, &before, &after, next, true)?;
+    event_caption(rt, event.line)?;
+    outcome(rt, answer, event.number)?;
+    frame(rt, after, true)?;
     put(rt, b"</svg>\n")
 }
 
 // Writes the picture of a refused text: its one refused line.
-pub fn refused_text(rt: &impl Print, n: usize, cause: Refusal) -> io::Result<()> {
+pub fn refused_text(rt: &impl Print, fault: Fault) -> io::Result<()> {
     begin(rt, 380, 64)?;
     put(
         rt,
@@ -149,6 +123,6 @@ pub fn refused_text(rt: &impl Print, n: usize, cause: Refusal) -> io::Result<()>
         rt,
         b"<text x=\"12\" y=\"38\" font-family=\"monospace\" font-size=\"16\">",
     )?;
-    refused(rt, n, cause)?;
+    print!(rt; "{fault}")?;
     put(rt, b"</text>\n</svg>\n")
 }

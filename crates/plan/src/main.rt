@@ -7,9 +7,7 @@ ghost use Rattle.frame.specs.Text.{whole_of};
 ghost use Rattle.frame.specs.Listing.{listing_of};
 
 use frame::listing::{write_answer, write_listing};
-use frame::types::Answer;
 use reading::read_full;
-use station::write::Writing;
 use std::io;
 use std::io::Read;
 
@@ -22,16 +20,9 @@ fn listing(text: &[u8], table: &mut [u16], out: &mut [u8]) -> usize
     ensures bytes { take result out.new ≡ listing_of
         (whole_of text.now table.old) }
 {
-    let listed = write_listing(text, table, out);
-    match listed {
-        Writing::Written(n) => n,
-        Writing::Refused(_, cause) => {
-            let line = write_answer(out, 0, Answer::Refused(0, cause));
-            match line {
-                Writing::Written(n) => n,
-                Writing::Refused(_, _) => 0,
-            }
-        }
+    match write_listing(text, table, out) {
+        Ok(n) => n,
+        Err(cause) => write_answer(out, 0, Err(cause)).unwrap_or(0),
     }
 }
 

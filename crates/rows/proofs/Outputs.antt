@@ -1,20 +1,22 @@
 -- What is printed of an input: what the writers wrote, and what the readers found.
 --
 -- In order: a writing that no cause refuses stands there whole (`refusal_stands`, `rows_stand`, `text_stands`); a head that was read is a valid record (`read_record`); rows read
--- into it (`rows_refused_lem`, `rows_accepted_lem`); an input that is parted at a place (`printed_refused`, `printed_rows`, `printed_alone`).
+-- into it (`rows_refused_lem`, `rows_accepted_lem`); an input without an empty line (`alone_refused`, `rows_wrote`), and one that is parted at it (`head_refused`, `rows_refused`, `text_wrote`).
 -- Assumes nothing.
-use Prim.Native.Nat.{ℕ, ◌+◌, ◌-◌, ◌≤◌, ◌<◌}
+use Prim.Native.Nat.{ℕ, ◌+◌, ◌-◌, ◌≤◌}
 use native.Mathlib.Omega.{arith}
 use native.Mathlib.Numerals.{add-one}
 use mathlib.Core.Path.{◌≡◌, refl, sym, ◌∙◌, ap}
 use mathlib.Core.Bool.{true}
 use mathlib.Core.Option.{Option, none}
 use mathlib.Core.List.{List, [], ◌∷◌, ◌++◌}
+use Rattle.std.specs.Prelude.{Result, Ok, Err, Some, None}
+use Rattle.std.specs.Result.{result_unwrap_or}
 use lib.ListN.{length, take, drop, length-append, length-drop}
 use lib.Seq.{take_all, take_at}
 use lib.Dec.{ltb, leb}
 use Rattle.laws.proofs.Tests.{Is, is, is_true, is_false, both, left_of, right_of}
-use Rattle.laws.proofs.Comparisons.{leb_yes, ltb_yes, ltb_no}
+use Rattle.laws.proofs.Comparisons.{leb_yes, ltb_no}
 use Rattle.station.specs.Head.{Head, valid}
 use Rattle.station.specs.Refusal.{Refusal, first_of}
 use Rattle.station.specs.Text.{lines}
@@ -25,54 +27,63 @@ use Rattle.station.specs.ReadRows.{read_rows}
 use Rattle.station.specs.Types.{refusal_in, refusal_of, head_in, valid_record}
 use Rattle.station.specs.WriteHead.{written, answer_of, output_of, answer_in, write_causes, write_answer, write_output, WroteHead}
 use Rattle.station.specs.Entries.{entry_causes}
-use Rattle.station.specs.RowEntries.{rows_reading, rows_read, WroteRows}
+use Rattle.station.specs.RowEntries.{RowsRead, rows_reading, rows_read, WroteRows}
 use Rattle.station.specs.declared.types.Preset as record-of-preset
 use Rattle.station.specs.declared.types.Head as record-of-head
 use Rattle.station.specs.declared.types.Refusal as cause
-use Rattle.station.specs.declared.heads.HeadRead.{HeadRead}
-use Rattle.station.specs.declared.rows.RowsAnswer.TheVariants as rows
-use Rattle.station.specs.declared.rows.RowsRead.{RowsRead}
-use Rattle.station.specs.declared.write.Writing as writing
-use Rattle.station.specs.declared.write.Writing.TheVariants.{Written, Refused}
+use Rattle.station.specs.declared.types.Fault.{Fault}
+use Rattle.station.specs.ReadHead.{HeadRead, fault}
 use Rattle.station.proofs.Theorems.{valid_of, of_valid, ReadAccepted, refusal_of_lem, cause_none, rows_rest, rows_valid}
-use Rattle.frame.specs.declared.types.Answer.TheVariants as reply
 use Rattle.frame.specs.Listing.{refused_line, answer_line}
 use Rattle.frame.specs.WroteLine.{output_short, line_written, answer_written, WroteLine}
 use Rattle.rows.specs.Printed.{parts_of, of_reading, rows_beside, printed_of, rows_printed}
-use Rattle.rows.specs.method.Parts.{parted_at, Printed, length_in}
+use Rattle.rows.specs.method.Parts.{parted_at, Printed}
 
 -- ---- what was written
 
--- where no cause holds the line stands there whole
-stands : (o : Option Refusal) (line out : List ℕ) (r : writing.Writing) {after : List ℕ} {n : ℕ} → o ≡ none → answer_in r ≡ answer_of o (length line)
-    → after ≡ output_of o line out → n ≡ length_in r → Printed line after n
-stands o line out r {after} {n} e a w l =
-    let i : n ≡ length line = go r (a ∙ ap (λ (x : Option Refusal). answer_of x (length line)) e) l in
-    let whole : after ≡ line ++ drop (length line) out = w ∙ ap (λ (x : Option Refusal). output_of x line out) e in
-    record {
-      inside = omega (arith, i, ap length whole, length-append line (drop (length line) out));
-      bytes = ap (take n) whole ∙ take_at line (drop (length line) out) n (sym i);
-    }
+-- one answer has one length
+pub ok_same : {m n : ℕ} → ◌≡◌ {A = Result ℕ cause.Refusal} (Ok m) (Ok n) → m ≡ n
+ok_same {m} {n} e = let i : m ≡ n = cc in i
+
+-- a line that stands there whole, and how many bytes it is as the answer
+abbrev pub Wrote : List ℕ → Result ℕ cause.Refusal → List ℕ → Type 0
+Wrote line r after = (r ≡ Ok (length line)) × Printed line after (length line)
+
+-- where no cause holds it is not refused, and the line stands there whole
+stands : (o : Option Refusal) (line out : List ℕ) (r : Result ℕ cause.Refusal) {after : List ℕ} → o ≡ none → answer_in r ≡ answer_of o (length line) → after ≡ output_of o line out
+    → Wrote line r after
+stands o line out r {after} e a w =
+    let whole : after ≡ line ++ drop (length line) out = w ∙ ap (λ (x : Option Refusal). output_of x line out) e in (
+      go r (a ∙ ap (λ (x : Option Refusal). answer_of x (length line)) e),
+      record {
+        inside = omega (arith, ap length whole, length-append line (drop (length line) out));
+        bytes = ap (take (length line)) whole ∙ take_at line (drop (length line) out) (length line) refl;
+      },
+    )
   where
-    go : (r : writing.Writing) → answer_in r ≡ written (length line) → n ≡ length_in r → n ≡ length line
-    go (Written k) q s = s ∙ (let i : k ≡ length line = cc in i)
-    go (Refused k c) q s = absurd (let z : ◌≡◌ {A = ℕ} 0 1 = cc in omega arith)
+    go : (r : Result ℕ cause.Refusal) → answer_in r ≡ written (length line) → r ≡ Ok (length line)
+    go (Ok k) q = let i : k ≡ length line = cc in ap (λ (m : ℕ). Ok m) i
+    go (Err c) q = absurd (let z : ◌≡◌ {A = ℕ} 0 1 = cc in omega arith)
 
 module _ (out : List ℕ) (long : 8192 ≤ length out) where
-  pub refusal_stands : (line : ℕ) (c : cause.Refusal) (r : writing.Writing) {after : List ℕ} {n : ℕ} → WroteLine (answer_written line (reply.Refused line c) out) r after
-      → n ≡ length_in r → Printed (refused_line line (refusal_in c)) after n
+  -- the refused line, and how many bytes it is
+  pub refusal_stands : (line : ℕ) (c : cause.Refusal) (r : Result ℕ cause.Refusal) {after : List ℕ} {n : ℕ} → WroteLine (answer_written line (Err c) out) r after
+      → n ≡ result_unwrap_or r 0 → Printed (refused_line line (refusal_in c)) after n
   unfolding first_of line_written answer_line
   refusal_stands line c r w l =
-      stands (first_of (output_short out ∷ [])) (refused_line line (refusal_in c)) out r (rw (ltb_no (length out) 8192 long) refl) w.answer w.output l
+      let s = stands (first_of (output_short out ∷ [])) (refused_line line (refusal_in c)) out r (rw (ltb_no (length out) 8192 long) refl) w.answer w.output in
+      rw (l, s.0) s.1
 
   module _ (head : record-of-head.Head) (ps : List record-of-preset.Preset) (v : valid_record head ps ≡ true) where
-    pub rows_stand : (r : writing.Writing) {after : List ℕ} {n : ℕ} → WroteRows 32 head ps out r after → n ≡ length_in r → Printed (rows_text head.busy) after n
+    pub rows_stand : (r : Result ℕ cause.Refusal) {after : List ℕ} → WroteRows 32 head ps out r after
+        → Wrote (rows_text head.busy) r after
     unfolding first_of
-    rows_stand r w l = stands (first_of (entry_causes 32 head ps out)) (rows_text head.busy) out r (cause_none head ps out long v) w.answer w.output l
+    rows_stand r w = stands (first_of (entry_causes 32 head ps out)) (rows_text head.busy) out r (cause_none head ps out long v) w.answer w.output
 
-    pub text_stands : (r : writing.Writing) {after : List ℕ} {n : ℕ} → WroteHead head ps out r after → n ≡ length_in r → Printed (text_of (head_in head ps)) after n
+    pub text_stands : (r : Result ℕ cause.Refusal) {after : List ℕ} → WroteHead head ps out r after
+        → Wrote (text_of (head_in head ps)) r after
     unfolding write_answer write_output
-    text_stands r w l = stands (first_of (write_causes head ps out)) (text_of (head_in head ps)) out r (cause_none head ps out long v) w.answer w.output l
+    text_stands r w = stands (first_of (write_causes head ps out)) (text_of (head_in head ps)) out r (cause_none head ps out long v) w.answer w.output
 
 -- ---- what was read
 
@@ -108,24 +119,25 @@ module _ (head : record-of-head.Head) (ps : List record-of-preset.Preset) (v : v
     from_beside : read ≡ rows_read (rows_beside h t) head
     from_beside = e ∙ ap (λ (x : Reading). rows_read x head) reading_beside
 
-    pub rows_refused_lem : (n : ℕ) (c : cause.Refusal) → read.answer ≡ rows.Refused n c → rows_beside h t ≡ refused n (refusal_in c)
+    pub rows_refused_lem : (n : ℕ) (c : cause.Refusal) → read.answer ≡ Err (fault n c) → rows_beside h t ≡ refused n (refusal_in c)
     rows_refused_lem n c a = go (rows_beside h t) refl from_beside
       where
         go : (x : Reading) → rows_beside h t ≡ x → read ≡ rows_read x head → rows_beside h t ≡ refused n (refusal_in c)
         go (accepted g k) q f = absurd (let z : ◌≡◌ {A = ℕ} 0 1 = cc in omega arith)
         go (refused k d) q f =
-            let s : rows.Refused k (refusal_of d) ≡ rows.Refused n c = ap (λ (y : RowsRead). y.answer) (sym f) ∙ a in
-            let i : k ≡ n = cc in
-            let l : refusal_of d ≡ c = cc in
+            let s : ◌≡◌ {A = Result ℕ Fault} (Err (fault k (refusal_of d))) (Err (fault n c)) = ap (λ (y : RowsRead). y.answer) (sym f) ∙ a in
+            let x : fault k (refusal_of d) ≡ fault n c = cc in
+            let i : k ≡ n = ap (λ (y : Fault). y.line) x in
+            let l : refusal_of d ≡ c = ap (λ (y : Fault). y.cause) x in
             q ∙ ap (λ (m : ℕ). refused m d) i ∙ ap (refused n) (sym (refusal_of_lem d) ∙ ap refusal_in l)
 
-    pub rows_accepted_lem : (n : ℕ) → read.answer ≡ rows.Accepted n → (rows_beside h t ≡ accepted (head_in read.head ps) n) × (valid_record read.head ps ≡ true)
+    pub rows_accepted_lem : (n : ℕ) → read.answer ≡ Ok n → (rows_beside h t ≡ accepted (head_in read.head ps) n) × (valid_record read.head ps ≡ true)
     rows_accepted_lem n a = go (rows_beside h t) refl from_beside
       where
         go : (x : Reading) → rows_beside h t ≡ x → read ≡ rows_read x head
             → (rows_beside h t ≡ accepted (head_in read.head ps) n) × (valid_record read.head ps ≡ true)
         go (accepted g k) q f =
-            let s : rows.Accepted k ≡ rows.Accepted n = ap (λ (y : RowsRead). y.answer) (sym f) ∙ a in
+            let s : ◌≡◌ {A = Result ℕ Fault} (Ok k) (Ok n) = ap (λ (y : RowsRead). y.answer) (sym f) ∙ a in
             let i : k ≡ n = cc in
             let e = beside_read g k q in
             let same : head_in read.head ps ≡ g = ap (λ (y : RowsRead). head_in y.head ps) f ∙ sym (rows_rest h t g k e) in (
@@ -136,25 +148,47 @@ module _ (head : record-of-head.Head) (ps : List record-of-preset.Preset) (v : v
             )
         go (refused k d) q f = absurd (let z : ◌≡◌ {A = ℕ} 0 1 = cc in omega arith)
 
--- ---- an input that is parted at a place
+-- ---- an input without an empty line
 
-module _ (t : List ℕ) (end : ℕ) (p : parts_of (lines t) ≡ parted_at t end) where
-  pub printed_refused : (n : ℕ) (c : Refusal) → head_of (take end t) ≡ refused n c → rows_printed t ≡ refused_line n c
+module _ (t : List ℕ) (p : parts_of (lines t) ≡ parted_at t None) where
+  pub alone_refused : (n : ℕ) (c : Refusal) → head_of t ≡ refused n c → rows_printed t ≡ refused_line n c
   unfolding printed_of rows_printed
-  printed_refused n c e = ap printed_of p ∙ go (is (ltb end (length t)))
-    where
-      go : Is (ltb end (length t)) → printed_of (parted_at t end) ≡ refused_line n c
-      go (is_true q) = rw (q, e) refl
-      go (is_false q) = rw (q, e) refl
+  alone_refused n c e = ap printed_of p ∙ rw e refl
+
+  alone_printed : (h : Head) (n : ℕ) → head_of t ≡ accepted h n → rows_printed t ≡ rows_text h.busy
+  unfolding printed_of rows_printed
+  alone_printed h n e = ap printed_of p ∙ rw e refl
+
+  -- the rows of its head, as they were written
+  pub rows_wrote : (out : List ℕ) → 8192 ≤ length out → {old : List record-of-preset.Preset} {read : HeadRead} {n k : ℕ} → ReadAccepted t old read n k
+      → (r : Result ℕ cause.Refusal) {after : List ℕ} → WroteRows 32 read.head read.presets out r after → Wrote (rows_printed t) r after
+  rows_wrote out long {read = read} h r w = rw (alone_printed _ _ h.reads) (rows_stand out long read.head read.presets (read_record h) r w)
+
+-- ---- an input that is parted at its empty line
+
+module _ (t : List ℕ) (end : ℕ) (p : parts_of (lines t) ≡ parted_at t (Some end)) where
+  pub head_refused : (n : ℕ) (c : Refusal) → head_of (take end t) ≡ refused n c → rows_printed t ≡ refused_line n c
+  unfolding printed_of rows_printed
+  head_refused n c e = ap printed_of p ∙ rw e refl
 
   -- the rows as the code takes them from the input, by their length
-  pub printed_rows : (h : Head) (n : ℕ) → end < length t → head_of (take end t) ≡ accepted h n
-      → rows_printed t ≡ of_reading (rows_beside h (take (length t - (end + 1)) (drop (end + 1) t))) text_of
-  unfolding printed_of rows_printed
-  printed_rows h n l e =
-      let whole = take_all (length t - (end + 1)) (drop (end + 1) t) (omega (arith, length-drop (end + 1) t)) in
-      ap printed_of p ∙ rw (ltb_yes end (length t) l, e, whole, add-one end) refl
+  module _ (h : Head) (n : ℕ) (e : head_of (take end t) ≡ accepted h n) where
+    beside_printed : rows_printed t ≡ of_reading (rows_beside h (take (length t - (end + 1)) (drop (end + 1) t))) text_of
+    unfolding printed_of rows_printed
+    beside_printed =
+        let whole = take_all (length t - (end + 1)) (drop (end + 1) t) (omega (arith, length-drop (end + 1) t)) in
+        ap printed_of p ∙ rw (e, whole, add-one end) refl
 
-  pub printed_alone : (h : Head) (n : ℕ) → length t ≤ end → head_of (take end t) ≡ accepted h n → rows_printed t ≡ rows_text h.busy
-  unfolding printed_of rows_printed
-  printed_alone h n l e = ap printed_of p ∙ rw (ltb_no end (length t) l, e) refl
+    pub rows_refused : (m : ℕ) (c : Refusal) → rows_beside h (take (length t - (end + 1)) (drop (end + 1) t)) ≡ refused m c → rows_printed t ≡ refused_line m c
+    rows_refused m c r = beside_printed ∙ ap (λ (x : Reading). of_reading x text_of) r
+
+    text_printed : (g : Head) (m : ℕ) → rows_beside h (take (length t - (end + 1)) (drop (end + 1) t)) ≡ accepted g m → rows_printed t ≡ text_of g
+    text_printed g m r = beside_printed ∙ ap (λ (x : Reading). of_reading x text_of) r
+
+  -- the head's text with the rows in it, as it was written
+  pub text_wrote : (out : List ℕ) → 8192 ≤ length out → {old : List record-of-preset.Preset} {read : HeadRead} {n k : ℕ} → ReadAccepted (take end t) old read n k
+      → (rows : RowsRead) → rows ≡ rows_read (rows_reading 32 read.head read.presets (take (length t - (end + 1)) (drop (end + 1) t))) read.head → (m : ℕ) → rows.answer ≡ Ok m
+      → (r : Result ℕ cause.Refusal) {after : List ℕ} → WroteHead rows.head read.presets out r after → Wrote (rows_printed t) r after
+  text_wrote out long {read = read} h rows e m a r w =
+      let q = rows_accepted_lem read.head read.presets (read_record h) _ rows e m a in
+      rw (text_printed _ _ h.reads _ _ q.0) (text_stands out long rows.head read.presets q.1 r w)

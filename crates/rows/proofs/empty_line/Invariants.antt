@@ -1,11 +1,7 @@
--- `empty_line` meets its contract. The invariant: the lines to the place `at` are the head's. The measure is what is left of the input. Assumes nothing.
-use Prim.Native.Nat.{◌-◌}
-use lib.ListN.{length}
+-- `empty_line` meets its contract. The invariant: the lines to the place `at` are the head's, and the rest are left. Assumes nothing.
+use Rattle.station.specs.Line.{lines_left}
 use Rattle.rows.proofs.InputParts.{AtLine}
 use Rattle.rows.proofs.empty_line.Given as goal
 
-abbrev pub invariant-loop-at : goal.invariant-loop-at
-invariant-loop-at l = AtLine l.input l.at
-
-abbrev pub decreases-loop-at : goal.decreases-loop-at
-decreases-loop-at l = length l.input - l.at
+abbrev pub invariant-loop-line : goal.invariant-loop-line
+invariant-loop-line l = AtLine l.input (lines_left l.line-iterator) l.at

@@ -1,0 +1,2 @@
+-- The line that an event of a text has.
+pub mod Lines
