@@ -1,193 +1,135 @@
 // What document 01 asks of a call, by trying every set of optional cells.
-use crate::heads::{count, priority, supply};
-use crate::packed::{bit, field, has, masked, members, size, with_field};
-use crate::placements::{feasible, order, place};
-use crate::tables::{cells_of, is_fed};
+use crate::Refusal;
+use crate::calls::Call;
+use crate::cells::Cells;
+use crate::frames::Frame;
+use crate::heads::Head;
+use crate::placements::{Owner, Room};
+use crate::tables::Table;
+use std::cmp::Reverse;
 
-// The names in the call cells, which are 128 + name.
-fn names_in(table: usize) -> usize {
-    let mut set = 0;
-    let mut cell = 0;
-    while cell < 6 {
-        if field(table, cell) > 127 {
-            set = set | bit(field(table, cell) % 32);
-        }
-        cell += 1;
-    }
-    set
-}
-
-// The names of a call's three jobs.
-fn names_of(call: usize) -> usize {
-    bit(field(call, 3)) | bit(field(call, 4)) | bit(field(call, 5))
+// A call that is taken: the table after it, and the number of evicted cells.
+#[derive(Clone, Copy, Debug, PartialEq, Eq)]
+pub struct Taken {
+    pub table: Table,
+    pub evicted: usize,
 }
 
 // Document 01: "A number is used if a preset of the head or a call cell has it", and none may stand
-// twice in a call. The presets' names are those below their count.
-fn is_used(head: usize, table: usize, call: usize) -> bool {
-    let jobs = names_of(call);
-    if size(jobs) < 3 {
-        return true;
-    }
-    jobs & (names_in(table) | bit(count(head)).wrapping_sub(1)) != 0
-}
-
-// Document 02, 2026-05: "A call uses slots above the clock". These slots, the first of them in
-// field 0: where the clock is t, the first t slots are dropped.
-fn above_clock(sets: usize, call: usize) -> usize {
-    sets >> field(call, 6) % 8 * 8
-}
-
-// The optional cells of the slots, which a call may evict.
-fn evictable(slots: usize, table: usize) -> usize {
-    cells_of(table, 3, 0, 0) & members(slots)
-}
-
-// Whether a valid placement of a call loses just a set of evictable cells: the jobs fit in these
-// and the empty cells. Those of the set that no job gets are made empty, which document 01 lets
-// every valid placement do; under a supply it helps, since a lost cell frees its motor for another
-// cell of the slot.
-fn feasible_with(slots: usize, supply: usize, empty: usize, call: usize, set: usize) -> bool {
-    feasible(
-        slots,
-        masked(slots, empty | set),
-        supply,
-        call & 0xffffff,
-        0,
-    )
-}
-
-// The bit of an optional cell: a higher one for a worse rank, and for one preset for a later slot.
-fn bit_of(head: usize, table: usize, cell: usize) -> usize {
-    bit(order(priority(head), field(table, cell) % 32) * 8 + cell % 8)
-}
-
-// What the eviction of a set costs: of two sets the smaller costs less, and of one size the one
-// whose list in the eviction order comes first. That order is worst rank first and for one preset
-// the latest slot first, so a cell that comes earlier takes off a higher bit.
-fn cost(head: usize, table: usize, set: usize) -> usize {
-    let mut sum = 0usize;
-    let mut cell = 0;
-    while cell < 6 {
-        if has(set, cell) {
-            sum = sum.wrapping_add(0x100000000);
-            sum = sum.wrapping_sub(bit_of(head, table, cell));
+// twice in a call.
+fn is_used(head: &Head, table: &Table, call: &Call) -> bool {
+    for (i, job) in call.jobs.iter().enumerate().take(call.count) {
+        if head.has_name(job.name) || table.has_call(job.name) {
+            return true;
         }
-        cell += 1;
-    }
-    sum
-}
-
-// Document 01, "The lost cells": every set of evictable cells is tried. 64 where the call fits with
-// none.
-fn evicted_set(sets: usize, head: usize, table: usize, call: usize) -> usize {
-    let slots = above_clock(sets, call);
-    let evictable = evictable(slots, table);
-    let empty = cells_of(table, 0, 0, 0);
-    let mut best = 64;
-    let mut least = 0xffffffffffff;
-    let mut set = 0;
-    while set < 64 {
-        if set & evictable == set {
-            if feasible_with(slots, supply(head), empty, call, set) {
-                if cost(head, table, set) < least {
-                    least = cost(head, table, set);
-                    best = set;
-                }
-            }
+        if call.jobs[..i].iter().any(|other| other.name == job.name) {
+            return true;
         }
-        set += 1;
     }
-    best
+    false
 }
 
-// The table with a set of cells made empty.
-fn emptied(table: usize, set: usize) -> usize {
-    let mut after = table;
-    let mut cell = 0;
-    while cell < 6 {
-        if has(set, cell) {
-            after = with_field(after, cell, 0);
+// A call on a table: where it may be placed, the cells that it may evict, and the slots that its
+// jobs need.
+#[derive(Clone, Copy)]
+struct Search<'a> {
+    room: Room<'a>,
+    evictable: Cells,
+    needs: [u8; 3],
+}
+
+impl Search<'_> {
+    // Document 02, 2026-05: "A call uses slots above the clock". It may evict their optional cells.
+    fn new<'a>(sets: &'a [Cells], head: &Head, table: &Table, call: &Call) -> Search<'a> {
+        let sets = sets.get(call.clock..).unwrap_or(&[]);
+        let slots = sets.iter().fold(Cells::NONE, |all, slot| all | *slot);
+        Search {
+            room: Room {
+                sets,
+                free: table.empty(),
+                supply: head.supply,
+            },
+            evictable: table.optional() & slots,
+            needs: call.jobs.map(|job| job.slots),
         }
-        cell += 1;
     }
-    after
-}
 
-// The table after a call on a table whose evicted cells are empty: those that no job takes stay so.
-fn placed(sets: usize, head: usize, table: usize, hold: bool, call: usize) -> usize {
-    let slots = above_clock(sets, call);
-    let free = masked(slots, cells_of(table, 0, 0, 0));
-    let marks = call >> 24 | 0x808080;
-    place(
-        table,
-        slots,
-        free,
-        supply(head),
-        hold,
-        0,
-        call & 0xffffff,
-        marks,
-    )
-}
-
-// How a call ends under an order of ties on a table that is well-formed but perhaps for the supply:
-// cause 11, 4 or 7 and the table as it was, or the table and the number of evicted cells.
-pub fn call(sets: usize, head: usize, table: usize, hold: bool, call: usize) -> usize {
-    if !is_fed(sets, table, supply(head)) {
-        return table | 11 << 48;
-    }
-    if is_used(head, table, call) {
-        return table | 4 << 48;
-    }
-    let evicted = evicted_set(sets, head, table, call);
-    if evicted > 63 {
-        return table | 7 << 48;
-    }
-    placed(sets, head, emptied(table, evicted), hold, call) | size(evicted) << 56
-}
-
-// Whether every valid placement of a call loses at least as many of the counted cells as a set of
-// cells has: each set of evictable cells is tried.
-fn is_fewest(
-    slots: usize,
-    head: usize,
-    table: usize,
-    call: usize,
-    counted: usize,
-    evicted: usize,
-) -> bool {
-    let evictable = evictable(slots, table);
-    let empty = cells_of(table, 0, 0, 0);
-    let mut set = 0;
-    while set < 64 {
-        if set & evictable == set {
-            if size(set & counted) < size(evicted & counted) {
-                if feasible_with(slots, supply(head), empty, call, set) {
-                    return false;
-                }
-            }
+    // The room where a set of cells is empty too.
+    fn room_with(&self, set: Cells) -> Room {
+        Room {
+            free: self.room.free | set,
+            ..self.room
         }
-        set += 1;
     }
-    true
+
+    // Whether a valid placement of the call loses just a set of cells: these may be evicted, and
+    // the jobs fit in them and the empty cells. Those of the set that no job gets are made empty,
+    // which document 01 lets every valid placement do; under a supply it helps, since a lost cell
+    // frees its motor for another cell of the slot.
+    fn is_possible(&self, set: Cells) -> bool {
+        set.is_within(self.evictable) && self.room_with(set).fits(self.needs)
+    }
+
+    // Document 01, "The lost cells": every set is tried, and of two sets the smaller costs less,
+    // and of one size the one whose list in the eviction order comes first. That order is worst
+    // rank first and for one preset the latest slot first.
+    fn evicted_set(&self, head: &Head, table: &Table) -> Option<Cells> {
+        let [best, next, worst] = head.by_rank().map(|line| table.optional_of(line.name));
+        let cost = |set: &Cells| (
+            set.size(),
+            Reverse([worst & *set, next & *set, best & *set]),
+        );
+        (0..64)
+            .map(Cells::numbered)
+            .filter(|set| self.is_possible(*set))
+            .min_by_key(cost)
+    }
+
+    // Whether every valid placement loses at least as many of the counted cells as a set of cells
+    // has: each set is tried.
+    fn is_fewest(&self, counted: Cells, lost: Cells) -> bool {
+        let fewest = (lost & counted).size();
+        (0..64).map(Cells::numbered).all(|set| (set & counted).size() >= fewest
+            || !self.is_possible(set))
+    }
 }
 
-// For each priority p, no valid placement of a call loses fewer cells of presets with priority p or
-// better. Priorities here are 0 and 8.
-pub fn is_least(sets: usize, head: usize, table: usize, call: usize, after: usize) -> bool {
-    let slots = above_clock(sets, call);
-    let evicted = cells_of(table, 3, 0, 0) ^ cells_of(after, 3, 0, 0);
-    let best = cells_of(table, 3, priority(head), 0);
-    if !is_fewest(slots, head, table, call, best, evicted) {
-        return false;
+impl Taken {
+    // How a call ends under an order of ties on a table that is well-formed but perhaps for the
+    // supply. Evicted cells that no job takes stay empty.
+    pub fn of(
+        frame: &Frame,
+        head: &Head,
+        hold: bool,
+        table: &Table,
+        call: &Call,
+    ) -> Result<Taken, Refusal> {
+        let sets = frame.sets();
+        if !table.is_fed(&sets, head.supply) {
+            return Err(Refusal::NotWellFormed);
+        }
+        if is_used(head, table, call) {
+            return Err(Refusal::NumberUsed);
+        }
+        let search = Search::new(&sets, head, table, call);
+        let evicted = search
+            .evicted_set(head, table)
+            .ok_or(Refusal::CallNotFeasible)?;
+        let room = search.room_with(evicted);
+        Ok(Taken {
+            table: room.place(table.without(evicted), hold, call.jobs.map(Owner::Job)),
+            evicted: evicted.size(),
+        })
     }
-    is_fewest(
-        slots,
-        head,
-        table,
-        call,
-        cells_of(table, 3, priority(head), 8),
-        evicted,
-    )
+
+    // For each priority p, no valid placement of a call loses fewer cells of presets with priority
+    // p or better. Priorities here are 0 and 8.
+    pub fn is_least(&self, frame: &Frame, head: &Head, table: &Table, call: &Call) -> bool {
+        let sets = frame.sets();
+        let search = Search::new(&sets, head, table, call);
+        let lost = table.optional() - self.table.optional();
+        [0, 8]
+            .iter()
+            .all(|p| search.is_fewest(table.optional_to(head, *p), lost))
+    }
 }

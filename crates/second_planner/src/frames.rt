@@ -1,39 +1,47 @@
-// Frames, packed: the set of each slot's cells in fields 0 to 5; in field 6 B × 16 + S; in field 7
-// the set of busy cells.
-use crate::packed::{bit, masked, size};
+// Frames: every one of at most three bridges and six cells.
+ghost use Rattle.std.specs.Prelude.{◌<◌, ◌≤◌};
 
-// Every frame of at most three bridges and six cells, nothing busy.
-fn frame_at(index: usize) -> usize {
-    match index {
-        0 => 0x11000000000001,
-        1 => 0x12000000000201,
-        2 => 0x13000000040201,
-        3 => 0x14000008040201,
-        4 => 0x15001008040201,
-        5 => 0x16201008040201,
-        6 => 0x21000000000003,
-        7 => 0x22000000000c03,
-        8 => 0x23000000300c03,
-        9 => 0x31000000000007,
-        _ => 0x32000000003807,
+use crate::cells::Cells;
+
+// A frame with its busy cells.
+#[derive(Clone, Copy, Debug, PartialEq, Eq)]
+pub struct Frame {
+    pub bridges: usize,
+    pub slots: usize,
+    pub busy: Cells,
+    ghost is_small: { (0 < bridges) × (bridges ≤ 3) × (slots ≤ 6) },
+}
+
+impl Frame {
+    // The frame of an index with a set of busy cells, where there is one that has all of these.
+    pub fn at(index: usize, busy: Cells) -> Option<Frame> {
+        let (bridges, slots) = match index {
+            0..=5 => (1, index + 1),
+            6..=8 => (2, index - 5),
+            9..=10 => (3, index - 8),
+            _ => return None,
+        };
+        let frame = Frame {
+            bridges,
+            slots,
+            busy,
+        };
+        busy.is_within(frame.cells()).then_some(frame)
     }
-}
 
-// The number of cells.
-pub fn cells(frame: usize) -> usize {
-    size(frame & 0xffffffffffff)
-}
-
-// The cells of each slot that are not busy.
-pub fn sets_of(frame: usize) -> usize {
-    masked(frame, frame >> 56 ^ 63)
-}
-
-// The frame of an index below 11 with busy cells; 0 where it has not so many.
-pub fn frame_of(index: usize, busy: usize) -> usize {
-    let frame = frame_at(index);
-    if busy < bit(cells(frame)) {
-        return frame | busy << 56;
+    // Its cells.
+    pub fn cells(&self) -> Cells {
+        Cells::below(self.slots * self.bridges)
     }
-    0
+
+    // The cells of each slot that are not busy.
+    pub fn sets(&self) -> [Cells; 6] {
+        let mut sets = [Cells::NONE; 6];
+        let mut slot = Cells::below(self.bridges);
+        for set in sets.iter_mut().take(self.slots) {
+            *set = slot - self.busy;
+            slot = slot.moved(self.bridges);
+        }
+        sets
+    }
 }

@@ -1,144 +1,158 @@
 // What fits, and the placing rule.
-//
-// Up to three presets or jobs, numbered from 0, need slots, `needs` having a field for each. `sets`
-// has the cells of each slot that are not busy, `free` those of them that may be filled; the others
-// are held by presets and calls.
-ghost use Rattle.std.specs.Prelude.{◌<◌};
+use crate::calls::Job;
+use crate::cells::Cells;
+use crate::heads::Line;
+use crate::tables::{Cell, Table};
+use std::cmp::Reverse;
 
-use crate::packed::{at_most, field, first_of, one_less, size, with_field, without_first};
-
-// Whether one more cell of a slot may be filled. Document 02, 2026-03: a supply of k feeds k motors
-// in a slot, so that presets and calls hold no more cells of it; 0 is no supply line, and then
-// there is no cap.
-fn may_fill(slot: usize, free: usize, supply: usize) -> bool {
-    if free == 0 {
-        return false;
-    }
-    if supply == 0 {
-        return true;
-    }
-    size(slot ^ free) < supply
+// Where up to three presets or jobs may be placed: the cells of each slot that are not busy, the
+// cells that may be filled, the others being held by presets and calls, and the number of the
+// supply line, if there is one.
+#[derive(Clone, Copy, Debug, PartialEq, Eq)]
+pub struct Room<'a> {
+    pub sets: &'a [Cells],
+    pub free: Cells,
+    pub supply: Option<usize>,
 }
 
-// Document 01: "the meaning of fits is that a valid placement exists". Every one is tried, with no
-// formula: in each slot each of the three gets a free cell or none, and a cell that one got is held
-// by it. A pair is a slot and one of the three; those below `pair` are done.
-pub fn feasible(sets: usize, free: usize, supply: usize, needs: usize, pair: usize) -> bool {
-    if needs == 0 {
-        return true;
+// What each of the three gets of a slot: every choice, 1 for a cell.
+const CHOICES: [[u8; 3]; 8] = [
+    [1, 1, 1],
+    [1, 1, 0],
+    [1, 0, 1],
+    [1, 0, 0],
+    [0, 1, 1],
+    [0, 1, 0],
+    [0, 0, 1],
+    [0, 0, 0],
+];
+
+// How many of the three get a cell.
+fn taken([a, b, c]: [u8; 3]) -> usize {
+    usize::from(a) + usize::from(b) + usize::from(c)
+}
+
+// What is left of the needs of the three, if each of them needs what it gets.
+fn left_after([a, b, c]: [u8; 3], [x, y, z]: [u8; 3]) -> Option<[u8; 3]> {
+    Some([a.checked_sub(x)?, b.checked_sub(y)?, c.checked_sub(z)?])
+}
+
+impl Room<'_> {
+    // How many more cells of a slot may be filled. Document 02, 2026-03: a supply of k feeds k
+    // motors in a slot, so that presets and calls hold no more cells of it: "the free number
+    // becomes the smaller of the empty cells and k less the cells held by presets and calls".
+    // (Where more are held, which is in no well-formed table, it is 0.) Without a supply line there
+    // is no cap.
+    fn free_number(self, slot: Cells) -> usize {
+        let empty = (slot & self.free).size();
+        let held = (slot - self.free).size();
+        self.supply
+            .map_or(empty, |k| empty.min(k.saturating_sub(held)))
     }
-    if pair > 17 {
-        return false;
-    }
-    if field(needs, pair % 3) != 0 {
-        if may_fill(field(sets, pair / 3), field(free, pair / 3), supply) {
-            let free_left = without_first(free, pair / 3);
-            let needs_left = one_less(needs, pair % 3);
-            if feasible(sets, free_left, supply, needs_left, pair + 1) {
+
+    // Document 01: "the meaning of fits is that a valid placement exists". Every one is tried, with
+    // no formula: in each slot each of the three gets a free cell or none, and the slots past it
+    // are tried with what is left.
+    pub fn fits(self, needs: [u8; 3]) -> bool {
+        if needs == [0; 3] {
+            return true;
+        }
+        let [slot, sets @ ..] = self.sets else {
+            return false;
+        };
+        let n = self.free_number(*slot);
+        let later = Room { sets, ..self };
+        for choice in CHOICES {
+            if taken(choice) <= n
+                && let Some(left) = left_after(needs, choice)
+                && later.fits(left)
+            {
                 return true;
             }
         }
+        false
     }
-    feasible(sets, free, supply, needs, pair + 1)
-}
 
-// 1 for true.
-fn one_if(b: bool) -> usize
-    ensures { result < 2 }
-{
-    if b { 1 } else { 0 }
-}
-
-// A field and its place as one number, so that of equal values the earlier field has the smaller.
-fn key(values: usize, i: usize) -> usize {
-    field(values, i) * 4 + i % 4
-}
-
-// The place of field i among the first three in ascending order, counted from 0; of equal ones the
-// earlier comes first.
-pub fn order(values: usize, i: usize) -> usize
-    ensures { result < 4 }
-{
-    let own = key(values, i);
-    one_if(key(values, 0) < own) + one_if(key(values, 1) < own) + one_if(key(values, 2) < own)
-}
-
-// Document 02, 2026-02: "those with a cell in the slot just before come first, then file or call
-// order". A field for each of the three, 1 for those: what they had left to get before that slot's
-// choice is more by one than after it. Under `(tie place)` all are 0.
-fn held_of(hold: bool, before: usize, left: usize) -> usize {
-    if hold { before.wrapping_sub(left) } else { 0 }
-}
-
-// Document 02, 2026-03: "the free number becomes the smaller of the empty cells and k less the
-// cells held by presets and calls". (Where more are held, which is in no well-formed table, it is
-// 0.)
-fn free_number(slot: usize, free: usize, supply: usize) -> usize {
-    let fed = size(slot ^ free);
-    if supply == 0 {
-        return size(free);
-    }
-    if supply <= fed {
-        return 0;
-    }
-    at_most(size(free), supply - fed)
-}
-
-// Whether a slot of free number n serves one of the three: it has slots left to get, and fewer than
-// n come before it, those with more left, of equal ones the held, of these the earlier. (Twice what
-// is left, one more for the held, turned round, so that the most comes first.)
-fn is_served(left: usize, held: usize, n: usize, who: usize) -> bool {
-    if field(left, who) == 0 {
-        return false;
-    }
-    order((left << 1 | held) ^ 0xffffff, who) < n
-}
-
-// The cell of an owner with a mark: as the mark says, or while more than the optional slots are
-// left to get, mandatory.
-fn cell_for(mark: usize, left: usize, optional: usize) -> usize {
-    if left > optional {
-        64 + mark % 32
-    } else {
-        mark
-    }
-}
-
-// Document 01, "Placing, slot by slot from the first": the table with the three in free cells, each
-// cell with its owner's mark. `hold` changes who is served, not the bridges, which go in file or
-// call order. The supply changes how many are served: they take the first free cells of the slot.
-pub fn place(
-    table: usize,
-    sets: usize,
-    free: usize,
-    supply: usize,
-    hold: bool,
-    mandatory: usize,
-    optional: usize,
-    marks: usize,
-) -> usize {
-    let mut after = table;
-    let mut unfilled = free;
-    let mut left = mandatory.wrapping_add(optional);
-    let mut before = left;
-    let mut held = 0;
-    let mut n = 0;
-    let mut pair = 0;
-    while pair < 18 {
-        let slot = pair / 3;
-        let who = pair % 3;
-        if who == 0 {
-            held = held_of(hold, before, left);
-            before = left;
-            n = free_number(field(sets, slot), field(free, slot), supply);
+    // Document 01, "Placing, slot by slot from the first": the table with the three in free cells.
+    // A slot of free number n serves those who have slots left to get where fewer than n come
+    // before. `hold` changes who is served, not the bridges, which go in file or call order. The
+    // supply changes how many are served: they take the first free cells of the slot.
+    pub fn place(self, table: Table, hold: bool, owners: [Owner; 3]) -> Table {
+        let mut after = table;
+        let mut three = Waiting::all(owners);
+        for slot in self.sets {
+            let n = self.free_number(*slot);
+            let turns = three.map(|one| one.turn());
+            let mut free = *slot & self.free;
+            for one in three.iter_mut() {
+                let own = one.turn();
+                let before = turns.iter().filter(|turn| **turn < own).count();
+                let is_served = one.left > 0 && before < n;
+                one.is_held = hold && is_served;
+                if is_served {
+                    after.put(free.take_first(), one.owner.cell(one.left));
+                    one.left -= 1;
+                }
+            }
         }
-        if is_served(before, held, n, who) {
-            let cell = cell_for(field(marks, who), field(left, who), field(optional, who));
-            after = with_field(after, first_of(field(unfilled, slot)), cell);
-            unfilled = without_first(unfilled, slot);
-            left = one_less(left, who);
-        }
-        pair += 1;
+        after
     }
-    after
+}
+
+// Who gets cells: a preset its mandatory slots and as many optional ones as its line has here, or a
+// job of a call.
+#[derive(Clone, Copy, Debug, PartialEq, Eq)]
+pub enum Owner {
+    Preset(Line),
+    Job(Job),
+}
+
+impl Owner {
+    // How many slots it gets.
+    fn slots(&self) -> u8 {
+        match self {
+            Owner::Preset(line) => line.slots(),
+            Owner::Job(job) => job.slots,
+        }
+    }
+
+    // Its next cell, while it has `left` slots to get.
+    fn cell(&self, left: u8) -> Cell {
+        match self {
+            Owner::Preset(line) => line.cell(left),
+            Owner::Job(job) => Cell::Call(job.name),
+        }
+    }
+}
+
+// One of the three while they are placed: its place in file or call order, how many slots it has
+// left to get, and whether it is held.
+#[derive(Clone, Copy)]
+struct Waiting {
+    owner: Owner,
+    place: u8,
+    left: u8,
+    is_held: bool,
+}
+
+impl Waiting {
+    fn new(owner: Owner, place: u8) -> Waiting {
+        Waiting {
+            owner,
+            place,
+            left: owner.slots(),
+            is_held: false,
+        }
+    }
+
+    fn all([a, b, c]: [Owner; 3]) -> [Waiting; 3] {
+        [Waiting::new(a, 0), Waiting::new(b, 1), Waiting::new(c, 2)]
+    }
+
+    // When a slot chooses it: the smallest first. Those with more left come before those with less,
+    // and of these, by document 02, 2026-02, "those with a cell in the slot just before come first,
+    // then file or call order". Under `(tie place)` none is held.
+    fn turn(&self) -> (Reverse<u8>, Reverse<bool>, u8) {
+        (Reverse(self.left), Reverse(self.is_held), self.place)
+    }
 }

@@ -1,103 +1,103 @@
 // The plan that document 01 asks for, by trying.
-ghost use Rattle.std.specs.Prelude.{◌<◌};
+use crate::Refusal;
+use crate::cells::Cells;
+use crate::frames::Frame;
+use crate::heads::{Head, Line};
+use crate::placements::{Owner, Room};
+use crate::tables::Table;
 
-use crate::heads::{mandatory, optional, priority, supply};
-use crate::packed::{bit, field, within};
-use crate::placements::{feasible, order, place};
-
-// Whether the mandatory slots and these optional ones fit. Every cell that is not busy is free: a
-// plan is over the table with nothing placed.
-fn is_feasible(sets: usize, head: usize, grants: usize) -> bool {
-    let needs = mandatory(head).wrapping_add(grants);
-    feasible(sets, sets, supply(head), needs, 0)
+// A plan: its table, and what each line is granted of its optional slots.
+#[derive(Clone, Copy, Debug, PartialEq, Eq)]
+pub struct Plan {
+    pub table: Table,
+    pub grants: [u8; 3],
 }
 
-// Whether a line has a priority and more than n optional slots.
-fn wants(head: usize, line: usize, p: usize, n: usize) -> bool {
-    if field(priority(head), line) != p {
-        return false;
-    }
-    n < field(optional(head), line)
+// A line with what it is granted in place of its optional slots.
+fn granted(line: Line, grants: [u8; 3]) -> Line {
+    let optional = grants.get(usize::from(line.name)).copied().unwrap_or(0);
+    Line { optional, ..line }
 }
 
-// Document 01, "Grants: in rank order": priority by priority, in each line by line, slot by slot up
-// to o, one more wherever all still fits. (Priorities here are 0 and 8; three lines; o below 4.)
-fn grants_of(sets: usize, head: usize) -> usize {
-    let mut grants = 0usize;
-    let mut k = 0;
-    while k < 24 {
-        let line = k / 4 % 3;
-        let more = grants.wrapping_add(bit(8 * line));
-        if wants(head, line, k / 12 * 8, k % 4) {
-            if is_feasible(sets, head, more) {
-                grants = more;
-            }
-        }
-        k += 1;
+// Whether the mandatory slots and these optional ones fit.
+fn is_feasible(room: Room, head: &Head, grants: [u8; 3]) -> bool {
+    room.fits(head.lines.map(|line| granted(line, grants).slots()))
+}
+
+// Whether none of three numbers is above another three's.
+fn is_within(a: [u8; 3], b: [u8; 3]) -> bool {
+    a.iter().zip(b).all(|(a, b)| *a <= b)
+}
+
+// Whether a valid plan has these grants.
+fn is_possible(room: Room, head: &Head, grants: [u8; 3]) -> bool {
+    is_within(grants, head.lines.map(|line| line.optional)) && is_feasible(room, head, grants)
+}
+
+// The grants with another one of a line.
+fn with_grant(mut grants: [u8; 3], line: Line, n: u8) -> [u8; 3] {
+    if let Some(grant) = grants.get_mut(usize::from(line.name)) {
+        *grant = n;
     }
     grants
 }
 
-// Two bits for each of three fields below 4, as a byte.
-fn narrowed(grants: usize) -> usize {
-    (grants | grants >> 6 | grants >> 12) & 63
-}
-
-// A field for each two bits.
-fn widened(byte: usize) -> usize {
-    byte & 3 | byte << 6 & 0x0300 | byte << 12 & 0x030000
-}
-
-// The plan of a head under an order of ties: cause 5, or the table and the grants.
-pub fn plan(sets: usize, head: usize, hold: bool) -> usize {
-    if !is_feasible(sets, head, 0) {
-        return 5 << 48;
+// Document 01, "Grants: in rank order": priority by priority, in each line by line, slot by slot up
+// to o, one more wherever all still fits.
+fn grants_of(room: Room, head: &Head) -> [u8; 3] {
+    let mut grants = [0; 3];
+    for line in head.by_rank() {
+        for n in 1..=line.optional {
+            let more = with_grant(grants, line, n);
+            if is_feasible(room, head, more) {
+                grants = more;
+            }
+        }
     }
-    let grants = grants_of(sets, head);
-    let table = place(
-        0,
-        sets,
-        sets,
-        supply(head),
-        hold,
-        mandatory(head),
-        grants,
-        0x626160,
-    );
-    table | narrowed(grants) << 56
+    grants
 }
 
-// A line's grant in the field of its rank.
-fn ranked(head: usize, grants: usize, line: usize) -> usize {
-    field(grants, line) << order(priority(head), line) * 8
+// Where a plan may be placed: every cell that is not busy is free, since a plan is over the table
+// with nothing placed.
+fn room_of<'a>(sets: &'a [Cells], head: &Head) -> Room<'a> {
+    Room {
+        sets,
+        free: Cells::ALL,
+        supply: head.supply,
+    }
 }
 
 // The optional cells of the first preset by rank, of the first two, and of all three.
-fn sums(head: usize, grants: usize) -> usize {
-    let all = ranked(head, grants, 0) | ranked(head, grants, 1) | ranked(head, grants, 2);
-    all % 0x1000000 * 0x010101
+fn sums(by_rank: [Line; 3], grants: [u8; 3]) -> [u8; 3] {
+    let [one, more, most] = by_rank.map(|line| granted(line, grants).optional);
+    let two = one.saturating_add(more);
+    [one, two, two.saturating_add(most)]
 }
 
-// Whether a valid plan has these grants.
-fn is_possible(sets: usize, head: usize, grants: usize) -> bool {
-    if !within(grants, optional(head)) {
-        return false;
-    }
-    is_feasible(sets, head, grants)
-}
-
-// For every k, no valid plan has more optional cells of the first k presets by rank: each list of
-// grants up to 3 is tried.
-pub fn is_best(sets: usize, head: usize, plan: usize) -> bool {
-    let best = sums(head, widened(plan >> 56));
-    let mut k = 0;
-    while k < 64 {
-        if !within(sums(head, widened(k)), best) {
-            if is_possible(sets, head, widened(k)) {
-                return false;
-            }
+impl Plan {
+    // The plan of a head under an order of ties, if its mandatory slots fit.
+    pub fn of(frame: &Frame, head: &Head, hold: bool) -> Result<Plan, Refusal> {
+        let sets = frame.sets();
+        let room = room_of(&sets, head);
+        if !is_feasible(room, head, [0; 3]) {
+            return Err(Refusal::MandatoryNotFeasible);
         }
-        k += 1;
+        let grants = grants_of(room, head);
+        let owners = head.lines.map(|line| Owner::Preset(granted(line, grants)));
+        let table = room.place(Table::EMPTY, hold, owners);
+        Ok(Plan { table, grants })
     }
-    true
+
+    // For every k, no valid plan has more optional cells of the first k presets by rank: each list
+    // of grants up to 3 is tried.
+    pub fn is_best(&self, frame: &Frame, head: &Head) -> bool {
+        let sets = frame.sets();
+        let room = room_of(&sets, head);
+        let by_rank = head.by_rank();
+        let best = sums(by_rank, self.grants);
+        (0..64).all(|code| {
+            let grants = [code % 4, code / 4 % 4, code / 16];
+            is_within(sums(by_rank, grants), best) || !is_possible(room, head, grants)
+        })
+    }
 }

@@ -1,101 +1,139 @@
-// Tables of a head, without call cells, that are well-formed but perhaps for its supply; and
-// whether they obey it.
-//
-// A table is packed, a field for a cell: kind × 32 + name, with the kinds of document 01. Busy
-// cells are left 0 like empty ones: they are in no slot's set.
-use crate::frames::sets_of;
-use crate::heads::{mandatory, optional};
-use crate::packed::{bit, field, has, masked, one_less, size, with_field, within};
+// Tables of a head: those without call cells that are well-formed but perhaps for its supply, and
+// whether a table obeys it.
+use crate::cells::Cells;
+use crate::frames::Frame;
+use crate::heads::{Head, Line};
 
-// What is no table.
-pub const NO_TABLE: usize = 0xffffffffffffffff;
-
-// The cells of a cell's slot.
-fn slot_with(frame: usize, cell: usize) -> usize {
-    let bridges = field(frame, 6) / 16;
-    if bridges == 0 {
-        return 0;
-    }
-    field(sets_of(frame), cell / bridges)
+// A cell of a table: its kind of document 01, with the name of the preset or job that has it.
+#[derive(Clone, Copy, Debug, PartialEq, Eq)]
+pub enum Cell {
+    Empty,
+    Mandatory(u8),
+    Optional(u8),
+    Call(u8),
 }
 
-// Whether a line may have a cell of a slot: the cell is not busy, and the line has slots left to
-// get and no other cell of the slot. `own` has each line's cells.
-fn may_have(slot: usize, own: usize, left: usize, line: usize, cell: usize) -> bool {
-    if field(left, line) == 0 {
-        return false;
+// The table of a small frame. Busy cells are empty in it: they are in no slot's set.
+#[derive(Clone, Copy, Debug, PartialEq, Eq)]
+pub struct Table(pub [Cell; 6]);
+
+impl Table {
+    pub const EMPTY: Table = Table([Cell::Empty; 6]);
+
+    // The cells of which a test holds.
+    pub fn cells<F: Fn(Cell) -> bool>(&self, test: F) -> Cells
+        requires { F.IsAlwaysCallable test }
+    {
+        let mut set = Cells::NONE;
+        for (i, cell) in self.0.iter().enumerate() {
+            if test(*cell) {
+                set = set | Cells::one(i);
+            }
+        }
+        set
     }
-    if field(own, line) & slot != 0 {
-        return false;
+
+    // The empty cells.
+    pub fn empty(&self) -> Cells {
+        self.cells(|cell| cell == Cell::Empty)
     }
-    has(slot, cell)
+
+    // The optional cells.
+    pub fn optional(&self) -> Cells {
+        self.cells(|cell| matches!(cell, Cell::Optional(_)))
+    }
+
+    // The optional cells of a preset.
+    pub fn optional_of(&self, name: u8) -> Cells {
+        self.cells(|cell| cell == Cell::Optional(name))
+    }
+
+    // The optional cells of presets with priority p or a better one.
+    pub fn optional_to(&self, head: &Head, p: u8) -> Cells {
+        self.cells(|cell| matches!(cell, Cell::Optional(name) if head.priority(name) <= p))
+    }
+
+    // Whether a call cell has a name.
+    pub fn has_call(&self, name: u8) -> bool {
+        self.0.contains(&Cell::Call(name))
+    }
+
+    // Writes a cell, if there is one.
+    pub fn put(&mut self, at: Option<usize>, cell: Cell) {
+        if let Some(to) = at.and_then(|i| self.0.get_mut(i)) {
+            *to = cell;
+        }
+    }
+
+    // The table with a set of cells made empty.
+    pub fn without(&self, set: Cells) -> Table {
+        let mut after = *self;
+        for (i, cell) in after.0.iter_mut().enumerate() {
+            if set.has(i) {
+                *cell = Cell::Empty;
+            }
+        }
+        after
+    }
+
+    // Whether in no slot presets and calls hold more cells than the supply feeds. Document 02,
+    // 2026-03: "Valid placements from then on obey the cap, and a sound table does too", so the
+    // slots up to the clock count like the others. A busy cell draws nothing.
+    pub fn is_fed(&self, sets: &[Cells], supply: Option<usize>) -> bool {
+        let empty = self.empty();
+        supply.is_none_or(|k| sets.iter().all(|slot| (*slot - empty).size() <= k))
+    }
 }
 
-// A preset's next cell, while `left` slots are still to get: the first in time are mandatory.
-fn preset_cell(left: usize, head: usize, line: usize) -> usize {
-    if field(left, line) > field(optional(head), line) {
-        return 64 + line % 32;
+// A preset while a table is filled cell by cell: the slots that it has still to get, and its cells.
+#[derive(Clone, Copy)]
+struct Filling {
+    line: Line,
+    left: u8,
+    own: Cells,
+}
+
+impl Filling {
+    // What a line has before the first cell.
+    fn new(line: Line) -> Filling {
+        Filling {
+            line,
+            left: line.slots(),
+            own: Cells::NONE,
+        }
     }
-    96 + line % 32
+
+    // Gives it a cell of a slot, if it may have that: the line has slots left to get and no other
+    // cell of the slot.
+    fn take(&mut self, cell: usize, slot: Cells) -> Option<Cell> {
+        if !(self.own & slot).is_empty() {
+            return None;
+        }
+        let taken = self.line.cell(self.left);
+        self.left = self.left.checked_sub(1)?;
+        self.own = self.own | Cells::one(cell);
+        Some(taken)
+    }
+
+    // Whether it has its mandatory slots.
+    fn is_done(&self) -> bool {
+        self.left <= self.line.optional
+    }
 }
 
 // The table of a code below 4,096, four choices a cell: a preset's line, or 3 for nothing. No table
 // where a preset has a busy cell, two cells of a slot, or fewer than its mandatory or more than all
 // its slots.
-pub fn table_of(frame: usize, head: usize, code: usize) -> usize {
-    let mut left = mandatory(head).wrapping_add(optional(head));
-    let mut table = 0;
-    let mut own = 0;
-    let mut cell = 0;
-    while cell < 6 {
-        let line = code >> 2 * cell & 3;
-        if line != 3 {
-            if !may_have(slot_with(frame, cell), own, left, line, cell) {
-                return NO_TABLE;
-            }
-            table = with_field(table, cell, preset_cell(left, head, line));
-            left = one_less(left, line);
-            own = own | bit(line % 4 * 8 + cell);
+pub fn table_of(frame: &Frame, head: &Head, code: usize) -> Option<Table> {
+    let sets = frame.sets();
+    let mut presets = head.lines.map(Filling::new);
+    let mut table = Table::EMPTY;
+    for (i, cell) in table.0.iter_mut().enumerate() {
+        let choice = code >> 2 * i & 3;
+        if let Some(preset) = presets.get_mut(choice) {
+            let slot = sets.iter().find(|slot| slot.has(i))?;
+            *cell = preset.take(i, *slot)?;
         }
-        cell += 1;
     }
-    if within(left, optional(head)) {
-        table
-    } else {
-        NO_TABLE
-    }
-}
-
-// Whether in no slot presets and calls hold more cells than the supply feeds, 0 for no supply line.
-// Document 02, 2026-03: "Valid placements from then on obey the cap, and a sound table does too",
-// so the slots up to the clock count like the others. A busy cell draws nothing.
-pub fn is_fed(sets: usize, table: usize, supply: usize) -> bool {
-    if supply == 0 {
-        return true;
-    }
-    let held = masked(sets, cells_of(table, 0, 0, 0) ^ 63);
-    let mut slot = 0;
-    while slot < 6 {
-        if size(field(held, slot)) > supply {
-            return false;
-        }
-        slot += 1;
-    }
-    true
-}
-
-// The cells of a kind whose preset has priority p or a better one. (Where that does not matter,
-// `priority` is 0 for all.)
-pub fn cells_of(table: usize, kind: usize, priority: usize, p: usize) -> usize {
-    let mut set = 0;
-    let mut cell = 0;
-    while cell < 6 {
-        if field(table, cell) / 32 == kind {
-            if field(priority, field(table, cell) % 32) <= p {
-                set = set | bit(cell);
-            }
-        }
-        cell += 1;
-    }
-    set
+    presets.iter().all(Filling::is_done).then_some(table)
 }

@@ -1,92 +1,53 @@
 // The library's planner on small heads and tables.
-use crate::cells::{MARK, is_table, table_of};
-use crate::records::{grants_in, jobs_of, presets_of, record_of, refused};
-use placing::call::{CallAnswer, call_by_value};
-use placing::cells::Cell;
-use placing::plan::{PlanAnswer, Planned, plan_by_value};
-use second_planner::packed::field;
-use second_planner::tables::NO_TABLE;
+use crate::cells::{MARK, table_of};
+use crate::records::{call_of, cause_of, head_of, presets_of};
+use placing::call::call_by_value;
+use placing::moment::Moment;
+use placing::plan::plan_by_value;
+use second_planner::calls::Call;
+use second_planner::tables::Table;
+use second_planner::{Answer, Asked, Case, Refusal};
 
-// What a plan reports: the cause in field 6, or the grants in field 7.
-fn plan_report(planned: Planned) -> usize {
-    let answer = planned.answer;
-    let grants = planned.grants;
-    match answer {
-        PlanAnswer::Granted => grants_in(grants) << 56,
-        PlanAnswer::Refused(_, cause) => refused(cause),
-    }
-}
-
-// What a call reports: the cause in field 6, or the number of evicted cells in field 7.
-fn call_report(answer: CallAnswer) -> usize {
-    match answer {
-        CallAnswer::Taken(evicted) => if evicted < 64 {
-            evicted << 56
-        } else {
-            NO_TABLE
-        },
-        CallAnswer::Refused(_, cause) => refused(cause),
-    }
-}
-
-// The library's answer as the second planner writes it: the table that is expected, if it is that, and what is reported.
-fn answer_with(frame: usize, table: [Cell; 512], expected: usize, report: usize) -> usize {
-    if is_table(frame, expected, table) {
-        return expected & 0xffffffffffff | report;
-    }
-    NO_TABLE
-}
-
-// The frame whose cells a plan writes: one without cells where it is refused.
-fn written(frame: usize, plan: usize) -> usize {
-    if field(plan, 6) != 0 { 0 } else { frame }
-}
-
-// The library's plan under an order of ties. All cells are marks before, and stay so where the plan is refused.
-fn plan_answer(frame: usize, head: usize, hold: bool, expected: usize) -> usize {
+// Whether the library's plan is what the second planner answers. All cells are marks before, and
+// stay so where the plan is refused.
+fn plans_so(case: &Case, right: &Result<Answer, Refusal>) -> bool {
     let mut table = [MARK; 512];
-    let planned = plan_by_value(record_of(frame, head, hold), presets_of(head), &mut table);
-    answer_with(
-        written(frame, expected),
-        table,
-        expected,
-        plan_report(planned),
-    )
-}
-
-// What the library makes of a call on a table under an order of ties. The head's order is the other one: a call goes by the order in force.
-fn call_answer(
-    frame: usize,
-    head: usize,
-    table: usize,
-    hold: bool,
-    call: usize,
-    expected: usize,
-) -> usize {
-    let mut cells = table_of(frame, table);
-    let answer = call_by_value(
-        record_of(frame, head, !hold),
-        presets_of(head),
-        &mut cells,
-        field(call, 6),
-        hold,
-        jobs_of(call),
-        field(call, 7),
-    );
-    answer_with(frame, cells, expected, call_report(answer))
-}
-
-// The library's answer to a call on a table, or its plan for call 0, under an order of ties.
-pub fn library_answer(
-    frame: usize,
-    head: usize,
-    table: usize,
-    hold: bool,
-    call: usize,
-    expected: usize,
-) -> usize {
-    if call == 0 {
-        return plan_answer(frame, head, hold, expected);
+    let head = head_of(case, case.hold);
+    let planned = plan_by_value(head, presets_of(&case.head), &mut table);
+    match (planned, right) {
+        (Ok(grants), Ok(Answer::Plan(plan))) => {
+            grants.starts_with(&plan.grants) && table == table_of(&case.frame, &plan.table)
+        }
+        (Err(cause), Err(refusal)) => cause == cause_of(*refusal) && table == [MARK; 512],
+        _ => false,
     }
-    call_answer(frame, head, table, hold, call, expected)
+}
+
+// Whether the library makes of a call on a table what the second planner answers. The head's order
+// of ties is the other one: a call goes by the order in force.
+fn takes_so(case: &Case, table: &Table, call: &Call, right: &Result<Answer, Refusal>) -> bool {
+    let before = table_of(&case.frame, table);
+    let mut after = before;
+    let head = head_of(case, !case.hold);
+    let moment = Moment {
+        clock: call.clock,
+        hold: case.hold,
+    };
+    let presets = presets_of(&case.head);
+    let taken = call_by_value(head, presets, &mut after, moment, call_of(call));
+    match (taken, right) {
+        (Ok(evicted), Ok(Answer::Taken(taken))) => {
+            evicted == taken.evicted && after == table_of(&case.frame, &taken.table)
+        }
+        (Err(cause), Err(refusal)) => cause == cause_of(*refusal) && after == before,
+        _ => false,
+    }
+}
+
+// Whether the library answers a case as the second planner does, and leaves the same table.
+pub fn answers_so(case: &Case, right: &Result<Answer, Refusal>) -> bool {
+    match &case.asked {
+        Asked::Plan => plans_so(case, right),
+        Asked::Call(table, call) => takes_so(case, table, call, right),
+    }
 }

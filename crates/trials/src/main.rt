@@ -5,18 +5,19 @@
 // stored output.
 #![tactic(auto)]
 
-pub mod records; // records.rt: the records of heads and calls, and what the library answers
+pub mod records; // records.rt: the records of heads and calls, and the causes
 pub mod cells; // cells.rt: the library's table
+mod shown; // shown.rt: what the entries answer, as lines
 mod texts; // texts.rt: texts and their listings
-mod lent; // lent.rt: the entries over a lent list of preset records
-mod lists; // lists.rt: one text through them
+mod lists; // lists.rt: one text through the entries over a lent list of preset records
 mod ties; // ties.rt: a text with ties through them, under both orders
 mod supplies; // supplies.rt: frames with a supply through them, and tables that no plan leaves
 mod rows; // rows.rt: rows in place of a head's busy slots, through them
 mod library; // library.rt: the library's planner on small heads
 mod compare; // compare.rt: both planners, and what differs
 mod family; // family.rt: the heads, tables and calls that are tried
-mod counts; // counts.rt: what is counted of them
+mod tally; // tally.rt: what is counted of them
+mod counts; // counts.rt: all of the small frames, with each supply
 
 use counts::compare_all;
 use lists::try_lists;

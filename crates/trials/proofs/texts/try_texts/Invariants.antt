@@ -1,9 +1,6 @@
--- `try_texts` is safe and ends. The measure: what is left of the input, the end of the last text counted.
-use Rattle.std.proofs.Common.{◌+◌, ◌-◌, ◌≤◌, length}
+-- `texts::try_texts` is safe and ends. The measure: what is left of the input.
+use Rattle.std.proofs.Common.{length}
 use Rattle.trials.proofs.texts.try_texts.Given as goal
 
-abbrev pub invariant-loop-from : goal.invariant-loop-from
-invariant-loop-from g l = l.from ≤ length l.input + 1
-
-abbrev pub decreases-loop-from : goal.decreases-loop-from
-decreases-loop-from g l = length l.input + 1 - l.from
+abbrev pub decreases-loop-end : goal.decreases-loop-end
+decreases-loop-end g l = length l.rest
