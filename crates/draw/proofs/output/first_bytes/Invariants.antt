@@ -1,9 +1,0 @@
--- `output::first_bytes` is safe and ends. The invariant: i is at most n.
-use Rattle.std.proofs.Common.{◌-◌, ◌≤◌}
-use Rattle.draw.proofs.output.first_bytes.Given as goal
-
-abbrev pub invariant-loop-i : goal.invariant-loop-i
-invariant-loop-i g l = l.i ≤ l.n
-
-abbrev pub decreases-loop-i : goal.decreases-loop-i
-decreases-loop-i g l = l.n - l.i

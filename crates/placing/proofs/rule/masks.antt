@@ -1,2 +1,0 @@
--- Masks as sets.
-pub mod Sets

@@ -1,9 +1,0 @@
--- `cells::is_table` is safe and ends. The loop's invariant: `i` is at most 512.
-use Rattle.std.proofs.Common.{◌-◌, ◌≤◌}
-use Rattle.trials.proofs.cells.is_table.Given as goal
-
-abbrev pub invariant-loop-i : goal.invariant-loop-i
-invariant-loop-i l = l.i ≤ 512
-
-abbrev pub decreases-loop-i : goal.decreases-loop-i
-decreases-loop-i l = 512 - l.i
