@@ -15,3 +15,4 @@ mod WrittenRead
 mod TextSize
 -- The code's records. The laws about one part of the code stand beside its proofs, in the folder of its name.
 mod CodeRecords
+mod CopiedRecords

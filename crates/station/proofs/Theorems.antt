@@ -27,11 +27,11 @@ pub use Rattle.station.proofs.rows.RowsWritten.{rows_in, rows_ordered, rows_fit}
 pub use Rattle.station.proofs.rows.RowsUnique.{rows_canonical}
 -- preset records, in a list and by value
 pub use Rattle.station.proofs.CodeRecords.{records_step, refusal_of_lem}
-pub use Rattle.station.proofs.records.CopiedLoops.{saved_loaded, saved_over, loaded_whole}
+pub use Rattle.station.proofs.CopiedRecords.{saved_loaded, saved_over, loaded_whole}
 -- the first 32 records of a list, as an entry takes them
 pub use Rattle.station.proofs.entries.FirstRecords.{few_records, first_records}
 pub use Rattle.station.proofs.entries.ListOfRecords.{head_list}
 -- a head that no cause refuses to write
 pub use Rattle.station.proofs.write.HeadLines.{cause_none}
 -- bytes that are written one run after the other
-pub use Rattle.station.proofs.output.Runs.{wrote_none, wrote_then, wrote_fits, left_all, left_wrote, left_none, left_then, join_append}
+pub use Rattle.station.proofs.output.Runs.{wrote_none, wrote_then, wrote_fits, left_all, left_wrote, left_none, left_then, writes_none, writes_then, rest_all, rest_wrote, rest_none, rest_then, writes_out, join_append}

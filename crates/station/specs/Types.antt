@@ -7,6 +7,7 @@ use Rattle.station.specs.Refusal as refusal
 use Rattle.station.specs.declared.types.Preset.{Preset}
 use Rattle.station.specs.declared.types.Job.{Job}
 use Rattle.station.specs.declared.types.Head.{Head}
+use Rattle.station.specs.declared.types.Station.{Station}
 use Rattle.station.specs.declared.types.Refusal.{Refusal}
 use Rattle.station.specs.declared.types.Refusal.TheVariants.{NoForm, OutOfLimits, OutOfPlace, NumberUsed, MandatoryNotFeasible, ClockBack, CallNotFeasible, TooShort, TooMany, TextTooLong, NotWellFormed, NoRow}
 
@@ -85,3 +86,10 @@ head_in h ps = record { slots = h.slots; bridges = h.bridges; supply = h.supply;
 -- "a head record that no text yields" is one for which this is false
 abbrev pub valid_record : Head → List Preset → Bool
 valid_record h ps = leb h.count most_presets && head.valid (head_in h ps)
+
+-- the same of a head record that stands with its list
+abbrev pub station_in : Station → head.Head
+station_in s = head_in s.head s.presets
+
+abbrev pub valid_station : Station → Bool
+valid_station s = valid_record s.head s.presets

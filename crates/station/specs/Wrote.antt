@@ -2,6 +2,7 @@
 -- it, here and in the layers above. Assumes nothing.
 use Rattle.std.specs.Prelude.{ℕ, ◌+◌, min, max, ◌≡◌, List, length}
 use Rattle.std.proofs.lemmas.List.Edits.{sets}
+use Rattle.station.specs.declared.output.Writer.{Writer}
 
 -- the place k bytes further: it stops at the end n of the output, and one past the end stays
 unfoldable pub moved : ℕ → ℕ → ℕ → ℕ
@@ -19,3 +20,15 @@ pub record Left (l : List ℕ) (at : ℕ) (a : List ℕ) (l₁ : List ℕ) (r : 
   pub output : sets l₁ r b ≡ sets l at a
   pub position : moved (length l₁) r (length b) ≡ moved (length l) at (length a)
   pub size : length l₁ ≡ length l
+
+-- The bytes bs were written by the writer w, which is now w₁: into the same output, from its place
+-- on, and its place is the next.
+pub record Writes (w : Writer) (bs : List ℕ) (w₁ : Writer) : Type 0 where
+  pub same : w₁.out.ghost_name ≡ w.out.ghost_name
+  pub wrote : Wrote w.out.now w.at bs w₁.out.now w₁.at
+
+-- What is still to be written: the bytes b by the writer w₁, which has the output of w, come to the
+-- same as the bytes a by w.
+pub record Rest (w : Writer) (a : List ℕ) (w₁ : Writer) (b : List ℕ) : Type 0 where
+  pub same : w₁.out.ghost_name ≡ w.out.ghost_name
+  pub left : Left w.out.now w.at a w₁.out.now w₁.at b

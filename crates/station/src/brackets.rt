@@ -12,7 +12,7 @@ use crate::types::{Job, NO_JOB};
 
 // A bracket of two numbers, as they are read, and the place of the next one; the line ends where
 // there is none.
-#[derive(Clone, Copy)]
+#[derive(Clone, Copy, Debug, PartialEq, Eq, Hash)]
 pub struct Bracket {
     pub first: u32,
     pub second: u32,
@@ -21,14 +21,14 @@ pub struct Bracket {
 
 // The stretches so far, which are in order: the least slot in which the next may begin, and their
 // mask.
-#[derive(Clone, Copy)]
+#[derive(Clone, Copy, Debug, PartialEq, Eq, Hash)]
 pub struct Stretches {
     pub from: u32,
     pub mask: u64,
 }
 
 // The jobs of a call: how many, whether each is within its limits, and the first eight.
-#[derive(Clone, Copy)]
+#[derive(Clone, Copy, Debug, PartialEq, Eq, Hash)]
 pub struct Jobs {
     pub count: usize,
     pub fit: bool,

@@ -4,14 +4,14 @@ ghost use Rattle.std.specs.Prelude.{◌^◌, ◌≡◌, ◌&&◌, map, length, e
 ghost use Rattle.std.specs.List.{list_all};
 ghost use Rattle.station.specs.Limits.{most_bridges, most_motors};
 ghost use Rattle.station.specs.Head.{preset_of, within, frame_in_limits, preset_in_limits, all_distinct, masks_in};
-ghost use Rattle.station.specs.Types.{preset_in, job_in, valid_record};
+ghost use Rattle.station.specs.Types.{preset_in, job_in, valid_station};
 ghost use Rattle.station.specs.Jobs.{job_in_limits};
 
 use crate::limits::{
-    MOST_BRIDGES, MOST_LENGTH, MOST_MANDATORY, MOST_MOTORS, MOST_NUMBER, MOST_OPTIONAL,
-    MOST_PRESETS, MOST_SLOTS, WORST_PRIORITY,
+    MOST_BRIDGES, MOST_LENGTH, MOST_MANDATORY, MOST_MOTORS, MOST_NUMBER, MOST_OPTIONAL, MOST_SLOTS,
+    WORST_PRIORITY,
 };
-use crate::types::{Head, Job, Preset};
+use crate::types::{Job, Preset, Station};
 
 // A job's number and length are within their limits.
 pub fn job_in_limits(job: Job) -> bool
@@ -108,12 +108,13 @@ fn all_distinct(presets: &[Preset]) -> bool
     true
 }
 
-// Some text yields the head record with the first of the preset records.
+// Some text yields the station: its head record with the first of its preset records.
 #[tactic(auto, using(crate::proofs::check::ValidRecord::valid_as_written, crate::proofs::check::ValidRecord::limits_all))]
-pub fn valid_record(head: Head, presets: [Preset; MOST_PRESETS]) -> bool
-    ensures { result ≡ valid_record head presets }
+pub fn valid_record(station: &Station) -> bool
+    ensures { result ≡ valid_station station.now }
 {
-    let Some(presets) = presets.get(..head.count) else {
+    let head = &station.head;
+    let Some(presets) = station.presets.get(..head.count) else {
         return false;
     };
     frame_in_limits(head.slots, head.bridges)

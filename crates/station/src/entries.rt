@@ -1,5 +1,6 @@
 // The entries of layer 1 over a borrowed slice of preset records: each works on the first 32 of
-// them, and is refused where there are fewer.
+// them, and is refused where there are fewer. Head and slice are lent apart. Where both are only
+// looked at, the head becomes a station with those 32; where one is read, it is written in place.
 ghost use Rattle.std.specs.Prelude.{◌≡◌, length};
 ghost use Rattle.station.specs.ReadHead.{left_by};
 ghost use Rattle.station.specs.Entries.{WroteEntry, entry_read};
@@ -9,7 +10,7 @@ use crate::heads::read_head_by_value;
 use crate::limits::{LEAST_RECORDS, MOST_BYTES};
 use crate::rows::read_rows_by_value;
 use crate::rows::text::write_rows_by_value;
-use crate::types::{Extent, Fault, Head, Preset, Refusal};
+use crate::types::{Extent, Fault, Head, Preset, Refusal, Station};
 use crate::write::write_head_by_value;
 
 // Writes the one text of a head at the start of the output and answers its length; the bytes past
@@ -23,7 +24,11 @@ pub fn write_head(head: Head, presets: &[Preset], out: &mut [u8]) -> Result<usiz
     let records = presets
         .first_chunk::<LEAST_RECORDS>()
         .ok_or(Refusal::TooShort)?;
-    write_head_by_value(head, *records, out)
+    let station = Station {
+        head,
+        presets: *records,
+    };
+    write_head_by_value(&station, out)
 }
 
 // Reads the head of a text into the list of preset records. Answers the number of its lines and
@@ -69,5 +74,9 @@ pub fn write_rows(head: Head, presets: &[Preset], out: &mut [u8]) -> Result<usiz
     let records = presets
         .first_chunk::<LEAST_RECORDS>()
         .ok_or(Refusal::TooShort)?;
-    write_rows_by_value(head, *records, out)
+    let station = Station {
+        head,
+        presets: *records,
+    };
+    write_rows_by_value(&station, out)
 }

@@ -11,7 +11,7 @@ use crate::types::{Call, Refusal};
 
 // What an event line asks: to set the clock, to place the jobs of a call, or to change the order of
 // ties.
-#[derive(Clone, Copy)]
+#[derive(Clone, Copy, Debug, PartialEq, Eq, Hash)]
 pub enum Event {
     Clock(u32),
     Call(Call),

@@ -10,7 +10,7 @@ use crate::numbers::{closes_at, number_last, number_then, word_at};
 
 // What a line says, its numbers as they are read. Of a busy line the mask of its stretches, if they
 // are in order and inside the frame.
-#[derive(Clone, Copy)]
+#[derive(Clone, Copy, Debug, PartialEq, Eq, Hash)]
 pub enum Line {
     Frame(u32, u32),
     Busy(u32, Option<u64>),
@@ -22,7 +22,7 @@ pub enum Line {
 }
 
 // The numbers of a preset line.
-#[derive(Clone, Copy)]
+#[derive(Clone, Copy, Debug, PartialEq, Eq, Hash)]
 pub struct PresetLine {
     pub number: u32,
     pub priority: u32,

@@ -56,7 +56,7 @@ fn read_lines(
 // Reads the head of a text: its lines to the first that has an event's form, or to the text's end.
 // Answers the number of its lines and bytes; the head and its presets are those read, the records
 // past the last stay. Or answers the line at fault, 0 with 10; head and records then stay as they
-// were.
+// were. Both are lent apart, and not as a station: what is lent is written in place.
 pub fn read_head_by_value(
     text: &[u8],
     head: &mut Head,

@@ -17,6 +17,4 @@ pub mod rows; // rows.rt: rows of comma-separated text in place of a head's busy
 // Writing, from a head to bytes:
 pub mod check; // check.rt: whether a job is within its limits, and whether a head record is one that some text yields
 pub mod output; // output.rt: bytes, words and numbers into a borrowed output
-pub mod write; // write.rt: the one text of a head, its preset records by value
-// The borrowed list:
-pub mod records; // records.rt: preset records out of a borrowed list, and back
+pub mod write; // write.rt: the one text of a station

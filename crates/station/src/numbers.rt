@@ -6,7 +6,7 @@ ghost use Rattle.station.specs.method.Numeral.{leads, word_at, closes, numeral_a
 ghost use Rattle.station.specs.Jobs.{seen};
 
 // A number at a place: its value, which stops at 65,535, and the place after it.
-#[derive(Clone, Copy)]
+#[derive(Clone, Copy, Debug, PartialEq, Eq, Hash)]
 pub struct Numeral {
     pub value: u32,
     pub next: usize,
@@ -62,7 +62,7 @@ fn with_digit(v: u32, b: u8) -> u32
     requires { (v ≤ 65535) × (48 ≤ b) }
     ensures { result ≡ seen (v * 10 + (b - 48)) }
 {
-    (v * 10 + (b as u32 - 48)).min(65535)
+    (v * 10 + (u32::from(b) - 48)).min(65535)
 }
 
 // The number at `at`: there is none where no digit stands there or a zero leads. The loop goes by

@@ -1,22 +1,99 @@
 // Writing bytes into a borrowed output: a byte, a text, a number.
 //
-// Each writer takes the output and a place, and answers the next place. It is total: bytes past the
-// end of the output are left out, and the place then stays at the end. So no writer that another
-// crate calls asks for room; an entry that promises a whole text shows that it has it.
+// A `Writer` is an output and the place of the next byte. Its methods are total: bytes past the end
+// of the output are left out, and the place then stays at the end. So no writer that another crate
+// calls asks for room; an entry that promises a whole text shows that it has it.
+//
+// The functions below it store: they take the output and a place, and answer the next place. As
+// methods, which keep the place behind a reference, they were tried, and slower: a listing takes a
+// tenth longer.
 //
 // Nearly always the output goes on past what is written. So the writers of a text and of numbers
 // test once whether it does, and then store with no further test; near the end of the output they go
 // byte by byte. The place is on the one side of that test alone: the other, the length less what is
 // written, a compiler finds once for a whole loop.
-ghost use Rattle.std.specs.Prelude.{◌+◌, ◌-◌, ◌/◌, ◌%◌, ◌≤◌, ◌<◌, [], ◌∷◌, length};
+ghost use Rattle.std.specs.Prelude.{◌+◌, ◌-◌, ◌/◌, ◌%◌, ◌≡◌, ◌≤◌, ◌<◌, [], ◌∷◌, length};
 ghost use Rattle.station.specs.Text.{bytes, ◌then◌};
 ghost use Rattle.station.specs.Decimal.{digits};
-ghost use Rattle.station.specs.Wrote.{Wrote};
+ghost use Rattle.station.specs.Wrote.{Wrote, Writes};
+
+// An output, and the place in it of the next byte.
+#[derive(Drop)]
+pub struct Writer<'a> {
+    out: &'a mut [u8],
+    at: usize,
+}
+
+impl<'a> Writer<'a> {
+    // A writer into an output, from a place on.
+    pub fn new(out: &'a mut [u8], at: usize) -> Writer<'a>
+        ensures same { result.out.ghost_name ≡ out.entry.ghost_name }
+        ensures bytes { result.out.now ≡ out.old }
+        ensures place { result.at ≡ at }
+    {
+        Writer { out, at }
+    }
+
+    // The place of the next byte.
+    pub fn place(&self) -> usize
+        ensures { result ≡ self.now.at }
+    {
+        self.at
+    }
+
+    // Writes one byte.
+    pub fn put(&mut self, byte: u8)
+        ensures { Writes self.old (byte ∷ []) self.new }
+    {
+        let out = &mut *self.out;
+        self.at = put(out, self.at, byte);
+    }
+
+    // Writes the bytes of a text.
+    pub fn word(&mut self, text: &[u8])
+        ensures { Writes self.old text.now self.new }
+    {
+        let out = &mut *self.out;
+        self.at = word(out, self.at, text);
+    }
+
+    // Writes a number in decimals.
+    pub fn number(&mut self, n: usize)
+        ensures { Writes self.old (digits n) self.new }
+    {
+        let out = &mut *self.out;
+        self.at = number(out, self.at, n);
+    }
+
+    // Writes two numbers with a blank between them.
+    pub fn two_numbers(&mut self, m: usize, n: usize)
+        ensures { Writes self.old (digits m then bytes " " then digits n) self.new }
+    {
+        let out = &mut *self.out;
+        self.at = two_numbers(out, self.at, m, n);
+    }
+
+    // Writes two numbers with a blank between them and the end of their line.
+    pub fn numbers_end(&mut self, m: usize, n: usize)
+        ensures { Writes self.old (digits m then bytes " " then digits n then bytes ")\n") self.new }
+    {
+        let out = &mut *self.out;
+        self.at = numbers_end(out, self.at, m, n);
+    }
+
+    // Writes a blank, a letter and a number.
+    pub fn lettered(&mut self, letter: u8, n: u8)
+        ensures { Writes self.old (bytes " " then (letter ∷ []) then digits n) self.new }
+    {
+        let out = &mut *self.out;
+        self.at = lettered(out, self.at, letter, n);
+    }
+}
 
 // Writes one byte at a place. Answers the next place, or the same one where the output has ended
 // and nothing is written. The test stands in place of `get_mut`: std does not say what output that
 // leaves, so a proof does not close.
-pub(crate) fn put(out: &mut [u8], at: usize, byte: u8) -> usize
+fn put(out: &mut [u8], at: usize, byte: u8) -> usize
     ensures { Wrote out.old at (byte ∷ []) out.new result }
 {
     if at < out.len() {
@@ -42,7 +119,7 @@ fn word_by_bytes(out: &mut [u8], at: usize, text: &[u8]) -> usize
 // Writes the bytes of a text at a place. Answers the next place. Small enough for a compiler to put
 // in its caller's place, where a text that is known becomes one or two stores; by `copy_from_slice` a
 // line of three such texts takes half as long again.
-pub fn word(out: &mut [u8], at: usize, text: &[u8]) -> usize
+fn word(out: &mut [u8], at: usize, text: &[u8]) -> usize
     ensures { Wrote out.old at text.now out.new result }
 {
     if out.len().saturating_sub(text.len()) <= at {
@@ -104,7 +181,7 @@ fn number_within(out: &mut [u8], at: usize, n: usize) -> usize
 }
 
 // Writes a number in decimals. Answers the next place.
-pub fn number(out: &mut [u8], at: usize, n: usize) -> usize
+fn number(out: &mut [u8], at: usize, n: usize) -> usize
     ensures { Wrote out.old at (digits n) out.new result }
 {
     if out.len().saturating_sub(4) <= at {
@@ -114,7 +191,7 @@ pub fn number(out: &mut [u8], at: usize, n: usize) -> usize
 }
 
 // Writes two numbers with a blank between them. Answers the next place.
-pub(crate) fn two_numbers(out: &mut [u8], at: usize, m: usize, n: usize) -> usize
+fn two_numbers(out: &mut [u8], at: usize, m: usize, n: usize) -> usize
     ensures { Wrote out.old at (digits m then bytes " " then digits n)
         out.new result }
 {
@@ -126,7 +203,7 @@ pub(crate) fn two_numbers(out: &mut [u8], at: usize, m: usize, n: usize) -> usiz
 // Writes two numbers with a blank between them and the end of their line: 43 bytes at the most,
 // since no number has more than twenty digits. Answers the next place.
 #[tactic(auto, using(crate::proofs::output::TwoDigits::after_number))]
-pub fn numbers_end(out: &mut [u8], at: usize, m: usize, n: usize) -> usize
+fn numbers_end(out: &mut [u8], at: usize, m: usize, n: usize) -> usize
     ensures { Wrote out.old at
         (digits m then bytes " " then digits n then bytes ")\n") out.new result }
 {
@@ -143,7 +220,7 @@ pub fn numbers_end(out: &mut [u8], at: usize, m: usize, n: usize) -> usize
 }
 
 // Writes a blank, a letter and a number. Answers the next place.
-pub fn lettered(out: &mut [u8], at: usize, letter: u8, n: u8) -> usize
+fn lettered(out: &mut [u8], at: usize, letter: u8, n: u8) -> usize
     ensures { Wrote out.old at (bytes " " then (letter ∷ []) then digits n)
         out.new result }
 {

@@ -16,7 +16,7 @@ use crate::brackets::stretch_mask;
 use crate::check::valid_record;
 use crate::limits::{MOST_BRIDGES, MOST_BYTES, MOST_PRESETS};
 use crate::rows::fields::{Fields, row_at};
-use crate::types::{Fault, Head, Preset, Refusal};
+use crate::types::{Fault, Head, Preset, Refusal, Station};
 
 // Whether a row lies in a frame of so many slots and bridges.
 fn row_in(slots: usize, bridges: usize, fields: Fields) -> bool
@@ -58,7 +58,8 @@ fn read_row_lines(text: &[u8], head: &mut Head) -> Result<usize, Fault>
 
 // Puts the rows of a text in place of a head's busy slots and answers how many rows there are. Or
 // answers the row at fault and the cause: at row 0 with 10 for more than 32,768 bytes, and with 2
-// for a head record that no text yields; the head then stays as it was.
+// for a head record that no text yields; the head then stays as it was. The head is lent apart from
+// the records, and not with them as a station: it is written in place.
 pub fn read_rows_by_value(
     text: &[u8],
     head: &mut Head,
@@ -70,7 +71,11 @@ pub fn read_rows_by_value(
     if MOST_BYTES < text.len() {
         return Err(Refusal::TextTooLong.into());
     }
-    if !valid_record(*head, *presets) {
+    let station = Station {
+        head: *head,
+        presets: *presets,
+    };
+    if !valid_record(&station) {
         return Err(Refusal::OutOfLimits.into());
     }
     read_row_lines(text, head)

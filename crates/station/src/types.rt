@@ -1,4 +1,7 @@
 // The records and answers that the layers share. What each stands for is in specs/Types.antt.
+ghost use Rattle.std.specs.Prelude.{◌≡◌, length};
+ghost use Rattle.station.specs.Limits.{most_presets};
+
 use crate::limits::{MOST_BRIDGES, MOST_JOBS, MOST_PRESETS};
 
 // A preset line as a record.
@@ -64,11 +67,13 @@ pub const NO_HEAD: Head = Head {
     count: 0,
 };
 
-// A head with its preset records: the first `head.count` of them are in use.
+// A head with its preset records: the first `head.count` of them are in use. That there are 32 is
+// said by `full`, since of an array behind a reference alone the proofs do not know how long it is.
 #[derive(Clone, Copy, Debug, PartialEq, Eq, Hash)]
 pub struct Station {
     pub head: Head,
     pub presets: [Preset; MOST_PRESETS],
+    pub ghost full: { length presets ≡ most_presets },
 }
 
 // The causes, in the order of their numbers, 1 to 12.

@@ -1,56 +1,52 @@
 // Writing a head: the one text of a head record, at the start of the borrowed output.
 //
-// The writers are total, as those of output.rt are: none asks for room. That a valid head's text
-// has it is shown once, for `write_head_by_value`.
+// Each takes the writer of output.rt and is total, as its methods are: none asks for room. That a
+// valid head's text has it is shown once, for `write_head_by_value`.
 ghost use Rattle.std.specs.Prelude.{◌-◌, ◌≡◌, true, map};
 ghost use Rattle.station.specs.Limits.{most_slots};
 ghost use Rattle.station.specs.Text.{join};
 ghost use Rattle.station.specs.Form.{frame_line, preset_line, print};
 ghost use Rattle.station.specs.Writing.{stretches, supply_lines, tie_lines, busy_line_of, busy_lines, text_of};
 ghost use Rattle.station.specs.method.Runs.{busy_from, free_from, brackets_of, bracket_text};
-ghost use Rattle.station.specs.Types.{preset_in, head_in, valid_record};
+ghost use Rattle.station.specs.Types.{preset_in, station_in, valid_station};
 ghost use Rattle.station.specs.Refusal.{first_of};
 ghost use Rattle.station.specs.WriteHead.{cause_in, write_causes, WroteHead};
-ghost use Rattle.station.specs.Wrote.{Wrote};
+ghost use Rattle.station.specs.Wrote.{Writes};
 
 use crate::check::valid_record;
-use crate::limits::{LEAST_OUTPUT, MOST_PRESETS, MOST_SLOTS};
-use crate::output::{number, put, two_numbers, word};
-use crate::types::{Head, Preset, Refusal};
+use crate::limits::{LEAST_OUTPUT, MOST_SLOTS};
+use crate::output::Writer;
+use crate::types::{Preset, Refusal, Station};
 
-// Writes the frame line, `(frame S B)`. Answers the next place.
-fn frame_line(out: &mut [u8], at: usize, slots: usize, bridges: usize) -> usize
-    ensures { Wrote out.old at (print (frame_line slots bridges)) out.new
-        result }
+// Writes the frame line, `(frame S B)`.
+fn frame_line(out: &mut Writer, slots: usize, bridges: usize)
+    ensures { Writes out.old (print (frame_line slots bridges)) out.new }
 {
-    let first = word(out, at, b"(frame ");
-    let end = two_numbers(out, first, slots, bridges);
-    word(out, end, b")\n")
+    out.word(b"(frame ");
+    out.two_numbers(slots, bridges);
+    out.word(b")\n");
 }
 
-// Writes the supply line of a head that has one, `(supply k)`; else nothing. Answers the next
-// place.
-fn supply_line(out: &mut [u8], at: usize, motors: usize) -> usize
-    ensures { Wrote out.old at (join (map print (supply_lines motors)))
-        out.new result }
+// Writes the supply line of a head that has one, `(supply k)`; else nothing.
+fn supply_line(out: &mut Writer, motors: usize)
+    ensures { Writes out.old (join (map print (supply_lines motors)))
+        out.new }
 {
     if motors == 0 {
-        return at;
+        return;
     }
-    let first = word(out, at, b"(supply ");
-    let end = number(out, first, motors);
-    word(out, end, b")\n")
+    out.word(b"(supply ");
+    out.number(motors);
+    out.word(b")\n");
 }
 
-// Writes the tie line of a head that has one, `(tie hold)`; else nothing. Answers the next place.
-fn tie_line(out: &mut [u8], at: usize, hold: bool) -> usize
-    ensures { Wrote out.old at (join (map print (tie_lines hold)))
-        out.new result }
+// Writes the tie line of a head that has one, `(tie hold)`; else nothing.
+fn tie_line(out: &mut Writer, hold: bool)
+    ensures { Writes out.old (join (map print (tie_lines hold)))
+        out.new }
 {
     if hold {
-        word(out, at, b"(tie hold)\n")
-    } else {
-        at
+        out.word(b"(tie hold)\n");
     }
 }
 
@@ -75,134 +71,117 @@ pub(crate) fn next_free(mask: u64, from: usize) -> usize
     next_busy(!mask, from)
 }
 
-// Writes one bracket of a busy line, `(f t)` and what parts it from the next. Answers the next
-// place.
-fn bracket(out: &mut [u8], at: usize, first: usize, last: usize, more: bool) -> usize
-    ensures { Wrote out.old at (bracket_text first last more) out.new
-        result }
+// Writes one bracket of a busy line, `(f t)` and what parts it from the next.
+fn bracket(out: &mut Writer, first: usize, last: usize, more: bool)
+    ensures { Writes out.old (bracket_text first last more) out.new }
 {
-    let numbers = put(out, at, b'(');
-    let end = two_numbers(out, numbers, first, last);
+    out.put(b'(');
+    out.two_numbers(first, last);
     if more {
-        word(out, end, b") ")
+        out.word(b") ");
     } else {
-        word(out, end, b"))\n")
+        out.word(b"))\n");
     }
 }
 
 // Writes a bracket for each run of busy slots of a mask, and the end of the line; nothing where no
-// slot is busy. Answers the next place. rows/text.rt has the same walk: an iterator of runs, with
-// what it promises, would be longer than both.
-fn stretch_list(out: &mut [u8], at: usize, mask: u64) -> usize
-    ensures { Wrote out.old at (brackets_of (stretches most_slots 1 mask))
-        out.new result }
+// slot is busy. rows/text.rt has the same walk: an iterator of runs, with what it promises, would be
+// longer than both.
+fn stretch_list(out: &mut Writer, mask: u64)
+    ensures { Writes out.old (brackets_of (stretches most_slots 1 mask))
+        out.new }
 {
-    let mut position = at;
     let mut from = next_busy(mask, 0);
     while from < MOST_SLOTS {
         let to = next_free(mask, from);
         let next = next_busy(mask, to);
-        position = bracket(out, position, from + 1, to, next < MOST_SLOTS);
+        bracket(out, from + 1, to, next < MOST_SLOTS);
         from = next;
     }
-    position
 }
 
 // Writes the busy line of a bridge, `(busy b (f t) (f t))`; nothing where no slot of it is busy.
-// Answers the next place.
-fn busy_line(out: &mut [u8], at: usize, bridge: usize, mask: u64) -> usize
-    ensures { Wrote out.old at
-        (join (map print (busy_line_of bridge (stretches most_slots 1 mask)))) out.new result }
+fn busy_line(out: &mut Writer, bridge: usize, mask: u64)
+    ensures { Writes out.old
+        (join (map print (busy_line_of bridge (stretches most_slots 1 mask)))) out.new }
 {
     if mask == 0 {
-        return at;
+        return;
     }
-    let first = word(out, at, b"(busy ");
-    let blank = number(out, first, bridge);
-    let brackets = put(out, blank, b' ');
-    stretch_list(out, brackets, mask)
+    out.word(b"(busy ");
+    out.number(bridge);
+    out.put(b' ');
+    stretch_list(out, mask);
 }
 
-// Writes the busy lines of the bridges, in ascending order. Answers the next place.
-fn busy_lines(out: &mut [u8], at: usize, busy: &[u64]) -> usize
-    ensures { Wrote out.old at (join (map print (busy_lines 1 busy.now)))
-        out.new result }
+// Writes the busy lines of the bridges, in ascending order.
+fn busy_lines(out: &mut Writer, busy: &[u64])
+    ensures { Writes out.old (join (map print (busy_lines 1 busy.now)))
+        out.new }
 {
-    let mut position = at;
     for (b, mask) in busy.iter().enumerate() {
-        position = busy_line(out, position, b + 1, *mask);
+        busy_line(out, b + 1, *mask);
     }
-    position
 }
 
-// Writes a preset line, `(preset n p m o)`. Answers the next place.
-fn preset_line(out: &mut [u8], at: usize, preset: Preset) -> usize
-    ensures { Wrote out.old at (print (preset_line (preset_in preset)))
-        out.new result }
+// Writes a preset line, `(preset n p m o)`.
+fn preset_line(out: &mut Writer, preset: Preset)
+    ensures { Writes out.old (print (preset_line (preset_in preset)))
+        out.new }
 {
-    let first = word(out, at, b"(preset ");
-    let number = usize::from(preset.number);
-    let blank = two_numbers(out, first, number, usize::from(preset.priority));
-    let third = put(out, blank, b' ');
-    let mandatory = usize::from(preset.mandatory);
-    let end = two_numbers(out, third, mandatory, usize::from(preset.optional));
-    word(out, end, b")\n")
+    out.word(b"(preset ");
+    out.two_numbers(usize::from(preset.number), usize::from(preset.priority));
+    out.put(b' ');
+    out.two_numbers(usize::from(preset.mandatory), usize::from(preset.optional));
+    out.word(b")\n");
 }
 
-// Writes the lines of the presets, in file order. Answers the next place.
-fn preset_lines(out: &mut [u8], at: usize, presets: &[Preset]) -> usize
-    ensures { Wrote out.old at
-        (join (map print (map preset_line (map preset_in presets.now)))) out.new result }
+// Writes the lines of the presets, in file order.
+fn preset_lines(out: &mut Writer, presets: &[Preset])
+    ensures { Writes out.old
+        (join (map print (map preset_line (map preset_in presets.now)))) out.new }
 {
-    let mut position = at;
     for preset in presets {
-        position = preset_line(out, position, *preset);
+        preset_line(out, *preset);
     }
-    position
 }
 
-// Writes the text of a valid head record at the start of the output. Answers the place after it.
-fn head_text(head: &Head, presets: &[Preset; MOST_PRESETS], out: &mut [u8]) -> usize
-    requires { valid_record head.now presets.now ≡ true }
-    ensures { Wrote out.old 0 (text_of (head_in head.now presets.now)) out.new
-        result }
+// Writes the text of a valid station.
+fn head_text(out: &mut Writer, station: &Station)
+    requires { valid_station station.now ≡ true }
+    ensures { Writes out.old (text_of (station_in station.now)) out.new }
 {
-    let supply = frame_line(out, 0, head.slots, head.bridges);
-    let tie = supply_line(out, supply, head.supply);
-    let first_busy = tie_line(out, tie, head.hold);
-    let first_preset = busy_lines(out, first_busy, &head.busy);
-    preset_lines(out, first_preset, &presets[..head.count])
+    let head = &station.head;
+    frame_line(out, head.slots, head.bridges);
+    supply_line(out, head.supply);
+    tie_line(out, head.hold);
+    busy_lines(out, &head.busy);
+    preset_lines(out, &station.presets[..head.count]);
 }
 
 // The causes of writing a head, its text or its rows: 8 for an output below 8,192 bytes, whatever
 // the frame, and 2 for a head record that no text yields.
 #[tactic(auto, unfolding(crate::specs::Refusal::first_of))]
-pub(crate) fn write_cause(
-    head: Head,
-    presets: [Preset; MOST_PRESETS],
-    out: &[u8],
-) -> Result<(), Refusal>
-    ensures { cause_in result ≡ first_of (write_causes head presets out.now) }
+pub(crate) fn write_cause(station: &Station, out: &[u8]) -> Result<(), Refusal>
+    ensures { cause_in result ≡ first_of (write_causes station.now.head station.now.presets out.now) }
 {
     if out.len() < LEAST_OUTPUT {
         return Err(Refusal::TooShort);
     }
-    if !valid_record(head, presets) {
+    if !valid_record(station) {
         return Err(Refusal::OutOfLimits);
     }
     Ok(())
 }
 
-// Writes the one text of a head at the start of the output and answers its length; the bytes past
+// Writes the one text of a station's head at the start of the output and answers its length; the bytes past
 // it stay. Refused with 8 for an output below 8,192 bytes, whatever the frame, and with 2 for a
 // head record that no text yields; the output then stays as it was.
-pub fn write_head_by_value(
-    head: Head,
-    presets: [Preset; MOST_PRESETS],
-    out: &mut [u8],
-) -> Result<usize, Refusal>
-    ensures { WroteHead head presets out.old result out.new }
+pub fn write_head_by_value(station: &Station, out: &mut [u8]) -> Result<usize, Refusal>
+    ensures { WroteHead station.now.head station.now.presets out.old result out.new }
 {
-    write_cause(head, presets, out)?;
-    Ok(head_text(&head, &presets, out))
+    write_cause(station, out)?;
+    let mut writer = Writer::new(out, 0);
+    head_text(&mut writer, station);
+    Ok(writer.place())
 }

@@ -2,7 +2,7 @@
 --
 -- In order: nothing or one byte written (`wrote_none`, `wrote_byte`, `wrote_out`); what a run leaves (`wrote_length`, `wrote_place`); what is still to be written
 -- (`left_all`, `left_wrote`, `left_none`, `left_then`); one run and then another (`wrote_then`), two bytes (`wrote_two`); lines put together (`join_append`);
--- bytes that find room (`wrote_fits`).
+-- bytes that find room (`wrote_fits`); the same of writers (`writes_none` to `writes_out`).
 -- Assumes nothing.
 use Prim.Native.Nat.{ℕ, suc, ◌+◌, ◌≤◌, ◌<◌}
 use native.Mathlib.Omega.{arith}
@@ -15,7 +15,8 @@ use Rattle.laws.proofs.Tests.{Is, is, is_true, is_false}
 use Rattle.laws.proofs.Comparisons.{le_of, gt_of}
 use Rattle.laws.proofs.Stores.{sets_out, sets_append}
 use Rattle.station.specs.Text.{join}
-use Rattle.station.specs.Wrote.{moved, Wrote, Left}
+use Rattle.station.specs.Wrote.{moved, Wrote, Left, Writes, Rest}
+use Rattle.station.specs.declared.output.Writer.{Writer}
 
 -- a place that stopped at the end stores as one that did not
 sets_moved : (l : List ℕ) (at k : ℕ) (b : List ℕ) → (k ≡ 0 → ⊥) → sets l (moved (length l) at k) b ≡ sets l (at + k) b
@@ -122,3 +123,33 @@ unfolding moved
 wrote_fits {l} {bs} {l₁} {r} w h =
     let z : 0 + length bs ≡ length bs = omega arith in
     (w.output ∙ sets-eq bs l 0 (omega arith) ∙ ap (λ (k : ℕ). bs ++ drop k l) z, omega (arith, w.position))
+
+-- ---- writers: an output and a place
+
+-- nothing is written
+pub writes_none : (w : Writer) → Writes w [] w
+writes_none w = record { same = refl; wrote = wrote_none w.out.now w.at }
+
+-- one run of a writer and then another
+pub writes_then : {w : Writer} {a : List ℕ} {w₁ : Writer} {b : List ℕ} {w₂ : Writer} → Writes w a w₁ → Writes w₁ b w₂ → Writes w (a ++ b) w₂
+writes_then v w = record { same = w.same ∙ v.same; wrote = wrote_then v.wrote w.wrote }
+
+-- all is still to be written
+pub rest_all : (w : Writer) (a : List ℕ) → Rest w a w a
+rest_all w a = record { same = refl; left = left_all w.out.now w.at a }
+
+-- a run was written, and b is left
+pub rest_wrote : {w : Writer} {all : List ℕ} {w₁ : Writer} (a b : List ℕ) {w₂ : Writer} → Rest w all w₁ (a ++ b) → Writes w₁ a w₂ → Rest w all w₂ b
+rest_wrote a b h v = record { same = v.same ∙ h.same; left = left_wrote a b h.left v.wrote }
+
+-- nothing is left
+pub rest_none : {w : Writer} {all : List ℕ} {w₁ : Writer} → Rest w all w₁ [] → Writes w all w₁
+rest_none h = record { same = h.same; wrote = left_none h.left }
+
+-- what was left is written
+pub rest_then : {w : Writer} {all : List ℕ} {w₁ : Writer} {b : List ℕ} {w₂ : Writer} → Rest w all w₁ b → Writes w₁ b w₂ → Writes w all w₂
+rest_then h v = record { same = v.same ∙ h.same; wrote = left_then h.left v.wrote }
+
+-- what a writer wrote, of the output and the place that it was made of, and of those that it leaves
+pub writes_out : {w : Writer} {bs : List ℕ} {w₁ : Writer} {l l₁ : List ℕ} {at r : ℕ} → Writes w bs w₁ → w.out.now ≡ l → w.at ≡ at → l₁ ≡ w₁.out.now → r ≡ w₁.at → Wrote l at bs l₁ r
+writes_out h a b c d = rw (c, d, ← a, ← b) h.wrote

@@ -19,7 +19,7 @@ use crate::types::{Head, NO_HEAD, Preset, Refusal};
 // How far a head was read: at the frame line; directly after it, where the head's supply line
 // stands, and its tie line where there is no supply line; right after the supply line, where its
 // tie line stands; at the busy lines, the next with this bridge at the least; at the presets.
-#[derive(Clone, Copy)]
+#[derive(Clone, Copy, Debug, PartialEq, Eq, Hash)]
 pub(crate) enum Stage {
     Frame,
     Supply,
@@ -29,7 +29,7 @@ pub(crate) enum Stage {
 }
 
 // What the lines read so far make: the stage, the head and its preset records.
-#[derive(Clone, Copy)]
+#[derive(Clone, Copy, Debug, PartialEq, Eq, Hash)]
 pub(crate) struct State {
     pub stage: Stage,
     pub head: Head,
@@ -38,7 +38,7 @@ pub(crate) struct State {
 
 // What a line that is not refused means for the reading: it goes on, or the head ended before the
 // line. Where it does not go on, the state is that before the line.
-#[derive(Clone, Copy)]
+#[derive(Clone, Copy, Debug, PartialEq, Eq, Hash)]
 pub(crate) enum Going {
     Goes,
     Ends,

@@ -5,7 +5,7 @@ ghost use Rattle.station.specs.method.RowFields.{field_at, field_then, fields_at
 use crate::numbers::{Numeral, number_at, number_then, starts_at, word_at};
 
 // The numbers of a row as they are read, and the place after it.
-#[derive(Clone, Copy)]
+#[derive(Clone, Copy, Debug, PartialEq, Eq, Hash)]
 pub(crate) struct Fields {
     pub bridge: u32,
     pub first: u32,

@@ -21,3 +21,8 @@ returns c = let a = c.args in
     let chunk = first_records (λ (y : Bor (List Preset)). y.now) 32 a.presets.now TooShort c.first_chunk.result c.ok_or.result c.in_ok-records.records c.first_chunk.ensures.cases
     c.ok_or.ensures.value c.in_ok-records.was in
     write_rows_list a.head a.presets.now a.out.now chunk.0 (rw chunk.1 at c.write_rows_by_value.ensures)
+
+pub invariant_of-station : goal.invariant_of-station
+invariant_of-station c = let chunk = first_records (λ (y : Bor (List Preset)). y.now) 32 c.args.presets.now TooShort c.first_chunk.result c.ok_or.result c.in_ok-records.records c.first_chunk.ensures.cases
+    c.ok_or.ensures.value c.in_ok-records.was in
+    record { full = chunk.2 }

@@ -5,8 +5,8 @@ use lib.ListN.{drop}
 use Rattle.station.specs.Text.{join}
 use Rattle.station.specs.Form.{print}
 use Rattle.station.specs.Writing.{busy_lines}
-use Rattle.station.specs.Wrote.{Left}
+use Rattle.station.specs.Wrote.{Rest}
 use Rattle.station.proofs.write.busy_lines.Given as goal
 
 abbrev pub invariant-loop-b : goal.invariant-loop-b
-invariant-loop-b l = Left l.initial.out l.at (join (map print (busy_lines 1 l.busy))) l.out l.position (join (map print (busy_lines (suc l.b) (drop l.b l.busy))))
+invariant-loop-b l = Rest l.initial.out (join (map print (busy_lines 1 l.busy))) l.out (join (map print (busy_lines (suc l.b) (drop l.b l.busy))))

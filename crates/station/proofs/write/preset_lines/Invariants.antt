@@ -4,8 +4,8 @@ use lib.ListN.{drop}
 use Rattle.station.specs.Text.{join}
 use Rattle.station.specs.Form.{preset_line, print}
 use Rattle.station.specs.Types.{preset_in}
-use Rattle.station.specs.Wrote.{Left}
+use Rattle.station.specs.Wrote.{Rest}
 use Rattle.station.proofs.write.preset_lines.Given as goal
 
 abbrev pub invariant-loop-preset : goal.invariant-loop-preset
-invariant-loop-preset l = Left l.initial.out l.at (join (map print (map preset_line (map preset_in l.presets)))) l.out l.position (join (map print (map preset_line (map preset_in (drop l.preset-index l.presets)))))
+invariant-loop-preset l = Rest l.initial.out (join (map print (map preset_line (map preset_in l.presets)))) l.out (join (map print (map preset_line (map preset_in (drop l.preset-index l.presets)))))

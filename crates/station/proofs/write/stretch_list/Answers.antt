@@ -8,7 +8,7 @@ use lib.Dec.{ltb}
 use Rattle.station.specs.Writing.{stretches}
 use Rattle.station.specs.method.Runs.{stretches_from, brackets_of, bracket_text}
 use Rattle.station.proofs.write.MaskRuns.{busy_found, busy_high, from_next_busy, NextRun, next_run, bracket_step}
-use Rattle.station.proofs.output.Runs.{left_all, left_wrote, left_none}
+use Rattle.station.proofs.output.Runs.{rest_all, rest_wrote, rest_none}
 use Rattle.station.proofs.write.stretch_list.Goals as goal
 
 pub loop-from-init : goal.loop-from-init
@@ -18,11 +18,11 @@ loop-from-init c = let a = c.args in
     let all : stretches 64 1 mask ≡ stretches_from 64 mask 0 = ap (stretches 64 1) (sym (div-one mask)) in (
       rw e (busy_high 64 mask 0),
       (λ h. rw e (busy_found 64 mask 0 (rw e at h))),
-      rw (e, ← from_next_busy 64 mask 0 64 refl, ← all) (left_all a.out.now a.at (brackets_of (stretches 64 1 mask))),
+      rw (e, ← from_next_busy 64 mask 0 64 refl, ← all) (rest_all a.out.now (brackets_of (stretches 64 1 mask))),
     )
 
 -- after a turn: where the next run begins
-ahead : (c : goal.After-slice_known-in-loop-from-1) → NextRun c.args.mask c.loop-from.from c.next_busy-next.result
+ahead : (c : goal.After-bracket) → NextRun c.args.mask c.loop-from.from c.next_busy-next.result
 ahead c =
     let h = c.loop-from-test.true in
     next_run c.args.mask c.loop-from.from c.next_free-to.result c.next_busy-next.result h (c.loop-from.invariant.1 h)
@@ -39,12 +39,12 @@ loop-from-preserved c = let loop = c.loop-from in
     let step = bracket_step mask loop.from to.result next.result c.loop-from-test.true (loop.invariant.1 c.loop-from-test.true) to.ensures next.ensures in (
       (ahead c).high,
       (ahead c).found,
-      left_wrote (bracket_text (suc loop.from) to.result (ltb next.result 64)) (brackets_of (stretches_from (64 - next.result) mask next.result))
-          (rw step at loop.invariant.2) (rw add-one at c.bracket-position.ensures),
+      rest_wrote (bracket_text (suc loop.from) to.result (ltb next.result 64)) (brackets_of (stretches_from (64 - next.result) mask next.result))
+          (rw step at loop.invariant.2) (rw add-one at c.bracket.ensures),
     )
 
 pub returns : goal.returns
 unfolding stretches
 returns c = let loop = c.loop-from in
     let e : 64 - loop.from ≡ 0 = omega arith in
-    left_none (rw e at loop.invariant.2)
+    rest_none (rw e at loop.invariant.2)

@@ -7,25 +7,25 @@ use lib.ListN.{length, drop, get_or}
 use lib.Seq.{drop-length}
 use Rattle.station.specs.Writing.{stretches}
 use Rattle.station.specs.Row.{bridge_rows, mask_rows, bare, rows_text}
-use Rattle.station.proofs.output.Runs.{left_all, left_wrote, left_none}
+use Rattle.station.proofs.output.Runs.{rest_all, rest_wrote, rest_none}
 use Rattle.station.proofs.rows.RowRuns.{bridge_rows_step}
 use Rattle.station.proofs.rows.text.all_rows.Goals as goal
 
 pub loop-b-init : goal.loop-b-init
 unfolding rows_text
-loop-b-init c = let a = c.args in left_all a.out.now 0 (rows_text a.busy.now)
+loop-b-init c = let a = c.args in rest_all a.out.now (rows_text a.busy.now)
 
 pub loop-b-preserved : goal.loop-b-preserved
 loop-b-preserved c = let loop = c.loop-b in
     let b = loop.b in
     let busy = c.args.busy.now in
     rw add-one
-    (left_wrote (bare (bridge_rows (suc b) (stretches 64 1 (get_or busy b 0)))) (bare (mask_rows (suc (suc b)) (drop (suc b) busy)))
-    (rw (bridge_rows_step b busy c.loop-b-test.true) at loop.invariant) (rw add-one at c.bridge_rows-position.ensures))
+    (rest_wrote (bare (bridge_rows (suc b) (stretches 64 1 (get_or busy b 0)))) (bare (mask_rows (suc (suc b)) (drop (suc b) busy)))
+    (rw (bridge_rows_step b busy c.loop-b-test.true) at loop.invariant) (rw add-one at c.bridge_rows.ensures))
 
 pub returns : goal.returns
 unfolding mask_rows bare
 returns c = let loop = c.loop-b in
     let busy = c.args.busy.now in
     let e : loop.b ≡ length busy = omega arith in
-    left_none (rw (e, drop-length busy) at loop.invariant)
+    rest_none (rw (e, drop-length busy) at loop.invariant)

@@ -2,8 +2,8 @@
 use Prim.Native.Nat.{suc}
 use lib.ListN.{drop}
 use Rattle.station.specs.Row.{mask_rows, bare, rows_text}
-use Rattle.station.specs.Wrote.{Left}
+use Rattle.station.specs.Wrote.{Rest}
 use Rattle.station.proofs.rows.text.all_rows.Given as goal
 
 abbrev pub invariant-loop-b : goal.invariant-loop-b
-invariant-loop-b l = Left l.initial.out 0 (rows_text l.busy) l.out l.position (bare (mask_rows (suc l.b) (drop l.b l.busy)))
+invariant-loop-b l = Rest l.initial.out (rows_text l.busy) l.out (bare (mask_rows (suc l.b) (drop l.b l.busy)))

@@ -9,7 +9,7 @@ use Rattle.station.specs.Writing.{stretches}
 use Rattle.station.specs.Row.{row, print_row, bridge_rows, bare}
 use Rattle.station.specs.method.Runs.{stretches_from}
 use Rattle.station.proofs.write.MaskRuns.{busy_found, busy_high, from_next_busy, NextRun, next_run}
-use Rattle.station.proofs.output.Runs.{left_all, left_wrote, left_none}
+use Rattle.station.proofs.output.Runs.{rest_all, rest_wrote, rest_none}
 use Rattle.station.proofs.rows.RowRuns.{row_step}
 use Rattle.station.proofs.rows.text.bridge_rows.Goals as goal
 
@@ -20,7 +20,7 @@ loop-from-init c = let a = c.args in
     let all : stretches 64 1 mask ≡ stretches_from 64 mask 0 = ap (stretches 64 1) (sym (div-one mask)) in (
       rw e (busy_high 64 mask 0),
       (λ h. rw e (busy_found 64 mask 0 (rw e at h))),
-      rw (e, ← from_next_busy 64 mask 0 64 refl, ← all) (left_all a.out.now a.at (bare (bridge_rows a.bridge (stretches 64 1 mask)))),
+      rw (e, ← from_next_busy 64 mask 0 64 refl, ← all) (rest_all a.out.now (bare (bridge_rows a.bridge (stretches 64 1 mask)))),
     )
 
 -- after a turn: where the next run begins
@@ -41,12 +41,12 @@ loop-from-preserved c = let loop = c.loop-from in
     let step = row_step a.bridge a.mask loop.from to.result next.result h (loop.invariant.1 h) to.ensures next.ensures in (
       (ahead c).high,
       (ahead c).found,
-      left_wrote (print_row false false false (row a.bridge (suc loop.from) to.result)) (bare (bridge_rows a.bridge (stretches_from (64 - next.result) a.mask next.result)))
-          (rw step at loop.invariant.2) (rw add-one at c.bare_row-position.ensures),
+      rest_wrote (print_row false false false (row a.bridge (suc loop.from) to.result)) (bare (bridge_rows a.bridge (stretches_from (64 - next.result) a.mask next.result)))
+          (rw step at loop.invariant.2) (rw add-one at c.bare_row.ensures),
     )
 
 pub returns : goal.returns
 unfolding stretches bare
 returns c = let loop = c.loop-from in
     let e : 64 - loop.from ≡ 0 = omega arith in
-    left_none (rw e at loop.invariant.2)
+    rest_none (rw e at loop.invariant.2)

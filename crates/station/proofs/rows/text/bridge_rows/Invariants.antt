@@ -6,12 +6,12 @@ use Rattle.station.specs.Head.{has_bit}
 use Rattle.station.specs.Writing.{stretches}
 use Rattle.station.specs.Row.{bridge_rows, bare}
 use Rattle.station.specs.method.Runs.{stretches_from}
-use Rattle.station.specs.Wrote.{Left}
+use Rattle.station.specs.Wrote.{Rest}
 use Rattle.station.proofs.rows.text.bridge_rows.Given as goal
 
 abbrev pub invariant-loop-from : goal.invariant-loop-from
 invariant-loop-from l = (l.from ≤ 64) × (l.from < 64 → has_bit l.mask l.from ≡ true)
-    × Left l.initial.out l.at (bare (bridge_rows l.bridge (stretches 64 1 l.mask))) l.out l.position (bare (bridge_rows l.bridge (stretches_from (64 - l.from) l.mask l.from)))
+    × Rest l.initial.out (bare (bridge_rows l.bridge (stretches 64 1 l.mask))) l.out (bare (bridge_rows l.bridge (stretches_from (64 - l.from) l.mask l.from)))
 
 abbrev pub decreases-loop-from : goal.decreases-loop-from
 decreases-loop-from l = 64 - l.from

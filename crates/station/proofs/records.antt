@@ -1,2 +1,0 @@
--- Preset records by value and in a borrowed slice.
-pub mod CopiedLoops

@@ -1,6 +1,0 @@
--- The front of the list in place of as many zeros.
-use Rattle.station.proofs.records.CopiedLoops.{loaded_front}
-use Rattle.station.proofs.records.load.Goals as goal
-
-pub returns : goal.returns
-returns c = rw c.copy_from_slice.ensures.after (loaded_front c.args.presets.now c.min-n.result c.min-n.ensures)
