@@ -1,7 +1,7 @@
--- From the copied to the list of records: what a plan or a call does over the first 32 records by value, it does over the list.
+-- From the first 32 records to the list: what a plan or a call does over them, it does over the list.
 --
--- In order: the first 32 records settle the outcome (`same_plan`, `same_call`); a refusal leaves what there was (`meant_refused`); the copied that is loaded from a list agrees with
--- it in them; the contract of each entry from that of the entry by value (`plan_entered`, `call_entry`).
+-- In order: the first 32 records settle the outcome (`same_plan`, `same_call`); a refusal leaves what there was (`meant_refused`); the first 32 records agree with
+-- the list in them; the contract of each entry from that of the entry over a station (`plan_entered`, `call_entry`), and of a list that is too short (`plan_short`, `call_entry_short`).
 -- Assumes nothing.
 use Prim.Native.Nat.{ℕ, ◌≤◌, ◌<◌}
 use native.Mathlib.Omega.{arith}
@@ -10,9 +10,9 @@ use Rattle.std.specs.Prelude.{Result, Err}
 use Rattle.std.proofs.lemmas.Result.{IfOk-weaker}
 use mathlib.Core.Bool.{Bool, true, false, not, ◌&&◌}
 use mathlib.Core.Option.{Option, none, some}
-use mathlib.Core.List.{List, [], ◌∷◌, ◌++◌, map}
-use lib.ListN.{length, take, replicate}
-use lib.Seq.{take-append-le, take-take}
+use mathlib.Core.List.{List, [], ◌∷◌, map}
+use lib.ListN.{length, take}
+use lib.Seq.{take-take}
 use lib.Dec.{ltb, leb}
 use Rattle.laws.proofs.Comparisons.{le_of, lt_of, ge_of}
 use Rattle.laws.proofs.Tests.{Is, is, is_true, is_false}
@@ -20,10 +20,9 @@ use Rattle.laws.specs.Lists.{at}
 use Rattle.station.specs.Head as spec
 use Rattle.station.specs.Head.{Job, valid}
 use Rattle.station.specs.Refusal.{Refusal, out_of_limits, too_short, try, first_of}
-use Rattle.station.specs.Types.{preset_in, head_in, no_record}
+use Rattle.station.specs.Types.{preset_in, head_in}
 use Rattle.station.specs.declared.types.Preset.{Preset}
 use Rattle.station.specs.declared.types.Head.{Head}
-use Rattle.station.specs.Records.{loaded}
 use Rattle.placing.specs.State.{State, state_of}
 use Rattle.placing.specs.Outcomes.{PlanAnswer, PlanOutcome, plan_of, CallAnswer, CallOutcome, call_of}
 use Rattle.station.specs.declared.types.Refusal as cause
@@ -77,18 +76,22 @@ meant_refused head ps jobs st k c = go (first_of (causes_of head ps st.table)) r
     go none q = rw (q, call_meant) (call_refused (head_in head ps) jobs st k c)
     go (some x) q = rw (q, call_meant) (λ p. refl)
 
--- ---- the copied that is loaded from a list
+-- ---- the first 32 records of a list
 
-copied_agrees : (ps : List Preset) → 32 ≤ length ps → take 32 (loaded ps) ≡ take 32 ps
-copied_agrees ps long = take-take 32 32 (ps ++ replicate 32 no_record) (omega arith) ∙ take-append-le 32 ps (replicate 32 no_record) long
+first_agree : (ps : List Preset) {first : List Preset} → first ≡ take 32 ps → take 32 first ≡ take 32 ps
+first_agree ps e = ap (take 32) e ∙ take-take 32 32 ps (omega arith)
 
 -- ---- the contract of each entry
 
+-- fewer than 32 records
+pub plan_short : (head : Head) (ps : List Preset) (t : List ℕ) → length ps < 32 → PlanEntered (length ps) head ps t t (Err TooShort)
+plan_short head ps t l = record { short = λ _. (refl, refl); done = λ m. absurd (omega (arith, l, m)) }
+
 -- a list of 32 records or more
-pub plan_entered : (head : Head) (ps : List Preset) {copied : List Preset} → copied ≡ loaded ps → 32 ≤ length ps → {t u : List ℕ} {r : Result (List ℕ) cause.Refusal} → PlanDone head copied t u r
+pub plan_entered : (head : Head) (ps : List Preset) {first : List Preset} → first ≡ take 32 ps → 32 ≤ length ps → {t u : List ℕ} {r : Result (List ℕ) cause.Refusal} → PlanDone head first t u r
     → PlanEntered (length ps) head ps t u r
-plan_entered head ps {copied} loads long {t} {u} {r} d =
-    let o = same_plan head copied ps (ap (take 32) loads ∙ copied_agrees ps long) t in
+plan_entered head ps {first} own long {t} {u} {r} d =
+    let o = same_plan head first ps (first_agree ps own) t in
     record {
       short = λ l. absurd (omega (arith, long, l));
       done = λ l. record {
@@ -122,9 +125,9 @@ module _ (head : Head) (ps : List Preset) (jobs : List Job) (st : State) where
   pub call_entry_short : length ps < 32 → CallEntry head ps jobs st st.table (Err TooShort)
   call_entry_short l = entry (record { short = λ _. (refl, refl); done = λ m. absurd (omega (arith, l, m)) })
 
-  pub call_entry : {copied : List Preset} → copied ≡ loaded ps → 32 ≤ length ps → {u : List ℕ} {r : Result ℕ cause.Refusal} → CallDone head copied jobs st u r → CallEntry head ps jobs st u r
-  call_entry {copied} loads long d =
-      let o = same_call head copied ps (ap (take 32) loads ∙ copied_agrees ps long) jobs st in
+  pub call_entry : {first : List Preset} → first ≡ take 32 ps → 32 ≤ length ps → {u : List ℕ} {r : Result ℕ cause.Refusal} → CallDone head first jobs st u r → CallEntry head ps jobs st u r
+  call_entry {first} own long d =
+      let o = same_call head first ps (first_agree ps own) jobs st in
       entry
       (record {
         short = λ m. absurd (omega (arith, long, m));

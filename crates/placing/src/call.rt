@@ -1,8 +1,8 @@
 // A call on a running frame: the causes, by the counts of the table and the clock, then the eviction search, then the jobs into the table. The entry `call` has its presets in
-// a borrowed slice of records, `call_by_value` by value; `call_by_counts` is for who keeps the counts between calls.
+// a borrowed slice of records, `call_by_value` takes a station; `call_by_counts` is for who keeps the counts between calls.
 ghost use Rattle.std.specs.Prelude.{◌≡◌, true, false, ℕ, ◌<◌, ◌≤◌, length, get_or};
 ghost use Rattle.station.specs.Limits.{most_jobs, least_cells};
-ghost use Rattle.station.specs.Types.{head_in, valid_record};
+ghost use Rattle.station.specs.Types.{station_in, valid_station};
 ghost use Rattle.placing.specs.Table.{WellFormed, cell, call_cell};
 ghost use Rattle.placing.specs.Valid.{job_at};
 ghost use Rattle.placing.specs.Types.{jobs_in};
@@ -26,9 +26,8 @@ use crate::limits::MOST_PLACED;
 use crate::moment::Moment;
 use crate::rule::{Work, place};
 use crate::search::evict;
-use station::limits::{LEAST_RECORDS, MOST_JOBS, MOST_PRESETS};
-use station::records::load;
-use station::types::{Call, Head, Job, Preset, Refusal};
+use station::limits::{LEAST_RECORDS, MOST_JOBS};
+use station::types::{Call, Head, Job, Preset, Refusal, Station};
 
 // The call cell with the number of each of the eight job records; 0 past them. Of jobs within their limits the numbers are the jobs' own.
 fn job_cells(jobs: [Job; MOST_JOBS]) -> [Cell; MOST_PLACED]
@@ -44,19 +43,18 @@ fn job_cells(jobs: [Job; MOST_JOBS]) -> [Cell; MOST_PLACED]
 // Carries out a call that meets no cause but perhaps the last: 7 where it does not fit, and else the table is written. No cell is evicted past `clean`: from the first slot on where none is
 // at all, else only past the frame, since what goes first are the latest cells of a preset.
 fn carry_out(
-    head: Head,
-    presets: [Preset; MOST_PRESETS],
+    station: &Station,
     table: &mut [Cell],
     moment: Moment,
     call: Call,
 ) -> Result<usize, Refusal>
-    ensures { valid_record head presets ≡ true → least_cells ≤ length table.old → WellFormed (head_in head presets) (cell (head_in head presets) table.old)
-        → IsCall call → CallCarriedOut (head_in head presets) (jobs_in call.count call.jobs) (state_at table.old moment) table.new result }
+    ensures { valid_station station.now ≡ true → least_cells ≤ length table.old → WellFormed (station_in station.now) (cell (station_in station.now) table.old)
+        → IsCall call → CallCarriedOut (station_in station.now) (jobs_in call.count call.jobs) (state_at table.old moment) table.new result }
 {
     let Moment { clock, hold } = moment;
     let n = call.count;
     let needs = job_needs(call.jobs);
-    let Some(found) = evict(table, &head, &presets, clock, &needs, n) else {
+    let Some(found) = evict(table, station, clock, &needs, n) else {
         return Err(Refusal::CallNotFeasible);
     };
     let cells = job_cells(call.jobs);
@@ -67,8 +65,9 @@ fn carry_out(
         early: cells,
         late: cells,
     };
+    let head = &station.head;
     let clean = if found.count == 0 { 0 } else { head.slots };
-    place(table, &head, &found.offer, &work, clean, hold);
+    place(table, head, &found.offer, &work, clean, hold);
     Ok(found.count)
 }
 
@@ -76,42 +75,40 @@ fn carry_out(
 // jobs, then 7 where it does not fit. A refusal changes nothing; a call that is taken brings the counts up to the table that it leaves. Who keeps them between calls need not have the
 // table counted for each.
 pub fn call_by_counts(
-    head: Head,
-    presets: [Preset; MOST_PRESETS],
+    station: &Station,
     table: &mut [Cell],
     moment: Moment,
     call: Call,
     counts: &mut Counts,
 ) -> Result<usize, Refusal>
-    ensures { valid_record head presets ≡ true → Running (head_in head presets) (state_at table.old moment)
-        → CountsOf (head_in head presets) moment.clock (cell (head_in head presets) table.old) counts.old
-        → CallDone head presets (call_jobs call.count call.jobs) (state_at table.old moment) table.new result
-        × CountsOf (head_in head presets) moment.clock (cell (head_in head presets) table.new) counts.new }
+    ensures { valid_station station.now ≡ true → Running (station_in station.now) (state_at table.old moment)
+        → CountsOf (station_in station.now) moment.clock (cell (station_in station.now) table.old) counts.old
+        → CallDone station.now.head station.now.presets (call_jobs call.count call.jobs) (state_at table.old moment) table.new result
+        × CountsOf (station_in station.now) moment.clock (cell (station_in station.now) table.new) counts.new }
 {
     cause_by_counts(counts, call)?;
-    let evicted = carry_out(head, presets, table, moment, call)?;
+    let evicted = carry_out(station, table, moment, call)?;
     mark_jobs(&mut counts.used, call);
     counts.admitted += call.count;
-    counts.at_least = count_slots(head, table, moment.clock);
+    counts.at_least = count_slots(station.head, table, moment.clock);
     Ok(evicted)
 }
 
 // Takes a call on the frame at a moment: the causes 8, 2, 11, then 2, 4, 9 of its jobs, then 7 where it does not
 // fit. A refusal changes nothing. A frame that 11 lets pass is such a frame afterwards.
 pub fn call_by_value(
-    head: Head,
-    presets: [Preset; MOST_PRESETS],
+    station: &Station,
     table: &mut [Cell],
     moment: Moment,
     call: Call,
 ) -> Result<usize, Refusal>
-    ensures done { CallDone head presets (call_jobs call.count call.jobs) (state_at table.old moment) table.new result }
-    ensures kept { Running (head_in head presets) (state_at table.old moment) → Running (head_in head presets) (state_at table.new moment) }
-    ensures claim { CallClaim (head_in head presets) (call_jobs call.count call.jobs) (state_at table.old moment) }
+    ensures done { CallDone station.now.head station.now.presets (call_jobs call.count call.jobs) (state_at table.old moment) table.new result }
+    ensures kept { Running (station_in station.now) (state_at table.old moment) → Running (station_in station.now) (state_at table.new moment) }
+    ensures claim { CallClaim (station_in station.now) (call_jobs call.count call.jobs) (state_at table.old moment) }
 {
-    frame_cause(head, presets, table, moment.clock)?;
-    let mut counts = Counts::of(head, presets, table, moment.clock);
-    call_by_counts(head, presets, table, moment, call, &mut counts)
+    frame_cause(station, table, moment.clock)?;
+    let mut counts = Counts::of(station, table, moment.clock);
+    call_by_counts(station, table, moment, call, &mut counts)
 }
 
 // Takes a call on the frame at a moment, the presets being the list's first records: the causes 8 (a table below 512 cells or
@@ -126,8 +123,12 @@ pub fn call(
 ) -> Result<usize, Refusal>
     ensures { CallEntry head presets.now (call_jobs call.count call.jobs) (state_at table.old moment) table.new result }
 {
-    if presets.len() < LEAST_RECORDS {
-        return Err(Refusal::TooShort);
-    }
-    call_by_value(head, load(presets), table, moment, call)
+    let records = presets
+        .first_chunk::<LEAST_RECORDS>()
+        .ok_or(Refusal::TooShort)?;
+    let station = Station {
+        head,
+        presets: *records,
+    };
+    call_by_value(&station, table, moment, call)
 }

@@ -4,7 +4,7 @@ mod table; // table.rt: whether the table is well-formed
 ghost use Rattle.std.specs.Prelude.{◌≤◌, ◌≡◌, Bool, true, length};
 ghost use Rattle.station.specs.Limits.{least_cells};
 ghost use Rattle.station.specs.Refusal.{first_of};
-ghost use Rattle.station.specs.Types.{head_in, valid_record};
+ghost use Rattle.station.specs.Types.{station_in, valid_station};
 ghost use Rattle.placing.specs.Valid.{clock_in};
 ghost use Rattle.placing.specs.State.{state_of, well_formed_frame};
 ghost use Rattle.placing.specs.Causes.{cause_in, frame_causes_of};
@@ -12,8 +12,8 @@ ghost use Rattle.placing.specs.Causes.{cause_in, frame_causes_of};
 use crate::cells::Cell;
 use crate::check::table::well_formed;
 use station::check::valid_record;
-use station::limits::{LEAST_CELLS, MOST_PRESETS};
-use station::types::{Head, Preset, Refusal};
+use station::limits::LEAST_CELLS;
+use station::types::{Refusal, Station};
 
 // The first clock: no slot is about to begin yet.
 pub const FIRST_CLOCK: usize = 0;
@@ -26,35 +26,25 @@ pub fn clock_in(slots: usize, clock: usize) -> bool
 }
 
 // Whether the frame is one that 11 lets pass: a well-formed table, and a clock of the frame.
-fn well_formed_frame(
-    head: Head,
-    presets: [Preset; MOST_PRESETS],
-    table: &[Cell],
-    clock: usize,
-) -> bool
-    requires { (valid_record head presets ≡ true) × (least_cells ≤ length table.now) }
-    ensures { (hold : Bool) → result ≡ well_formed_frame (head_in head presets) (state_of table.now clock hold) }
+fn well_formed_frame(station: &Station, table: &[Cell], clock: usize) -> bool
+    requires { (valid_station station.now ≡ true) × (least_cells ≤ length table.now) }
+    ensures { (hold : Bool) → result ≡ well_formed_frame (station_in station.now) (state_of table.now clock hold) }
 {
-    well_formed(head, presets, table) && clock_in(head.slots, clock)
+    well_formed(station, table) && clock_in(station.head.slots, clock)
 }
 
 // The causes of a running frame: 8 for a table below 512 cells, 2 for a head record that no text yields, 11 for a table that is not well-formed or a clock
 // outside 0 to S + 1, whatever the order of ties is.
-pub fn frame_cause(
-    head: Head,
-    presets: [Preset; MOST_PRESETS],
-    table: &[Cell],
-    clock: usize,
-) -> Result<(), Refusal>
-    ensures { (hold : Bool) → cause_in result ≡ first_of (frame_causes_of head presets (state_of table.now clock hold)) }
+pub fn frame_cause(station: &Station, table: &[Cell], clock: usize) -> Result<(), Refusal>
+    ensures { (hold : Bool) → cause_in result ≡ first_of (frame_causes_of station.now.head station.now.presets (state_of table.now clock hold)) }
 {
     if table.len() < LEAST_CELLS {
         return Err(Refusal::TooShort);
     }
-    if !valid_record(head, presets) {
+    if !valid_record(station) {
         return Err(Refusal::OutOfLimits);
     }
-    if !well_formed_frame(head, presets, table, clock) {
+    if !well_formed_frame(station, table, clock) {
         return Err(Refusal::NotWellFormed);
     }
     Ok(())

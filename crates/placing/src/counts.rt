@@ -6,7 +6,7 @@ pub(crate) mod causes; // causes.rt: the first cause that a call meets, by the c
 ghost use Rattle.std.specs.Prelude.{ℕ, ◌+◌, ◌*◌, ◌%◌, ◌<◌, ◌≤◌, ◌≡◌, true, false, ◌||◌, length, get_or, replicate, ltb};
 ghost use Rattle.laws.specs.Sums.{bit, count};
 ghost use Rattle.station.specs.Limits.{most_slots, most_bridges, most_presets, most_jobs, least_cells};
-ghost use Rattle.station.specs.Types.{head_in, valid_record};
+ghost use Rattle.station.specs.Types.{station_in, valid_station};
 ghost use Rattle.placing.specs.Table.{cell, is_call, has_preset};
 ghost use Rattle.placing.specs.method.Jobs.{marked, job_number};
 ghost use Rattle.placing.specs.method.Counts.{Marks, Marked, MarkedBeside, CountsOf};
@@ -14,8 +14,8 @@ ghost use Rattle.placing.specs.method.Counts.{Marks, Marked, MarkedBeside, Count
 use crate::cells::{Cell, is_call, number_in};
 use crate::counts::usable::count_slots;
 use crate::limits::in_limits;
-use station::limits::{MOST_BRIDGES, MOST_JOBS, MOST_PRESETS};
-use station::types::{Call, Head, Preset};
+use station::limits::{MOST_BRIDGES, MOST_JOBS};
+use station::types::{Call, Station};
 
 // What a call's own causes are decided by: whether a preset or a call cell has each number, how many numbers the call cells have, and how many slots above the clock
 // have at least one, two, up to eight cells that a call may fill: the empty and the optional ones, but no more than the motors beside the cells that stay.
@@ -28,17 +28,18 @@ pub struct Counts {
 
 impl Counts {
     // Counts a table and a clock. It promises something of a head record that some text yields and a table that is not too short, and is safe for every other.
-    pub fn of(head: Head, presets: [Preset; MOST_PRESETS], table: &[Cell], clock: usize) -> Counts
-        ensures { valid_record head presets ≡ true → least_cells ≤ length table.now → CountsOf (head_in head presets) clock (cell (head_in head presets) table.now) result }
+    pub fn of(station: &Station, table: &[Cell], clock: usize) -> Counts
+        ensures { valid_station station.now ≡ true → least_cells ≤ length table.now → CountsOf (station_in station.now) clock (cell (station_in station.now) table.now) result }
     {
+        let head = &station.head;
         let mut counts = Counts {
             used: [false; 256],
             admitted: 0,
-            at_least: count_slots(head, table, clock),
+            at_least: count_slots(*head, table, clock),
         };
         if in_limits(head.slots, head.bridges, head.count, table.len()) {
             counts.admitted = mark_calls(table, head.slots, head.bridges, &mut counts.used);
-            mark_presets(head, presets, &mut counts.used);
+            mark_presets(station, &mut counts.used);
         }
         counts
     }
@@ -97,12 +98,12 @@ fn mark_calls(table: &[Cell], slots: usize, bridges: usize, used: &mut [bool; 25
 }
 
 // Marks the numbers of the presets.
-fn mark_presets(head: Head, presets: [Preset; MOST_PRESETS], used: &mut [bool; 256])
-    requires { (head.count ≤ most_presets) × (length used.old ≡ 256) }
-    ensures { (length used.new ≡ 256) × ((n : ℕ) → n < 256 → marked used.new n ≡ (has_preset (head_in head presets) n || marked used.old n)) }
+fn mark_presets(station: &Station, used: &mut [bool; 256])
+    requires { (station.now.head.count ≤ most_presets) × (length used.old ≡ 256) }
+    ensures { (length used.new ≡ 256) × ((n : ℕ) → n < 256 → marked used.new n ≡ (has_preset (station_in station.now) n || marked used.old n)) }
 {
-    for i in 0..head.count {
-        used[usize::from(presets[i].number)] = true;
+    for i in 0..station.head.count {
+        used[usize::from(station.presets[i].number)] = true;
     }
 }
 

@@ -1,9 +1,9 @@
 // The plan of a fresh frame: the grants of a head's presets, and the table. The entry `plan` has
-// its presets in a borrowed slice of records, `plan_by_value` by value.
+// its presets in a borrowed slice of records, `plan_by_value` takes a station.
 ghost use Rattle.std.specs.Prelude.{◌≡◌, true, ◌+◌, ◌-◌, ◌≤◌, length};
 ghost use Rattle.laws.specs.Lists.{at};
 ghost use Rattle.station.specs.Limits.{most_presets, least_cells};
-ghost use Rattle.station.specs.Types.{head_in, valid_record};
+ghost use Rattle.station.specs.Types.{head_in, station_in, valid_station};
 ghost use Rattle.placing.specs.method.Limits.{most_placed};
 ghost use Rattle.placing.specs.method.Records.{record_at};
 ghost use Rattle.placing.specs.method.Grants.{GrantedValid};
@@ -19,19 +19,17 @@ use crate::grants::{Granted, grant};
 use crate::limits::MOST_PLACED;
 use crate::rule::{Work, place};
 use station::limits::{LEAST_CELLS, LEAST_RECORDS, MOST_PRESETS};
-use station::records::load;
-use station::types::{Head, Preset, Refusal};
+use station::types::{Head, Preset, Refusal, Station};
 
-// The cell of the kind that begins at `kind` with the number of each of the first `k` presets; 0
-// after them.
+// The cell of the kind that begins at `kind` with the number of each preset; 0 after them.
 #[tactic(auto, using(crate::proofs::grants::Arrays::filled_none, crate::proofs::grants::Arrays::filled_more))]
-fn preset_cells(presets: [Preset; MOST_PRESETS], k: usize, kind: Cell) -> [Cell; MOST_PLACED]
-    requires { (k ≤ most_presets) × (kind ≤ 1024) }
-    ensures { result ≡ filled most_placed k (λ i. kind + (record_at presets i).number) }
+fn preset_cells(station: &Station, kind: Cell) -> [Cell; MOST_PLACED]
+    requires { (station.now.head.count ≤ most_presets) × (kind ≤ 1024) }
+    ensures { result ≡ filled most_placed station.now.head.count (λ i. kind + (record_at station.now.presets i).number) }
 {
     let mut all = [0; MOST_PLACED];
-    for i in 0..k {
-        all[i] = kind + Cell::from(presets[i].number);
+    for i in 0..station.head.count {
+        all[i] = kind + Cell::from(station.presets[i].number);
     }
     all
 }
@@ -50,41 +48,38 @@ fn grants_of(needs: [u8; MOST_PLACED], mandatory: [u8; MOST_PLACED], k: usize) -
 }
 
 // Writes the plan's table: busy cells first, then the presets with what each of them gets.
-fn write_plan(head: Head, presets: [Preset; MOST_PRESETS], table: &mut [Cell], granted: Granted)
-    requires { (valid_record head presets ≡ true) × (least_cells ≤ length table.old) × GrantedValid head presets granted }
-    ensures { table.new ≡ written (head_in head presets) (planned (tie_of head.hold) (head_in head presets)) table.old }
+fn write_plan(station: &Station, table: &mut [Cell], granted: Granted)
+    requires { (valid_station station.now ≡ true) × (least_cells ≤ length table.old) × GrantedValid station.now.head station.now.presets granted }
+    ensures { table.new ≡ written (station_in station.now) (planned (tie_of station.now.head.hold) (station_in station.now)) table.old }
 {
+    let head = &station.head;
     table[..head.slots * head.bridges].fill(BUSY);
     let work = Work {
         needs: granted.needs,
         count: head.count,
         first: granted.mandatory,
-        early: preset_cells(presets, head.count, MANDATORY),
-        late: preset_cells(presets, head.count, OPTIONAL),
+        early: preset_cells(station, MANDATORY),
+        late: preset_cells(station, OPTIONAL),
     };
     // No free cell is empty yet: the busy cells stand in all of them.
-    place(table, &head, &granted.offer, &work, head.slots, head.hold);
+    place(table, head, &granted.offer, &work, head.slots, head.hold);
 }
 
 // Plans a fresh frame over the whole table, and answers each preset's grant in file order, 0 past
 // the last preset: 8 for a table below 512 cells, 2 for a head record that no text yields, 5 where
 // the mandatory slots do not fit. A refusal changes nothing.
-pub fn plan_by_value(
-    head: Head,
-    presets: [Preset; MOST_PRESETS],
-    table: &mut [Cell],
-) -> Result<[u8; MOST_PRESETS], Refusal>
-    ensures done { PlanDone head presets table.old table.new result }
-    ensures claim { PlanClaim (head_in head presets) table.old }
+pub fn plan_by_value(station: &Station, table: &mut [Cell]) -> Result<[u8; MOST_PRESETS], Refusal>
+    ensures done { PlanDone station.now.head station.now.presets table.old table.new result }
+    ensures claim { PlanClaim (station_in station.now) table.old }
 {
     if table.len() < LEAST_CELLS {
         return Err(Refusal::TooShort);
     }
-    let granted = grant(head, presets)?;
+    let granted = grant(station)?;
     let needs = granted.needs;
     let mandatory = granted.mandatory;
-    let grants = grants_of(needs, mandatory, head.count);
-    write_plan(head, presets, table, granted);
+    let grants = grants_of(needs, mandatory, station.head.count);
+    write_plan(station, table, granted);
     Ok(grants)
 }
 
@@ -99,8 +94,12 @@ pub fn plan(
     ensures done { PlanEntered (length presets.now) head presets.now table.old table.new result }
     ensures claim { PlanClaim (head_in head presets.now) table.old }
 {
-    if presets.len() < LEAST_RECORDS {
-        return Err(Refusal::TooShort);
-    }
-    plan_by_value(head, load(presets), table)
+    let records = presets
+        .first_chunk::<LEAST_RECORDS>()
+        .ok_or(Refusal::TooShort)?;
+    let station = Station {
+        head,
+        presets: *records,
+    };
+    plan_by_value(&station, table)
 }

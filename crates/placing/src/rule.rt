@@ -19,7 +19,7 @@ use station::types::Head;
 
 // Where jobs may go: for each slot the mask of its free bridges, and how many of them are filled at
 // the most, which are to be no more than are free there. Of a mask the frame's bridges count.
-#[derive(Clone, Copy)]
+#[derive(Clone, Copy, Debug, PartialEq, Eq, Hash)]
 pub(crate) struct Offer {
     pub free: [u8; MOST_SLOTS],
     pub counts: [usize; MOST_SLOTS],
@@ -27,7 +27,7 @@ pub(crate) struct Offer {
 
 // What is placed: jobs 0 to `count` - 1 with their needs. Job i writes `early[i]` in its first
 // `first[i]` slots and `late[i]` in the others.
-#[derive(Clone, Copy)]
+#[derive(Clone, Copy, Debug, PartialEq, Eq, Hash)]
 pub(crate) struct Work {
     pub needs: [u8; MOST_PLACED],
     pub count: usize,

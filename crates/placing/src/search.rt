@@ -17,12 +17,12 @@ use crate::rule::Offer;
 use crate::search::empty::slot_masks;
 use crate::search::taking::walk;
 use crate::sums::Sums;
-use station::limits::{MOST_BRIDGES, MOST_PRESETS, MOST_SLOTS};
-use station::types::{Head, Preset};
+use station::limits::{MOST_BRIDGES, MOST_SLOTS};
+use station::types::{Head, Station};
 
 // What a call that fits evicts: how many cells, and where its jobs may go: over the empty cells
 // above the clock and the evicted ones, nowhere up to the clock and past the frame.
-#[derive(Clone, Copy)]
+#[derive(Clone, Copy, Debug, PartialEq, Eq, Hash)]
 pub(crate) struct Evicted {
     pub count: usize,
     pub offer: Offer,
@@ -30,7 +30,7 @@ pub(crate) struct Evicted {
 
 // What the jobs demand: the sums of their lengths, and the number of slots in which they are to have
 // it.
-#[derive(Clone, Copy)]
+#[derive(Clone, Copy, Debug, PartialEq, Eq, Hash)]
 pub(crate) struct Demand {
     pub slots: usize,
     pub sums: Sums,
@@ -40,7 +40,7 @@ pub(crate) struct Demand {
 // slots have at least one, two, up to eight free bridges, the shortage, and how many cells are
 // evicted so far. That these numbers are right (`Stands`) is no ghost field: it speaks of the demand
 // too, and with the demand in here every contract of the walk would have to say that it stays.
-#[derive(Clone, Copy)]
+#[derive(Clone, Copy, Debug, PartialEq, Eq, Hash)]
 pub(crate) struct Search {
     pub offer: Offer,
     pub entries: [u8; MOST_BRIDGES],
@@ -71,14 +71,14 @@ fn starting(table: &[Cell], head: &Head, clock: usize, demand: &Demand) -> Searc
 // does not fit.
 pub(crate) fn evict(
     table: &[Cell],
-    head: &Head,
-    presets: &[Preset; MOST_PRESETS],
+    station: &Station,
     clock: usize,
     needs: &[u8; MOST_PLACED],
     k: usize,
 ) -> Option<Evicted>
-    ensures { Searched head.now presets.now clock needs.now k table.now result }
+    ensures { Searched station.now.head station.now.presets clock needs.now k table.now result }
 {
+    let head = &station.head;
     if MOST_PLACED < k || !in_limits(head.slots, head.bridges, head.count, table.len()) {
         return None;
     }
@@ -87,7 +87,7 @@ pub(crate) fn evict(
         sums: Sums::of(needs, k),
     };
     let mut search = starting(table, head, clock, &demand);
-    walk(table, head, presets, clock, &demand, &mut search);
+    walk(table, station, clock, &demand, &mut search);
     if search.short != 0 {
         return None;
     }

@@ -12,7 +12,7 @@ use crate::limits::{CAPACITY_COUNT, MOST_PLACED};
 use station::limits::MOST_BRIDGES;
 
 // The r largest needs together, for r from 0 to 8, and all of them.
-#[derive(Clone, Copy)]
+#[derive(Clone, Copy, Debug, PartialEq, Eq, Hash)]
 pub(crate) struct Sums {
     pub largest: [usize; CAPACITY_COUNT],
     pub total: usize,

@@ -2,15 +2,15 @@
 ghost use Rattle.std.specs.Prelude.{◌≡◌, true, ◌+◌, ◌*◌, ◌<◌, ◌≤◌, length};
 ghost use Rattle.laws.specs.Sums.{every, count};
 ghost use Rattle.station.specs.Limits.{most_slots, most_bridges, most_presets, least_cells};
-ghost use Rattle.station.specs.Types.{head_in, preset_in, valid_record};
+ghost use Rattle.station.specs.Types.{preset_in, station_in, valid_station};
 ghost use Rattle.placing.specs.method.Check.{tally, numbered, cell_fits, FirstFault, is_met, preset_met, has_call};
 ghost use Rattle.placing.specs.method.Limits.{motors_in};
 ghost use Rattle.placing.specs.Table.{cell, well_formed};
 
 use crate::cells::{BUSY, CALL, Cell, MANDATORY, OPTIONAL, VALUES, number_in};
 use crate::limits::motors;
-use station::limits::{MOST_FRAME_JOBS, MOST_PRESETS};
-use station::types::{Head, Preset};
+use station::limits::MOST_FRAME_JOBS;
+use station::types::{Head, Preset, Station};
 
 // The cells that have numbers are counted by value, from the first mandatory cell on: how many counts there are, and where those of the optional and of the
 // call cells begin. They are one array and not one for each kind, so that a cell is counted where its value says, whatever its kind.
@@ -81,13 +81,13 @@ fn scan(head: Head, numbers: &[u8; 256], table: &[Cell], counts: &mut [u16; COUN
 }
 
 // How many presets have each number.
-fn preset_numbers(head: Head, presets: [Preset; MOST_PRESETS]) -> [u8; 256]
-    requires { head.count ≤ most_presets }
-    ensures { result ≡ numbered (head_in head presets).presets head.count }
+fn preset_numbers(station: &Station) -> [u8; 256]
+    requires { station.now.head.count ≤ most_presets }
+    ensures { result ≡ numbered (station_in station.now).presets station.now.head.count }
 {
     let mut numbers = [0u8; 256];
-    for i in 0..head.count {
-        numbers[usize::from(presets[i].number)] += 1;
+    for i in 0..station.head.count {
+        numbers[usize::from(station.presets[i].number)] += 1;
     }
     numbers
 }
@@ -101,11 +101,11 @@ fn preset_met(preset: Preset, counts: &[u16; COUNTS]) -> bool
 }
 
 // The same of every preset.
-fn presets_met(head: Head, presets: [Preset; MOST_PRESETS], counts: &[u16; COUNTS]) -> bool
-    requires { head.count ≤ most_presets }
-    ensures { result ≡ every head.count (preset_met (head_in head presets).presets counts.now) }
+fn presets_met(station: &Station, counts: &[u16; COUNTS]) -> bool
+    requires { station.now.head.count ≤ most_presets }
+    ensures { result ≡ every station.now.head.count (preset_met (station_in station.now).presets counts.now) }
 {
-    presets[..head.count]
+    station.presets[..station.head.count]
         .iter()
         .all(|preset| preset_met(*preset, counts))
 }
@@ -122,14 +122,15 @@ fn job_count(counts: &[u16; COUNTS]) -> usize
 }
 
 // Whether the table is well-formed: no cell at fault, then the presets' counts, then the number of jobs.
-pub(crate) fn well_formed(head: Head, presets: [Preset; MOST_PRESETS], table: &[Cell]) -> bool
-    requires { (valid_record head presets ≡ true) × (least_cells ≤ length table.now) }
-    ensures { result ≡ well_formed (head_in head presets) (cell (head_in head presets) table.now) }
+pub(crate) fn well_formed(station: &Station, table: &[Cell]) -> bool
+    requires { (valid_station station.now ≡ true) × (least_cells ≤ length table.now) }
+    ensures { result ≡ well_formed (station_in station.now) (cell (station_in station.now) table.now) }
 {
+    let head = &station.head;
     let cells = head.slots * head.bridges;
-    let numbers = preset_numbers(head, presets);
+    let numbers = preset_numbers(station);
     let mut counts = [0u16; COUNTS];
-    cells <= scan(head, &numbers, table, &mut counts)
-        && presets_met(head, presets, &counts)
+    cells <= scan(*head, &numbers, table, &mut counts)
+        && presets_met(station, &counts)
         && job_count(&counts) <= MOST_FRAME_JOBS
 }

@@ -45,7 +45,7 @@ pub(crate) fn highest(levels: &[u64; LEVELS], from: usize) -> usize
 }
 
 // The first jobs of a mask, and how many more were asked for.
-#[derive(Clone, Copy)]
+#[derive(Clone, Copy, Debug, PartialEq, Eq, Hash)]
 pub(crate) struct First {
     pub jobs: u64,
     pub more: usize,

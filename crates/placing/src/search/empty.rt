@@ -12,7 +12,7 @@ use station::types::Head;
 
 // A slot's cells as a call finds them: the mask of the empty ones, and how many presets and calls
 // hold.
-#[derive(Clone, Copy)]
+#[derive(Clone, Copy, Debug, PartialEq, Eq, Hash)]
 pub(crate) struct Found {
     pub empty: u8,
     pub held: usize,

@@ -1,7 +1,7 @@
 // The walk over the optional cells in eviction order: a cell that lowers the shortage is evicted.
 ghost use Rattle.std.specs.Prelude.{ℕ, ◌*◌, ◌<◌, ◌≤◌, ◌≡◌, true, List, [], ◌∷◌, length};
 ghost use Rattle.station.specs.Limits.{most_bridges, most_presets};
-ghost use Rattle.station.specs.Types.{head_in};
+ghost use Rattle.station.specs.Types.{station_in};
 ghost use Rattle.placing.specs.method.Limits.{sizes_in_limits};
 ghost use Rattle.placing.specs.Table.{cell};
 ghost use Rattle.placing.specs.Call.{CellPlace, downward, eviction_order};
@@ -11,8 +11,8 @@ use crate::cells::Cell;
 use crate::search::links::Links;
 use crate::search::ranks::ranks_of;
 use crate::search::{Demand, Search};
-use station::limits::{MOST_BRIDGES, MOST_PRESETS};
-use station::types::{Head, Preset};
+use station::limits::MOST_BRIDGES;
+use station::types::Station;
 
 // Tries a cell: with one more free bridge its slot counts in the next entry too. Where the call
 // then lacks as much as before, the entry is taken back; else the cell is evicted, and the shortage
@@ -70,19 +70,19 @@ fn through_ranks(links: &Links, n: usize, demand: &Demand, search: &mut Search)
 // no cell is chained.
 pub(crate) fn walk(
     table: &[Cell],
-    head: &Head,
-    presets: &[Preset; MOST_PRESETS],
+    station: &Station,
     clock: usize,
     demand: &Demand,
     search: &mut Search,
 )
-    requires { (sizes_in_limits head.now.slots head.now.bridges head.now.count (length table.now) ≡ true) × (demand.now.slots ≡ head.now.slots) × Stands demand.now search.old }
-    ensures { Walked demand.now (eviction_order (head_in head.now presets.now) clock (cell (head_in head.now presets.now) table.now)) search.old search.new }
+    requires { (sizes_in_limits station.now.head.slots station.now.head.bridges station.now.head.count (length table.now) ≡ true) × (demand.now.slots ≡ station.now.head.slots) × Stands demand.now search.old }
+    ensures { Walked demand.now (eviction_order (station_in station.now) clock (cell (station_in station.now) table.now)) search.old search.new }
 {
     if search.short == 0 {
         return;
     }
-    let ranks = ranks_of(&presets[..head.count]);
+    let head = &station.head;
+    let ranks = ranks_of(&station.presets[..head.count]);
     let links = Links::of_slots(table, head, clock, &ranks);
     through_ranks(&links, head.count, demand, search);
 }

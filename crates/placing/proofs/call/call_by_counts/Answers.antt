@@ -15,8 +15,8 @@ returns-in_err-cause_by_counts c =
     let p = err_from_is_err_and c.from_residual.result c.from_residual.ensures.1 in rw (p.1, p.2)
     (λ v run right.
     let a = c.args in
-    let h = head_in a.head a.presets in (
-      counted_refused a.head a.presets (call_jobs a.call.count a.call.jobs) (state_at a.table.now a.moment) v run c.in_err-cause_by_counts.field-0.0
+    let h = head_in a.station.now.head a.station.now.presets in (
+      counted_refused a.station.now.head a.station.now.presets (call_jobs a.call.count a.call.jobs) (state_at a.table.now a.moment) v run c.in_err-cause_by_counts.field-0.0
           (c.in_err-cause_by_counts.ensures.0 h a.moment.clock (cell h a.table.now) run.valid run.well_formed.cells right),
       right,
     ))
@@ -25,23 +25,23 @@ returns-in_err-cause_by_counts c =
 pub returns-in_err-evicted : goal.returns-in_err-evicted
 returns-in_err-evicted c = λ v run right.
     let a = c.args in
-    let h = head_in a.head a.presets in
+    let h = head_in a.station.now.head a.station.now.presets in
     let st = state_at a.table.now a.moment in
     let tried = c.in_ok-cause_by_counts.ensures.0 h a.moment.clock (cell h a.table.now) run.valid run.well_formed.cells right in
     let known = cause_known a.call.jobs (omega (arith, c)) a.call.count h a.moment.clock (cell h a.table.now) (sym tried) in
-    absurd (counted_taken a.head a.presets (call_jobs a.call.count a.call.jobs) st v run tried
-    (counted_done a.head a.presets (call_jobs a.call.count a.call.jobs) st v run tried
+    absurd (counted_taken a.station.now.head a.station.now.presets (call_jobs a.call.count a.call.jobs) st v run tried
+    (counted_done a.station.now.head a.station.now.presets (call_jobs a.call.count a.call.jobs) st v run tried
     (call_jobs_lem a.call.jobs (omega (arith, c)) a.call.count known.0) (c.in_err-evicted.ensures v run.long run.well_formed.cells known)))
 
 pub returns : goal.returns
 returns c = λ v run right.
     let a = c.args in
-    let h = head_in a.head a.presets in
+    let h = head_in a.station.now.head a.station.now.presets in
     let st = state_at a.table.now a.moment in
     let tried = c.in_ok-cause_by_counts.ensures.0 h a.moment.clock (cell h a.table.now) run.valid run.well_formed.cells right in
     let known = cause_known a.call.jobs (omega (arith, c)) a.call.count h a.moment.clock (cell h a.table.now) (sym tried) in
-    let done = counted_done a.head a.presets (call_jobs a.call.count a.call.jobs) st v run tried
+    let done = counted_done a.station.now.head a.station.now.presets (call_jobs a.call.count a.call.jobs) st v run tried
     (call_jobs_lem a.call.jobs (omega (arith, c)) a.call.count known.0) (c.in_ok-evicted.ensures v run.long run.well_formed.cells known) in (
       done,
-      counted_after a.head a.presets a.call.jobs a.call.count st (omega (arith, c)) v run tried done right c.mark_jobs.ensures refl c.count_slots-counts.ensures,
+      counted_after a.station.now.head a.station.now.presets a.call.jobs a.call.count st (omega (arith, c)) v run tried done right c.mark_jobs.ensures refl c.count_slots-counts.ensures,
     )

@@ -14,20 +14,20 @@ returns-in_err-frame_cause c =
     let p = err_from_is_err_and c.from_residual.result c.from_residual.ensures.1 in rw (p.1, p.2)
     (let a = c.args in
     let st = state_at a.table.now a.moment in
-    let done = frame_refused a.head a.presets (call_jobs a.call.count a.call.jobs) st c.in_err-frame_cause.field-0.0 (c.in_err-frame_cause.ensures a.moment.hold) in
+    let done = frame_refused a.station.now.head a.station.now.presets (call_jobs a.call.count a.call.jobs) st c.in_err-frame_cause.field-0.0 (c.in_err-frame_cause.ensures a.moment.hold) in
     record {
       done = done;
-      kept = done_running a.head a.presets (call_jobs a.call.count a.call.jobs) st done;
-      claim = call_claim_lem (head_in a.head a.presets) (call_jobs a.call.count a.call.jobs) st;
+      kept = done_running a.station.now.head a.station.now.presets (call_jobs a.call.count a.call.jobs) st done;
+      claim = call_claim_lem (head_in a.station.now.head a.station.now.presets) (call_jobs a.call.count a.call.jobs) st;
     })
 
 pub returns : goal.returns
 returns c = let a = c.args in
     let st = state_at a.table.now a.moment in
-    let run = frame_running a.head a.presets st (sym (c.in_ok-frame_cause.ensures a.moment.hold)) in
+    let run = frame_running a.station.now.head a.station.now.presets st (sym (c.in_ok-frame_cause.ensures a.moment.hold)) in
     let done = (c.call_by_counts.ensures run.0 run.1 (c.of-counts.ensures run.0 run.1.long)).0 in
     record {
       done = done;
-      kept = done_running a.head a.presets (call_jobs a.call.count a.call.jobs) st done;
-      claim = call_claim_lem (head_in a.head a.presets) (call_jobs a.call.count a.call.jobs) st;
+      kept = done_running a.station.now.head a.station.now.presets (call_jobs a.call.count a.call.jobs) st done;
+      claim = call_claim_lem (head_in a.station.now.head a.station.now.presets) (call_jobs a.call.count a.call.jobs) st;
     }

@@ -20,20 +20,20 @@ returns-in_default c = λ v long formed is_call.
     let few = is_call.0 in
     let inside = is_call.1 in
     let a = c.args in
-    carried_refused (head_in a.head a.presets) (jobs_in a.call.count a.call.jobs) (state_at a.table.now a.moment)
-    (c.in_default.ensures.found (valid_searchable a.head a.call.count _ a.presets v (omega (arith, few)) long) (jobs_in a.call.count a.call.jobs) (c.job_needs-needs.ensures a.call.count few inside))
+    carried_refused (head_in a.station.now.head a.station.now.presets) (jobs_in a.call.count a.call.jobs) (state_at a.table.now a.moment)
+    (c.in_default.ensures.found (valid_searchable a.station.now.head a.call.count _ a.station.now.presets v (omega (arith, few)) long) (jobs_in a.call.count a.call.jobs) (c.job_needs-needs.ensures a.call.count few inside))
 
 pub returns : goal.returns
 returns c = λ v long formed is_call.
     let few = is_call.0 in
     let inside = is_call.1 in
     let a = c.args in
-    let h = head_in a.head a.presets in
+    let h = head_in a.station.now.head a.station.now.presets in
     let jobs = jobs_in a.call.count a.call.jobs in
     let found = c.in-Some.found in
     let searched : Evicting h a.moment.clock jobs (cell h a.table.now) found =
-    c.in-Some.ensures.found (valid_searchable a.head a.call.count _ a.presets v (omega (arith, few)) long) jobs (c.job_needs-needs.ensures a.call.count few inside) in
-    let valid = record_valid a.head a.presets v in
+    c.in-Some.ensures.found (valid_searchable a.station.now.head a.call.count _ a.station.now.presets v (omega (arith, few)) long) jobs (c.job_needs-needs.ensures a.call.count few inside) in
+    let valid = record_valid a.station.now.head a.station.now.presets v in
     carried_taken h jobs (state_at a.table.now a.moment) found searched valid formed
     c.job_needs-needs.result a.call.count c.job_cells-cells.result
     (is_placeable h.slots h.bridges c.job_needs-needs.result a.call.count (length a.table.now) valid.slots_high valid.bridges_high (omega (arith, few)) long

@@ -5,20 +5,20 @@ use Rattle.placing.proofs.check.FrameCauses.{frame_short, frame_invalid, frame_f
 use Rattle.placing.proofs.check.frame_cause.Goals as goal
 
 pub returns-then-table-lt-LEAST_CELLS : goal.returns-then-table-lt-LEAST_CELLS
-returns-then-table-lt-LEAST_CELLS c hold = let a = c.args in frame_short a.head a.presets (state_of a.table.now a.clock hold) c.if-table-lt-LEAST_CELLS.true
+returns-then-table-lt-LEAST_CELLS c hold = let a = c.args in frame_short a.station.now.head a.station.now.presets (state_of a.table.now a.clock hold) c.if-table-lt-LEAST_CELLS.true
 
 pub returns-then-not-valid_record : goal.returns-then-not-valid_record
 returns-then-not-valid_record c hold = let a = c.args in
-    frame_invalid a.head a.presets (state_of a.table.now a.clock hold) c.if-table-lt-LEAST_CELLS.false (sym c.valid_record.ensures ∙ c.if-not-valid_record.true)
+    frame_invalid a.station.now.head a.station.now.presets (state_of a.table.now a.clock hold) c.if-table-lt-LEAST_CELLS.false (sym c.valid_record.ensures ∙ c.if-not-valid_record.true)
 
 pub returns-then-not-well_formed_frame : goal.returns-then-not-well_formed_frame
 returns-then-not-well_formed_frame c hold =
     let a = c.args in
-    frame_fault a.head a.presets (state_of a.table.now a.clock hold) c.if-table-lt-LEAST_CELLS.false (sym c.valid_record.ensures ∙ c.if-not-valid_record.false)
+    frame_fault a.station.now.head a.station.now.presets (state_of a.table.now a.clock hold) c.if-table-lt-LEAST_CELLS.false (sym c.valid_record.ensures ∙ c.if-not-valid_record.false)
     (sym (c.well_formed_frame.ensures hold) ∙ c.if-not-well_formed_frame.true)
 
 pub returns : goal.returns
 returns c hold =
     let a = c.args in
-    frame_passed a.head a.presets (state_of a.table.now a.clock hold) c.if-table-lt-LEAST_CELLS.false (sym c.valid_record.ensures ∙ c.if-not-valid_record.false)
+    frame_passed a.station.now.head a.station.now.presets (state_of a.table.now a.clock hold) c.if-table-lt-LEAST_CELLS.false (sym c.valid_record.ensures ∙ c.if-not-valid_record.false)
     (sym (c.well_formed_frame.ensures hold) ∙ c.if-not-well_formed_frame.false)

@@ -21,14 +21,14 @@ pub loop-i-preserved : goal.loop-i-preserved
 loop-i-preserved c = let l = c.loop-i in
     let a = c.args in
     beside_more _ l.invariant (omega arith)
-    (c.from.ensures ∙ sym (ap (λ (p : Preset). p.number) (preset_at_lem a.head.count a.presets l.i (omega arith))))
+    (c.from.ensures ∙ sym (ap (λ (p : Preset). p.number) (preset_at_lem a.station.now.head.count a.station.now.presets l.i (omega arith))))
 
 pub returns : goal.returns
 returns c = let a = c.args in
-    let e : c.loop-i.i ≡ a.head.count = omega arith in (
+    let e : c.loop-i.i ≡ a.station.now.head.count = omega arith in (
       c.loop-i.invariant.long,
       λ n l.
           c.loop-i.invariant.which n l
-          ∙ ap (λ (k : ℕ). ltb 0 (count k (λ j. eqb (get_or (map preset_in (take a.head.count a.presets)) j no_preset).number n)) || marked a.used.now n)
-          (e ∙ sym (presets_count a.head a.presets (omega (arith, c)))),
+          ∙ ap (λ (k : ℕ). ltb 0 (count k (λ j. eqb (get_or (map preset_in (take a.station.now.head.count a.station.now.presets)) j no_preset).number n)) || marked a.used.now n)
+          (e ∙ sym (presets_count a.station.now.head a.station.now.presets (omega (arith, a.station.now.full)))),
     )

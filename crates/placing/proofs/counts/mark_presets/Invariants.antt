@@ -7,4 +7,4 @@ use Rattle.placing.specs.method.Counts.{MarkedBeside}
 use Rattle.placing.proofs.counts.mark_presets.Given as goal
 
 abbrev pub invariant-loop-i : goal.invariant-loop-i
-invariant-loop-i l = MarkedBeside (λ j. (get_or (map preset_in (take l.fn.head.count l.presets)) j no_preset).number) l.initial.used l.i l.used
+invariant-loop-i l = MarkedBeside (λ j. (get_or (map preset_in (take l.fn.station.head.count l.station.presets)) j no_preset).number) l.initial.used l.i l.used

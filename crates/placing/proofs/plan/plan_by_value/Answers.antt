@@ -1,5 +1,4 @@
 -- `plan::plan_by_value` meets its contract: a law for each answer. Assumes nothing.
-use native.Mathlib.Omega.{arith}
 use mathlib.Core.Path.{refl}
 use Rattle.std.proofs.lemmas.Result.{err_from_is_err_and}
 use Rattle.placing.proofs.HeadRecord.{count_high}
@@ -18,15 +17,15 @@ returns-clause-claim c = plan_claim _ _
 
 pub returns-then-table-lt-LEAST_CELLS-clause-done : goal.returns-then-table-lt-LEAST_CELLS-clause-done
 returns-then-table-lt-LEAST_CELLS-clause-done c =
-    let a = c.args in plan_refused a.head a.presets a.table.now (meant_short a.head a.presets a.table.now c.if-table-lt-LEAST_CELLS.true)
+    let a = c.args in plan_refused a.station.now.head a.station.now.presets a.table.now (meant_short a.station.now.head a.station.now.presets a.table.now c.if-table-lt-LEAST_CELLS.true)
 
 pub returns-in_err-granted-clause-done : goal.returns-in_err-granted-clause-done
 returns-in_err-granted-clause-done c = let a = c.args in
     let p = err_from_is_err_and c.from_residual.result c.from_residual.ensures.1 in
-    rw (p.1, p.2) (plan_not_granted a.head a.presets a.table.now c.if-table-lt-LEAST_CELLS.false c.in_err-granted.ensures)
+    rw (p.1, p.2) (plan_not_granted a.station.now.head a.station.now.presets a.table.now c.if-table-lt-LEAST_CELLS.false c.in_err-granted.ensures)
 
 pub grants_of-grants-requires : goal.grants_of-grants-requires
-grants_of-grants-requires c = count_high c.args.head c.args.presets c.in_ok-granted.ensures.valid
+grants_of-grants-requires c = count_high c.args.station.now.head c.args.station.now.presets c.in_ok-granted.ensures.valid
 
 pub returns-clause-done : goal.returns-clause-done
 returns-clause-done c = let a = c.args in
@@ -35,6 +34,6 @@ returns-clause-done c = let a = c.args in
     let g = given.granted in
     let r = c.in_ok-granted.granted in
     let v = given.valid in
-    let array = grants_are a.head a.presets (omega arith) v r g refl given.mandatory c.grants_of-grants.ensures in
-    let done = grants_done a.head a.presets (omega arith) v r g array in
-    plan_done a.head a.presets t (meant_granted a.head a.presets t c.if-table-lt-LEAST_CELLS.false v g.fits) done.0 done.1 c.write_plan.ensures
+    let array = grants_are a.station.now.head a.station.now.presets a.station.now.full v r g refl given.mandatory c.grants_of-grants.ensures in
+    let done = grants_done a.station.now.head a.station.now.presets a.station.now.full v r g array in
+    plan_done a.station.now.head a.station.now.presets t (meant_granted a.station.now.head a.station.now.presets t c.if-table-lt-LEAST_CELLS.false v g.fits) done.0 done.1 c.write_plan.ensures
