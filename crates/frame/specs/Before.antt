@@ -1,11 +1,18 @@
--- The planner as document 01 had it, before there were ties and a supply, but for the clock, which is that of 2026-05: how a head was read, the rule, a plan, an event, a list of events and a whole
--- text. proofs/AsBefore.antt shows that without lines of the forms that came later, and from `(tie place)` on where the supply feeds every bridge, this is what the definitions come to. Document 02,
--- 2026-02: "`(tie place)` brings back the old order"; 2026-03: "without it there is no cap". (The clock before 2026-05 is in specs/OwnSlot.)
+-- The planner as document 01 had it, before there were ties and a supply, but for the clock, which
+-- is that of 2026-05: how a head was read, the rule, a plan, an event, a list of events and a whole
+-- text. proofs/AsBefore.antt shows that without lines of the forms that came later, and from `(tie
+-- place)` on where the supply feeds every bridge, this is what the definitions come to. Document
+-- 02, 2026-02: "`(tie place)` brings back the old order"; 2026-03: "without it there is no cap".
+-- (The clock before 2026-05 is in specs/OwnSlot.)
 --
--- In order: the five forms (`form_before`), how a head was read (`head_before`), and what an event asked for (`asked_before`); document 01's rule (`left_before`, `lrtf_before`), and the tables that it makes
--- (`planned_before`, `called_before`); a plan, an event, a list of events and a whole text with them (`plan_before`, `event_before`, `run_before`, `whole_before`); a text and a list of events without
--- the later forms (`FiveForms`, `FiveAsked`). The numbers of free cells, and what follows from them, are those of placing's specs/Uncapped; what neither a tie nor a supply enters (the causes
--- of lines of the five forms, `valid` of a head without a supply, the clock and the slots above it, the order of loss, the listing) is that of the other files.
+-- In order: the five forms (`form_before`), how a head was read (`head_before`), and what an event
+-- asked for (`asked_before`); document 01's rule (`left_before`, `lrtf_before`), and the tables
+-- that it makes (`planned_before`, `called_before`); a plan, an event, a list of events and a whole
+-- text with them (`plan_before`, `event_before`, `run_before`, `whole_before`); a text and a list
+-- of events without the later forms (`FiveForms`, `FiveAsked`). The numbers of free cells, and what
+-- follows from them, are those of placing's specs/Uncapped; what neither a tie nor a supply enters
+-- (the causes of lines of the five forms, `valid` of a head without a supply, the clock and the
+-- slots above it, the order of loss, the listing) is that of the other files.
 -- Assumes nothing.
 use Rattle.std.specs.Prelude.{ℕ, zero, suc, ◌-◌, ◌≡◌, Bool, cond, not, ◌&&◌, List, [], ◌∷◌, ◌++◌, map, length, get_or, ltb}
 use Rattle.std.proofs.Math.Option.{Option, none, some}
@@ -71,7 +78,8 @@ asked_before (Event.line l) = asked_by_form (form_before l)
 asked_before (Event.clock t) = set_clock t
 asked_before (Event.call jobs) = place_jobs jobs
 
--- "as many presets as there are free bridges, those with the most slots still to get, never one with none left. Equal ones: the earlier line first"
+-- "as many presets as there are free bridges, those with the most slots still to get, never one
+-- with none left. Equal ones: the earlier line first"
 abbrev pub chosen_before : ℕ → (ℕ → ℕ) → ℕ → ℕ → Bool
 chosen_before k c d i = ltb 0 (c i) && ltb (position k (before c) i) d
 
@@ -86,7 +94,8 @@ left_before c x (suc s) = served_before (left_before c x s) (x s)
 abbrev pub lrtf_before : List ℕ → (ℕ → ℕ) → ℕ → ℕ → Bool
 lrtf_before c x i s = chosen_before (length c) (at (left_before c x s)) (x s) i
 
--- the table of a plan, "A preset's first m cells in time are required, the rest refinement", and that of a call
+-- the table of a plan, "A preset's first m cells in time are required, the rest refinement", and
+-- that of a call
 abbrev pub plan_cell_before : Head → ℕ → ℕ → ℕ
 plan_cell_before h i s =
     cond

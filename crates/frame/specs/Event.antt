@@ -1,4 +1,5 @@
--- One event on the running frame, and a list of events. Document 01, "The station text", "Causes" and "What demand 3 speaks of"; document 02, 2026-02, 2026-03 and 2026-05.
+-- One event on the running frame, and a list of events. Document 01, "The station text", "Causes"
+-- and "What demand 3 speaks of"; document 02, 2026-02, 2026-03 and 2026-05.
 -- Assumes nothing.
 use Rattle.std.specs.Prelude.{ℕ, Bool, not, List, [], ◌∷◌, ◌++◌, ltb}
 use Rattle.std.proofs.Math.Option.{Option, none, some}
@@ -10,7 +11,8 @@ use Rattle.placing.specs.Valid.{clock_in}
 use Rattle.placing.specs.State.{State, with_clock, with_order}
 use Rattle.placing.specs.Outcomes.{Cost, cost_of, frame_causes, call_causes, CallAnswer, called_state}
 
--- "events of every kind (here clocks and calls)", ties since 2026-02, ".. and faulty lines": a line of whatever bytes, its end included, or a clock or a call handed over.
+-- "events of every kind (here clocks and calls)", ties since 2026-02, ".. and faulty lines": a line
+-- of whatever bytes, its end included, or a clock or a call handed over.
 pub data Event : Type 0 where
   line : List ℕ → Event
   clock : ℕ → Event
@@ -39,7 +41,8 @@ pub data Asked : Type 0 where
   place_jobs : List Job → Asked
   fault : Refusal → Asked
 
--- "a line that is not one of the five forms, or lacks its end", which are six since 2026-02 and seven since 2026-03; "A head line after an event is out of place."
+-- "a line that is not one of the five forms, or lacks its end", which are six since 2026-02 and
+-- seven since 2026-03; "A head line after an event is out of place."
 abbrev pub asked_by_form : Option Form → Asked
 asked_by_form none = fault no_form
 asked_by_form (some (frame_line s b)) = fault out_of_place
@@ -55,8 +58,9 @@ asked (line l) = asked_by_form (form l)
 asked (clock t) = set_clock t
 asked (call jobs) = place_jobs jobs
 
--- What an event is tried for after 8, a head record's 2, and 11: its line's 1 or 3, a t outside 0 to S + 1 (2026-05) and "a clock below the present one",
--- or the causes of a call; a tie has none of its own.
+-- What an event is tried for after 8, a head record's 2, and 11: its line's 1 or 3, a t outside 0
+-- to S + 1 (2026-05) and "a clock below the present one", or the causes of a call; a tie has none
+-- of its own.
 unfoldable pub own_causes : Head → State → Asked → List (Option Refusal)
 own_causes h st (set_clock t) = try out_of_limits (not (clock_in h.slots t)) ∷ try clock_back (ltb t st.clock) ∷ []
 own_causes h st (set_tie hold) = []
@@ -74,11 +78,13 @@ event_causes h st e = asked_causes h st (asked e)
 abbrev pub clock_state : Head → ℕ → State → State
 clock_state h t st = with_clock t st
 
--- what a tie leaves that is set: "As an event either holds for later calls, and the frame runs on with all cells as they were"
+-- what a tie leaves that is set: "As an event either holds for later calls, and the frame runs on
+-- with all cells as they were"
 abbrev pub tie_state : Head → Bool → State → State
 tie_state h hold st = with_order hold st
 
--- An event for which no cause holds: a clock changes the clock alone, a tie the order of ties alone, a call the table alone.
+-- An event for which no cause holds: a clock changes the clock alone, a tie the order of ties
+-- alone, a call the table alone.
 unfoldable pub carried_out : Head → State → Asked → Outcome
 carried_out h st (set_clock t) = record { answer = clock_now t; after = clock_state h t st }
 carried_out h st (set_tie hold) = record { answer = tie_now hold; after = tie_state h hold st }
@@ -92,7 +98,8 @@ comes_to h st a = elim (first_of (asked_causes h st a)) [ none ↦ carried_out h
 abbrev pub event_of : Head → State → Event → Outcome
 event_of h st e = comes_to h st (asked e)
 
--- A list of events: "Each event gets the table and clock that the last one left", and the order of ties.
+-- A list of events: "Each event gets the table and clock that the last one left", and the order of
+-- ties.
 pub record Run : Type 0 where
   pub answers : List Answer
   pub after : State

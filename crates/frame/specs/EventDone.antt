@@ -1,5 +1,6 @@
--- What the entries on the running frame are held to: the outcome of one event for a head record, its preset records and the state of a running frame. Document 01,
--- "Causes" and "What demand 3 speaks of".
+-- What the entries on the running frame are held to: the outcome of one event for a head record,
+-- its preset records and the state of a running frame. Document 01, "Causes" and "What demand 3
+-- speaks of".
 -- Assumes nothing.
 use Rattle.std.specs.Prelude.{ℕ, ◌≡◌, List}
 use Rattle.std.proofs.Math.Option.{none, some}
@@ -13,8 +14,9 @@ use Rattle.frame.specs.Types as result
 use Rattle.frame.specs.Event.{Event, refused, Outcome, event_of}
 use Rattle.frame.specs.Types.{answer_in}
 
--- One event for a head record and its preset records: where no cause of the record alone holds, that of the head they stand for. "A lent head record is
--- tried by 2 before a table is held against it by 11", and a refusal changes nothing.
+-- One event for a head record and its preset records: where no cause of the record alone holds,
+-- that of the head they stand for. "A lent head record is tried by 2 before a table is held against
+-- it by 11", and a refusal changes nothing.
 unfoldable pub event_meant : record-of-head.Head → List record-of-preset.Preset → State → Event → Outcome
 event_meant head ps st e =
     elim (first_of (causes_of head ps st.table)) [
@@ -22,7 +24,8 @@ event_meant head ps st e =
       | some r ↦ record { answer = refused 0 r; after = st }
     ]
 
--- The code answers r and leaves the table u, as the outcome o says; the clock and the order of ties afterwards are in the answer.
+-- The code answers r and leaves the table u, as the outcome o says; the clock and the order of ties
+-- afterwards are in the answer.
 pub record Yields (o : Outcome) (u : List ℕ) (r : result.Outcome) : Type 0 where
   pub answer : answer_in r.answer ≡ o.answer
   pub table : u ≡ o.after.table

@@ -1,7 +1,9 @@
--- What the entries set_clock and event over a borrowed list of preset records are held to, for every input. Document 01, "Presets stand in a lent list of records, in
--- file order", and "Causes": "preset list below 32 records" is 8, which is tried first.
+-- What the entries set_clock and event over a borrowed list of preset records are held to, for
+-- every input. Document 01, "Presets stand in a lent list of records, in file order", and "Causes":
+-- "preset list below 32 records" is 8, which is tried first.
 --
--- In order: an event (`event_on_slice`, `EventOnSlice`); the promise of both entries (`EventEntry`), of `set_clock` for the event `clock t`, of `event` for `line l`.
+-- In order: an event (`event_on_slice`, `EventOnSlice`); the promise of both entries
+-- (`EventEntry`), of `set_clock` for the event `clock t`, of `event` for `line l`.
 -- Assumes nothing.
 use Rattle.std.specs.Prelude.{ℕ, ◌≡◌, List, [], ◌∷◌, length, ltb}
 use Rattle.std.proofs.Math.Option.{none, some}
@@ -18,7 +20,8 @@ use Rattle.frame.specs.Demands.{Demand3}
 use Rattle.frame.specs.Types.{answer_in}
 use Rattle.frame.specs.EventDone.{event_meant, Yields}
 
--- One event where the list has so many records: 8 for fewer than 32, which changes nothing, else what the event comes to.
+-- One event where the list has so many records: 8 for fewer than 32, which changes nothing, else
+-- what the event comes to.
 unfoldable pub event_on_slice : ℕ → record-of-head.Head → List record-of-preset.Preset → State → Event → Outcome
 event_on_slice records head ps st e =
     elim (first_of (try too_short (ltb records least_records) ∷ [])) [ none ↦ event_meant head ps st e | some r ↦ record { answer = refused 0 r; after = st } ]
@@ -32,7 +35,9 @@ pub record EventEntry (head : record-of-head.Head) (ps : List record-of-preset.P
   pub done : EventOnSlice (length ps) head ps st e u r
   -- "a refusal that changes nothing": table, clock and order of ties
   pub unchanged : (n : ℕ) (c : Refusal) → answer_in r.answer ≡ refused n c → state_of u r.clock r.hold ≡ st
-  -- a frame that 11 lets pass is such a frame afterwards: "Each event gets the table and clock that the last one left"
+  -- a frame that 11 lets pass is such a frame afterwards: "Each event gets the table and clock that
+  -- the last one left"
   pub kept : Running (head_in head ps) st → Running (head_in head ps) (state_of u r.clock r.hold)
-  -- so that demand 3 holds of a list of events handed over one by one, and in it demand 2's rule of a call, on this very table (`slots`, `rule`)
+  -- so that demand 3 holds of a list of events handed over one by one, and in it demand 2's rule of
+  -- a call, on this very table (`slots`, `rule`)
   pub claim : Running (head_in head ps) st → Demand3 (head_in head ps) st (e ∷ [])

@@ -1,5 +1,7 @@
--- Layer 3, the running frame. What a reader must believe: one event and a list of events; a whole text; the listing; the three demands; the same where the supply feeds every bridge, before there were ties and supplies, and when a call could use the clock's own slot; then what the
--- code's answers stand for, and what each entry answers and leaves, one call of it and a list of them.
+-- Layer 3, the running frame. What a reader must believe: one event and a list of events; a whole
+-- text; the listing; the three demands; the same where the supply feeds every bridge, before there
+-- were ties and supplies, and when a call could use the clock's own slot; then what the code's
+-- answers stand for, and what each entry answers and leaves, one call of it and a list of them.
 pub mod Event
 pub mod Text
 pub mod Listing

@@ -1,9 +1,19 @@
--- Events, a list of them and a whole text as they were when a call could use the clock's own slot, before 2026-05: "A call uses slots from the clock on", and the clock "starts at 1 and ends at S + 1".
--- proofs/AsOwnSlot.antt shows that a list of events comes to the same with every clock one higher, and that a text without a clock line has the listing that it had; without tie and supply lines too, that of document 01.
+-- Events, a list of them and a whole text as they were when a call could use the clock's own slot,
+-- before 2026-05: "A call uses slots from the clock on", and the clock "starts at 1 and ends at
+-- S + 1".
+-- proofs/AsOwnSlot.antt shows that a list of events comes to the same with every clock one higher,
+-- and that a text without a clock line has the listing that it had; without tie and supply lines
+-- too, that of document 01.
 --
--- In order: the clocks of a frame and the start (`own_clock_in`, `own_start`), and the last slot gone by, above which a call went (`last_gone`, `gone`); the rest of a planner (`Rules`), with ties and a supply as it is (`today`) and without as document 01 has it (`document_one`); what an event was tried for (`own_slot_frame`, `own_slot_causes`), carried out to and came to
--- (`event_own_slot`), a list of events (`run_own_slot`) and a whole text (`whole_own_slot`, `whole_document_one`); then the same one higher: a state, what is asked, an answer and a run (`higher..`), two lists of events of which the second has
--- every clock one higher (`OneHigher`), and a text without a clock line (`NoClockLine`). How a head is read, its plan, what an event asks for and the listing are those of the other files.
+-- In order: the clocks of a frame and the start (`own_clock_in`, `own_start`), and the last slot
+-- gone by, above which a call went (`last_gone`, `gone`); the rest of a planner (`Rules`), with
+-- ties and a supply as it is (`today`) and without as document 01 has it (`document_one`); what an
+-- event was tried for (`own_slot_frame`, `own_slot_causes`), carried out to and came to
+-- (`event_own_slot`), a list of events (`run_own_slot`) and a whole text (`whole_own_slot`,
+-- `whole_document_one`); then the same one higher: a state, what is asked, an answer and a run
+-- (`higher..`), two lists of events of which the second has every clock one higher (`OneHigher`),
+-- and a text without a clock line (`NoClockLine`). How a head is read, its plan, what an event asks
+-- for and the listing are those of the other files.
 -- Assumes nothing.
 use Rattle.std.specs.Prelude.{ℕ, zero, suc, ◌≡◌, Bool, not, ◌&&◌, List, [], ◌∷◌, ◌++◌, map, length, get_or, ltb}
 use Rattle.std.proofs.Math.Option.{Option, some}
@@ -29,7 +39,8 @@ own_clock_in slots c = within 1 (suc slots) c
 abbrev pub own_start : Head → List ℕ → State
 own_start h t = state_of t 1 h.hold
 
--- "A call uses slots from the clock on": those above the last slot gone by, the one before the clock's. What a call comes to is said of slots above a clock, so that this is the one to ask for.
+-- "A call uses slots from the clock on": those above the last slot gone by, the one before the
+-- clock's. What a call comes to is said of slots above a clock, so that this is the one to ask for.
 unfoldable pub last_gone : ℕ → ℕ
 last_gone zero = zero
 last_gone (suc c) = c
@@ -37,7 +48,8 @@ last_gone (suc c) = c
 abbrev pub gone : State → State
 gone st = with_clock (last_gone st.clock) st
 
--- What does not depend on the clock's range: what an event asks for, when cells are sound, and of a call above a clock its causes, its cost and the table that it leaves.
+-- What does not depend on the clock's range: what an event asks for, when cells are sound, and of a
+-- call above a clock its causes, its cost and the table that it leaves.
 pub record Rules : Type 0 where
   pub asks : Event → Asked
   pub sound : Head → Cells → Bool
@@ -66,14 +78,16 @@ own_slot_frame rules h st =
     ∷ try not_well_formed (not (rules.sound h (cell h st.table) && own_clock_in h.slots st.clock))
     ∷ []
 
--- "t below 1 or above S + 1" and "a clock below the present one"; the causes of a call; the fault of a line
+-- "t below 1 or above S + 1" and "a clock below the present one"; the causes of a call; the fault
+-- of a line
 unfoldable pub own_slot_causes : Rules → Head → State → Asked → List (Option Refusal)
 own_slot_causes rules h st (set_clock t) = try out_of_limits (not (own_clock_in h.slots t)) ∷ try clock_back (ltb t st.clock) ∷ []
 own_slot_causes rules h st (set_tie hold) = []
 own_slot_causes rules h st (place_jobs jobs) = rules.causes h (gone st).clock jobs (cell h st.table)
 own_slot_causes rules h st (fault r) = some r ∷ []
 
--- and carried out to: a clock changes the clock alone, a tie the order of ties alone, a call the table alone
+-- and carried out to: a clock changes the clock alone, a tie the order of ties alone, a call the
+-- table alone
 unfoldable pub carried_own_slot : Rules → Head → State → Asked → Outcome
 carried_own_slot rules h st (set_clock t) = record { answer = clock_now t; after = with_clock t st }
 carried_own_slot rules h st (set_tie hold) = record { answer = tie_now hold; after = with_order hold st }
@@ -115,7 +129,8 @@ higher_answer (refused n r) = refused n r
 abbrev pub higher_run : Run → Run
 higher_run r = record { answers = map higher_answer r.answers; after = higher r.after }
 
--- Two lists of events on a frame of so many slots: the second asks for what the first does, a clock one higher. The last clock, S + 1, is left out: it is new, and one higher there was none.
+-- Two lists of events on a frame of so many slots: the second asks for what the first does, a clock
+-- one higher. The last clock, S + 1, is left out: it is new, and one higher there was none.
 pub record OneHigher (slots : ℕ) (es later : List Event) : Type 0 where
   pub long : length later ≡ length es
   pub asks : (j : ℕ) → asked (event_at later j) ≡ higher_asked (asked (event_at es j))

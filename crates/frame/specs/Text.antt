@@ -1,4 +1,5 @@
--- A whole text: head, plan, then every line as an event. Document 01, "The station text" and "Causes"; document 02, 2026-02 and 2026-05.
+-- A whole text: head, plan, then every line as an event. Document 01, "The station text" and
+-- "Causes"; document 02, 2026-02 and 2026-05.
 -- Assumes nothing.
 use Rattle.std.specs.Prelude.{ℕ, List, [], ◌∷◌, map, length, drop, ltb}
 use Rattle.std.proofs.Math.Option.{none, some}
@@ -12,14 +13,16 @@ use Rattle.placing.specs.State.{State, state_of}
 use Rattle.placing.specs.Outcomes.{PlanAnswer, plan_of}
 use Rattle.frame.specs.Event.{Event, Run, run_of, line}
 
--- What a text comes to. `not_read`: the head is refused, with its line; nothing is changed. `not_planned`: the head is read and its plan refused, at the last
--- head line; the table is as it was. `ran`: the head, the number of its lines, the grants, and what the events after it come to.
+-- What a text comes to. `not_read`: the head is refused, with its line; nothing is changed.
+-- `not_planned`: the head is read and its plan refused, at the last head line; the table is as it
+-- was. `ran`: the head, the number of its lines, the grants, and what the events after it come to.
 pub data Whole : Type 0 where
   not_read : ℕ → Refusal → Whole
   not_planned : Head → ℕ → Refusal → Whole
   ran : Head → ℕ → List ℕ → Run → Whole
 
--- "It starts from an accepted head with its plan and the first clock", which is 0 (2026-05: "with 0 the start"). "Directly after the frame line `(tie hold)` holds for the plan and the calls".
+-- "It starts from an accepted head with its plan and the first clock", which is 0 (2026-05: "with 0
+-- the start"). "Directly after the frame line `(tie hold)` holds for the plan and the calls".
 abbrev pub start_of : Head → List ℕ → State
 start_of h t = state_of t first_clock h.hold
 

@@ -1,8 +1,9 @@
--- What running a whole text is held to: the answer, the head, and every lent cell and byte afterwards, for all texts, tables and outputs. Document 01,
--- "Causes" and "One listing, whole"; document 02, 2026-02.
+-- What running a whole text is held to: the answer, the head, and every lent cell and byte
+-- afterwards, for all texts, tables and outputs. Document 01, "Causes" and "One listing, whole";
+-- document 02, 2026-02.
 --
--- In order: what a text comes to beside a lent output; what is answered and left of each lent thing; the promise `TextDone`, and what is claimed of a text
--- that runs (`TextClaim`).
+-- In order: what a text comes to beside a lent output; what is answered and left of each lent
+-- thing; the promise `TextDone`, and what is claimed of a text that runs (`TextClaim`).
 -- Assumes nothing.
 use Rattle.std.specs.Prelude.{ℕ, ◌≤◌, ◌<◌, ◌≡◌, Bool, List, [], ◌∷◌, length, ltb, Result, Ok, Err}
 use Rattle.std.proofs.Math.Option.{none, some}
@@ -24,13 +25,15 @@ use Rattle.frame.specs.Text.{Whole, not_read, not_planned, ran, start_of, events
 use Rattle.frame.specs.Listing.{listing_of}
 use Rattle.frame.specs.Demands.{Demand1, Demand2, Demand3}
 
--- What a text comes to beside a lent output: 10, then 8 for "output below 8,192 bytes" as for a table below 512 cells, then the rest.
+-- What a text comes to beside a lent output: 10, then 8 for "output below 8,192 bytes" as for a
+-- table below 512 cells, then the rest.
 unfoldable pub whole_with_output : List ℕ → List ℕ → List ℕ → Whole
 whole_with_output text t out =
     elim (first_of (try text_too_long (ltb most_bytes (length text)) ∷ try too_short (ltb (length out) least_output) ∷ []))
     [ none ↦ whole_of text t | some r ↦ not_read 0 r ]
 
--- how a text ends: the number of bytes of the listing in the output, or the line and the cause of the one refusal
+-- how a text ends: the number of bytes of the listing in the output, or the line and the cause of
+-- the one refusal
 pub data End : Type 0 where
   listed : ℕ → End
   refused_at : ℕ → Refusal → End
@@ -39,7 +42,8 @@ abbrev pub end_in : Result ℕ Fault → End
 end_in (Ok n) = listed n
 end_in (Err f) = refused_at f.line (refusal_in f.cause)
 
--- what a text leaves beside the table and the output: the code's answer, and the head with its presets, the clock and the order of ties afterwards
+-- what a text leaves beside the table and the output: the code's answer, and the head with its
+-- presets, the clock and the order of ties afterwards
 pub record TextRun : Type 0 where
   pub ended : Result ℕ Fault
   pub head : record-of-head.Head
@@ -50,13 +54,15 @@ pub record TextRun : Type 0 where
 abbrev pub text_run : Result ℕ Fault → record-of-head.Head → List record-of-preset.Preset → Moment → TextRun
 text_run a head ps m = record { ended = a; head = head; presets = ps; clock = m.clock; hold = m.hold }
 
--- "Every answer in order": the listing, as far as the output has room for it; a refused head or plan has no listing, and its line and number are answered.
+-- "Every answer in order": the listing, as far as the output has room for it; a refused head or
+-- plan has no listing, and its line and number are answered.
 unfoldable pub end_of : Whole → List ℕ → End
 end_of (not_read n r) out = refused_at n r
 end_of (not_planned h n r) out = refused_at n r
 end_of (ran h n g r) out = listed (moved (length out) 0 (length (listing_of (ran h n g r))))
 
--- The head afterwards: a head that is not read leaves the one handed in; "the head is the one read" where the required slots do not fit.
+-- The head afterwards: a head that is not read leaves the one handed in; "the head is the one read"
+-- where the required slots do not fit.
 unfoldable pub head_after : Whole → record-of-head.Head → record-of-head.Head
 head_after (not_read n r) head = head
 head_after (not_planned h n r) head = head_record h
@@ -67,7 +73,8 @@ presets_after (not_read n r) ps = ps
 presets_after (not_planned h n r) ps = records_over h.presets ps
 presets_after (ran h n g r) ps = records_over h.presets ps
 
--- The table, the clock, the order of ties and the output afterwards: a refusal leaves them as they were.
+-- The table, the clock, the order of ties and the output afterwards: a refusal leaves them as they
+-- were.
 unfoldable pub table_after : Whole → List ℕ → List ℕ
 table_after (not_read n r) t = t
 table_after (not_planned h n r) t = t
@@ -102,17 +109,22 @@ pub record Leaves (w : Whole) (given : record-of-head.Head) (ps : List record-of
 abbrev pub TextDone : List ℕ → record-of-head.Head → List record-of-preset.Preset → List ℕ → ℕ → Bool → List ℕ → List ℕ → List ℕ → TextRun → Type 0
 TextDone text head ps t clock hold out t₁ out₁ r = Leaves (whole_with_output text t out) head ps t clock hold out t₁ out₁ r
 
--- What is claimed of a text beside a table and an output, whatever they are: the three demands, of the very outcome that `run_text_by_value` answers and leaves.
--- That it holds for all of them is `text_claim` in proofs/text/WholeText.antt.
+-- What is claimed of a text beside a table and an output, whatever they are: the three demands, of
+-- the very outcome that `run_text_by_value` answers and leaves. That it holds for all of them is
+-- `text_claim` in proofs/text/WholeText.antt.
 pub record TextClaim (text t out : List ℕ) : Type 0 where
-  -- "output below 8,192 bytes" is 8 at line 0; beside any other output a text comes to what demand 1 speaks of
+  -- "output below 8,192 bytes" is 8 at line 0; beside any other output a text comes to what demand
+  -- 1 speaks of
   pub short_output : length text ≤ most_bytes → length out < least_output → whole_with_output text t out ≡ not_read 0 too_short
   pub other_output : least_output ≤ length out → whole_with_output text t out ≡ whole_of text t
-  -- "every station file, of whatever bytes, ends as a plan or as one numbered refusal", and each later line is accepted or changes nothing
+  -- "every station file, of whatever bytes, ends as a plan or as one numbered refusal", and each
+  -- later line is accepted or changes nothing
   pub demand1 : Demand1 text t
-  -- a text that ran has run every line after its head, from its plan, the first clock and the head's order of ties on
+  -- a text that ran has run every line after its head, from its plan, the first clock and the
+  -- head's order of ties on
   pub events : (h : Head) (n : ℕ) (g : List ℕ) (r : Run) → whole_with_output text t out ≡ ran h n g r → r ≡ run_of h (start_of h (plan_of h t).table) (events_of text n)
-  -- its grants, its plan's table and the table after each call, whatever table that meets, are those of the rules
+  -- its grants, its plan's table and the table after each call, whatever table that meets, are
+  -- those of the rules
   pub demand2 : (h : Head) (n : ℕ) (g : List ℕ) (r : Run) → whole_with_output text t out ≡ ran h n g r → (u : List ℕ) → Demand2 h u
   -- demand 3 over the list of all its lines after the head, and what it says of the plan
   pub demand3 : (h : Head) (n : ℕ) (g : List ℕ) (r : Run) → whole_with_output text t out ≡ ran h n g r → Demand3 h (start_of h (plan_of h t).table) (events_of text n)

@@ -1,9 +1,14 @@
--- Events, a list of them and a whole text where the supply feeds every bridge, under whatever order of ties: what they were before there was a supply line. Document 02, 2026-03: "without it
--- there is no cap". proofs/AsUncapped.antt shows that without the line, and with one that feeds as many motors as there are bridges, the definitions of the other files come to this.
+-- Events, a list of them and a whole text where the supply feeds every bridge, under whatever order
+-- of ties: what they were before there was a supply line. Document 02, 2026-03: "without it there
+-- is no cap". proofs/AsUncapped.antt shows that without the line, and with one that feeds as many
+-- motors as there are bridges, the definitions of the other files come to this.
 --
--- In order: an event by its causes (`decided`), a list of events and a whole text, from any reading of a head, any plan, any start and any event (`run_by`, `whole_by`), which specs/Before and specs/OwnSlot have too; then what an event is
--- tried for (`own_uncapped`) and carried out to, what it comes to (`event_uncapped`), a list of events (`run_uncapped`) and a whole text (`whole_uncapped`). The plan and the call are those of placing's
--- specs/Uncapped; what an event asks for, how a head is read and the listing are those of the other files.
+-- In order: an event by its causes (`decided`), a list of events and a whole text, from any reading
+-- of a head, any plan, any start and any event (`run_by`, `whole_by`), which specs/Before and
+-- specs/OwnSlot have too; then what an event is tried for (`own_uncapped`) and carried out to, what
+-- it comes to (`event_uncapped`), a list of events (`run_uncapped`) and a whole text
+-- (`whole_uncapped`). The plan and the call are those of placing's specs/Uncapped; what an event
+-- asks for, how a head is read and the listing are those of the other files.
 -- Assumes nothing.
 use Rattle.std.specs.Prelude.{ℕ, not, List, [], ◌∷◌, ◌++◌, length, ltb}
 use Rattle.std.proofs.Math.Option.{Option, none, some}
@@ -28,7 +33,8 @@ unfoldable pub run_by : (State → Event → Outcome) → State → List Event �
 run_by one st [] = record { answers = []; after = st }
 run_by one st (e ∷ es) = more (one st e).answer (run_by one (one st e).after es)
 
--- a whole text, where `read` reads its head, `plan` plans it, `start` is the state that the events start from and `one` what an event comes to: the lines after a plan
+-- a whole text, where `read` reads its head, `plan` plans it, `start` is the state that the events
+-- start from and `one` what an event comes to: the lines after a plan
 unfoldable pub with_plan_by : (Head → List ℕ → State) → (Head → State → Event → Outcome) → List ℕ → Head → ℕ → PlanAnswer → List ℕ → Whole
 with_plan_by start one text h n (PlanAnswer.granted g) t = ran h n g (run_by (one h) (start h t) (events_of text n))
 with_plan_by start one text h n (PlanAnswer.refused _ r) t = not_planned h n r

@@ -1,7 +1,8 @@
--- What the entry `write_listing` is held to: the answer, and every lent cell and byte afterwards, for all texts, tables and outputs. Document 01, "Causes" and
--- "One listing, whole".
+-- What the entry `write_listing` is held to: the answer, and every lent cell and byte afterwards,
+-- for all texts, tables and outputs. Document 01, "Causes" and "One listing, whole".
 --
--- In order: the causes; the outcome that they decide (`listing_meant`); the promises `Listed` and `ListedWhole`.
+-- In order: the causes; the outcome that they decide (`listing_meant`); the promises `Listed` and
+-- `ListedWhole`.
 -- Assumes nothing.
 use Rattle.std.specs.Prelude.{ℕ, ◌≡◌, List, [], ◌∷◌, length, ltb, Result}
 use Rattle.std.proofs.Math.Option.{Option, none, some}
@@ -15,7 +16,8 @@ use Rattle.frame.specs.Text.{Whole, whole_of}
 use Rattle.frame.specs.Listing.{listing_of}
 use Rattle.frame.specs.TextDone.{table_after}
 
--- The causes, in document 01's order: "text above 32,768 bytes", 10, then "output below 8,192 bytes" and "lent table below 512 cells", 8.
+-- The causes, in document 01's order: "text above 32,768 bytes", 10, then "output below 8,192
+-- bytes" and "lent table below 512 cells", 8.
 unfoldable pub listing_cause : List ℕ → List ℕ → List ℕ → Option Refusal
 listing_cause text t out =
     first_of (try text_too_long (ltb most_bytes (length text)) ∷ try too_short (ltb (length out) least_output) ∷ try too_short (ltb (length t) least_cells) ∷ [])
@@ -26,7 +28,8 @@ pub record ListingOutcome : Type 0 where
   pub table : List ℕ
   pub output : List ℕ
 
--- The listing of what a text comes to stands at the start of the output, as far as it has room for it: "A refused head gives its one refused line only."
+-- The listing of what a text comes to stands at the start of the output, as far as it has room for
+-- it: "A refused head gives its one refused line only."
 abbrev pub listing_written : Whole → List ℕ → List ℕ → ListingOutcome
 listing_written w t out =
     record { answer = written (moved (length out) 0 (length (listing_of w))); table = table_after w t; output = sets out 0 (listing_of w) }
@@ -45,7 +48,8 @@ pub record Listed (text t out t₁ out₁ : List ℕ) (r : Result ℕ cause.Refu
   pub table : t₁ ≡ (listing_meant text t out).table
   pub output : out₁ ≡ (listing_meant text t out).output
 
--- What it answers and leaves of an output with room for every listing: where no cause is met, the listing is there whole, and the bytes past it are as they were.
+-- What it answers and leaves of an output with room for every listing: where no cause is met, the
+-- listing is there whole, and the bytes past it are as they were.
 pub record ListedWhole (text t out out₁ : List ℕ) (r : Result ℕ cause.Refusal) : Type 0 where
   pub answer : answer_in r ≡ answer_of (listing_cause text t out) (length (listing_of (whole_of text t)))
   pub output : out₁ ≡ output_of (listing_cause text t out) (listing_of (whole_of text t)) out

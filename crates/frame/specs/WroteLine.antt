@@ -1,4 +1,5 @@
--- The entries that write one line of the listing: the answer and every byte of the output afterwards, for all inputs. Document 01, "Causes".
+-- The entries that write one line of the listing: the answer and every byte of the output
+-- afterwards, for all inputs. Document 01, "Causes".
 -- Assumes nothing.
 use Rattle.std.specs.Prelude.{ℕ, ◌-◌, ◌≡◌, not, List, [], ◌∷◌, ◌++◌, length, ltb, Result}
 use Rattle.std.proofs.Math.Option.{Option}
@@ -21,7 +22,8 @@ pub record WriteOutcome : Type 0 where
   pub answer : Answer
   pub output : List ℕ
 
--- A line is written at the start of the output, the bytes past it as they were; where a cause holds, nothing is written.
+-- A line is written at the start of the output, the bytes past it as they were; where a cause
+-- holds, nothing is written.
 unfoldable pub line_written : List (Option Refusal) → List ℕ → List ℕ → WriteOutcome
 line_written causes line out = record { answer = answer_of (first_of causes) (length line); output = output_of (first_of causes) line out }
 
@@ -37,8 +39,10 @@ answer_written n a out = line_written (output_short out ∷ []) (answer_line n (
 abbrev pub grant_written : ℕ → ℕ → List ℕ → WriteOutcome
 grant_written n g out = line_written (output_short out ∷ []) (granted_line n g) out
 
--- The causes of a slot's line where the list has n records: 8 for the output, for the list and for the table, 2 for the head record, 11 for the table, and 2 for "a value ..
--- outside its limits", the slot's number. A slot's line asks for no clock and no order of ties: 11 is tried with those of the start, which every frame passes.
+-- The causes of a slot's line where the list has n records: 8 for the output, for the list and for
+-- the table, 2 for the head record, 11 for the table, and 2 for "a value .. outside its limits",
+-- the slot's number. A slot's line asks for no clock and no order of ties: 11 is tried with those
+-- of the start, which every frame passes.
 abbrev pub slot_causes : ℕ → record-of-head.Head → List record-of-preset.Preset → List ℕ → ℕ → List ℕ → List (Option Refusal)
 slot_causes n head ps t s out = output_short out ∷ try too_short (ltb n least_records) ∷ (frame_causes_of head ps (start_of (head_in head ps) t) ++ (try out_of_limits (not (within 1 head.slots s)) ∷ []))
 

@@ -1,9 +1,11 @@
-// One event on the running frame, on the table, the clock and the order of ties that the last one left. The entries `set_clock` and `event` have their presets in a borrowed slice of records,
-// `set_clock_by_value` and `event_by_value` by value.
+// One event on the running frame, on the table, the clock and the order of ties that the last one
+// left. The entries `set_clock` and `event` have their presets in a borrowed slice of records,
+// `set_clock_by_value` and `event_by_value` take a station: these stay beside them, since who has
+// one meets no 8 of the list, and their contracts say so.
 pub(crate) mod asked; // asked.rt: what an event asks for, where the frame's own causes are not tried
 
 ghost use Rattle.std.specs.Prelude.{[], ◌∷◌};
-ghost use Rattle.station.specs.Types.{head_in};
+ghost use Rattle.station.specs.Types.{station_in};
 ghost use Rattle.placing.specs.Claims.{Running};
 ghost use Rattle.placing.specs.State.{state_at};
 ghost use Rattle.frame.specs.Types.{outcome};
@@ -18,11 +20,13 @@ use placing::cells::Cell;
 use placing::check::frame_cause;
 use placing::counts::Counts;
 use placing::moment::Moment;
-use station::limits::{LEAST_RECORDS, MOST_PRESETS};
-use station::types::{Head, Preset, Refusal};
+use station::limits::LEAST_RECORDS;
+use station::types::{Head, Preset, Refusal, Station};
 
-// Sets the clock: "slot t is about to begin". The causes 8 of the list and of the table, 2 of the head record, 11, then 2 where t is outside 0 to S + 1, and 6 where
-// it is below the present clock. The list and the table are only looked at, and the order of ties stays. A frame that 11 lets pass is such a frame afterwards.
+// Sets the clock: "slot t is about to begin". The causes 8 of the list and of the table, 2 of the
+// head record, 11, then 2 where t is outside 0 to S + 1, and 6 where it is below the present clock.
+// The list and the table are only looked at, and the order of ties stays. A frame that 11 lets pass
+// is such a frame afterwards.
 pub fn set_clock(
     head: Head,
     presets: &[Preset],
@@ -35,12 +39,18 @@ pub fn set_clock(
     let records = presets
         .first_chunk::<LEAST_RECORDS>()
         .ok_or(Refusal::TooShort)?;
-    set_clock_by_value(head, *records, table, moment, t)
+    let station = Station {
+        head,
+        presets: *records,
+    };
+    set_clock_by_value(&station, table, moment, t)
 }
 
-// One event line, its byte 10 included, on the table, the clock and the order of ties that the last event left: the causes 8 of the list and of the table, 2 of the head record, 11,
-// then those of the line, of its clock or of its call. A refusal changes nothing. A frame that 11 lets pass is such a frame afterwards, so that all of demand 3
-// holds of a list of events handed over one by one.
+// One event line, its byte 10 included, on the table, the clock and the order of ties that the last
+// event left: the causes 8 of the list and of the table, 2 of the head record, 11, then those of
+// the line, of its clock or of its call. A refusal changes nothing. A frame that 11 lets pass is
+// such a frame afterwards, so that all of demand 3 holds of a list of events handed over one by
+// one.
 pub fn event(
     head: Head,
     presets: &[Preset],
@@ -53,41 +63,45 @@ pub fn event(
     let records = presets
         .first_chunk::<LEAST_RECORDS>()
         .ok_or(Refusal::TooShort)?;
-    event_by_value(head, *records, table, moment, line)
+    let station = Station {
+        head,
+        presets: *records,
+    };
+    event_by_value(&station, table, moment, line)
 }
 
-// Sets the clock: "slot t is about to begin". The causes 8, 2 of the head record, 11, then 2 where t is outside 0 to S + 1, and 6 where it is below the
-// present clock. The table is only looked at, and the order of ties stays. A frame that 11 lets pass is such a frame afterwards.
+// Sets the clock: "slot t is about to begin". The causes 8, 2 of the head record, 11, then 2 where
+// t is outside 0 to S + 1, and 6 where it is below the present clock. The table is only looked at,
+// and the order of ties stays. A frame that 11 lets pass is such a frame afterwards.
 pub fn set_clock_by_value(
-    head: Head,
-    presets: [Preset; MOST_PRESETS],
+    station: &Station,
     table: &[Cell],
     moment: &mut Moment,
     t: usize,
 ) -> Result<Answer, Refusal>
-    ensures done { EventDone head presets (state_at table.now moment.old) (Event.clock t) table.now (outcome result moment.new) }
-    ensures kept { Running (head_in head presets) (state_at table.now moment.old) → Running (head_in head presets) (state_at table.now moment.new) }
-    ensures claim { Running (head_in head presets) (state_at table.now moment.old) → Demand3 (head_in head presets) (state_at table.now moment.old) (Event.clock t ∷ []) }
+    ensures done { EventDone station.now.head station.now.presets (state_at table.now moment.old) (Event.clock t) table.now (outcome result moment.new) }
+    ensures kept { Running (station_in station.now) (state_at table.now moment.old) → Running (station_in station.now) (state_at table.now moment.new) }
+    ensures claim { Running (station_in station.now) (state_at table.now moment.old) → Demand3 (station_in station.now) (state_at table.now moment.old) (Event.clock t ∷ []) }
 {
-    frame_cause(head, presets, table, moment.clock)?;
-    asked_clock(head.slots, moment, t)
+    frame_cause(station, table, moment.clock)?;
+    asked_clock(station.head.slots, moment, t)
 }
 
-// One event line, its byte 10 included, on the table, the clock and the order of ties that the last event left: the causes 8, 2 of the head record, 11, then those of the line,
-// of its clock or of its call. A refusal changes nothing. A frame that 11 lets pass is such a frame afterwards, so that all of demand 3 holds of a list of
-// events handed over one by one.
+// One event line, its byte 10 included, on the table, the clock and the order of ties that the last
+// event left: the causes 8, 2 of the head record, 11, then those of the line, of its clock or of
+// its call. A refusal changes nothing. A frame that 11 lets pass is such a frame afterwards, so
+// that all of demand 3 holds of a list of events handed over one by one.
 pub fn event_by_value(
-    head: Head,
-    presets: [Preset; MOST_PRESETS],
+    station: &Station,
     table: &mut [Cell],
     moment: &mut Moment,
     line: &[u8],
 ) -> Result<Answer, Refusal>
-    ensures done { EventDone head presets (state_at table.old moment.old) (Event.line line.now) table.new (outcome result moment.new) }
-    ensures kept { Running (head_in head presets) (state_at table.old moment.old) → Running (head_in head presets) (state_at table.new moment.new) }
-    ensures claim { Running (head_in head presets) (state_at table.old moment.old) → Demand3 (head_in head presets) (state_at table.old moment.old) (Event.line line.now ∷ []) }
+    ensures done { EventDone station.now.head station.now.presets (state_at table.old moment.old) (Event.line line.now) table.new (outcome result moment.new) }
+    ensures kept { Running (station_in station.now) (state_at table.old moment.old) → Running (station_in station.now) (state_at table.new moment.new) }
+    ensures claim { Running (station_in station.now) (state_at table.old moment.old) → Demand3 (station_in station.now) (state_at table.old moment.old) (Event.line line.now ∷ []) }
 {
-    frame_cause(head, presets, table, moment.clock)?;
-    let mut counts = Counts::of(head, presets, table, moment.clock);
-    event_by_counts(head, presets, table, moment, &mut counts, line)
+    frame_cause(station, table, moment.clock)?;
+    let mut counts = Counts::of(station, table, moment.clock);
+    event_by_counts(station, table, moment, &mut counts, line)
 }

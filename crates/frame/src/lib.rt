@@ -1,5 +1,5 @@
-// Layer 3, the running frame: one event, a whole text, a text of events, and the listing. What must be believed of it is specs/; the three demands are proved in proofs/Demands.antt.
-// The entries:
+// Layer 3, the running frame: one event, a whole text, a text of events, and the listing. What must
+// be believed of it is specs/; the three demands are proved in proofs/Demands.antt. The entries:
 #![tactic(auto)]
 
 pub mod event; // event.rt: set_clock and event, over a borrowed list of preset records; and with them by value

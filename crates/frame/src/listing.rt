@@ -1,4 +1,5 @@
-// The entries that write the listing of a text, or one line of it, at the start of an output. `write_slot` has its presets in a borrowed slice of records.
+// The entries that write the listing of a text, or one line of it, at the start of an output.
+// `write_slot` has its presets in a borrowed slice of records.
 pub(crate) mod bytes; // bytes.rt: the lines of the listing, as bytes
 
 ghost use Rattle.frame.specs.WroteLine.{answer_written, grant_written, slot_written, WroteLine};
@@ -13,7 +14,8 @@ use placing::cells::Cell;
 use placing::check::{FIRST_CLOCK, frame_cause};
 use placing::moment::Moment;
 use station::limits::{LEAST_CELLS, LEAST_OUTPUT, LEAST_RECORDS, MOST_BYTES};
-use station::types::{Head, NO_HEAD, NO_PRESETS, Preset, Refusal};
+use station::output::Writer;
+use station::types::{Head, NO_HEAD, NO_PRESETS, Preset, Refusal, Station};
 
 // Writes the line of an answer to the event of line `line`; the bytes past it stay.
 pub fn write_answer(
@@ -26,7 +28,9 @@ pub fn write_answer(
     if out.len() < LEAST_OUTPUT {
         return Err(Refusal::TooShort);
     }
-    Ok(answer_line(out, 0, line, answer))
+    let mut writer = Writer::new(out, 0);
+    answer_line(&mut writer, line, answer);
+    Ok(writer.place())
 }
 
 // Writes the granted line of the preset with this number; the bytes past it stay.
@@ -36,11 +40,14 @@ pub fn write_grant(number: u8, slots: u8, out: &mut [u8]) -> Result<usize, Refus
     if out.len() < LEAST_OUTPUT {
         return Err(Refusal::TooShort);
     }
-    Ok(granted_line(out, 0, usize::from(number), usize::from(slots)))
+    let mut writer = Writer::new(out, 0);
+    granted_line(&mut writer, usize::from(number), usize::from(slots));
+    Ok(writer.place())
 }
 
-// Writes the line of a slot, numbered from 1; the bytes past it stay. Refused with 8 for the output, for fewer than 32 preset records and for the table, with 2 for the head
-// record, 11 for the table, then with 2 for a slot outside 1 to S.
+// Writes the line of a slot, numbered from 1; the bytes past it stay. Refused with 8 for the
+// output, for fewer than 32 preset records and for the table, with 2 for the head record, 11 for
+// the table, then with 2 for a slot outside 1 to S.
 pub fn write_slot(
     head: Head,
     presets: &[Preset],
@@ -56,14 +63,21 @@ pub fn write_slot(
     let records = presets
         .first_chunk::<LEAST_RECORDS>()
         .ok_or(Refusal::TooShort)?;
-    frame_cause(head, *records, table, FIRST_CLOCK)?;
+    let station = Station {
+        head,
+        presets: *records,
+    };
+    frame_cause(&station, table, FIRST_CLOCK)?;
     if slot < 1 || head.slots < slot {
         return Err(Refusal::OutOfLimits);
     }
-    Ok(slot_line(out, 0, head.bridges, table, slot - 1))
+    let mut writer = Writer::new(out, 0);
+    slot_line(&mut writer, head.bridges, table, slot - 1);
+    Ok(writer.place())
 }
 
-// Runs a text from an empty head, and writes what it comes to: its listing, or the one line of whatever refuses it. Answers the next place.
+// Runs a text from an empty head, and writes what it comes to: its listing, or the one line of
+// whatever refuses it. Answers the next place.
 fn list(text: &[u8], table: &mut [Cell], out: &mut [u8]) -> usize
     ensures { ListsBeside text.now table.old out.old table.new out.new result }
 {
@@ -75,13 +89,18 @@ fn list(text: &[u8], table: &mut [Cell], out: &mut [u8]) -> usize
     };
     match run_text_by_value(text, &mut head, &mut presets, table, &mut moment, out) {
         Ok(end) => end,
-        Err(fault) => refused_line(out, 0, fault.line, fault.cause),
+        Err(fault) => {
+            let mut writer = Writer::new(out, 0);
+            refused_line(&mut writer, fault.line, fault.cause);
+            writer.place()
+        }
     }
 }
 
-// Writes the listing of a whole text at the start of the output, as far as it has room for it, and answers how many bytes it is; of a refused head or plan that
-// is its one refused line. 10 for a text above 32,768 bytes, then 8 for an output below 8,192 bytes or a table below 512 cells: these leave table and output
-// as they were. An output of 655,360 bytes has room for every listing.
+// Writes the listing of a whole text at the start of the output, as far as it has room for it, and
+// answers how many bytes it is; of a refused head or plan that is its one refused line. 10 for a
+// text above 32,768 bytes, then 8 for an output below 8,192 bytes or a table below 512 cells: these
+// leave table and output as they were. An output of 655,360 bytes has room for every listing.
 pub fn write_listing(text: &[u8], table: &mut [Cell], out: &mut [u8]) -> Result<usize, Refusal>
     ensures done { Listed text.now table.old out.old table.new out.new result }
     ensures whole { 655360 ≤ length out.old → ListedWhole text.now table.old out.old out.new result }

@@ -1,5 +1,6 @@
-// A whole text: head, plan, then every line as an event, and the listing as it comes. The entry `run_text` has its presets in a borrowed slice of records, `run_text_by_value` by
-// value.
+// A whole text: head, plan, then every line as an event, and the listing as it comes. The entry
+// `run_text` has its presets in a borrowed slice of records, `run_text_by_value` by value: it
+// stays, since who has 32 records meets no 8 of the list, and its contract says so.
 pub(crate) mod lines; // lines.rt: the lines of a text, or those after its head
 
 ghost use Rattle.frame.specs.Text.{whole_of};
@@ -15,11 +16,15 @@ use placing::moment::Moment;
 use placing::plan::plan_by_value;
 use station::heads::read_head_by_value;
 use station::limits::{LEAST_CELLS, LEAST_OUTPUT, LEAST_RECORDS, MOST_BYTES, MOST_PRESETS};
-use station::types::{Extent, Fault, Head, Preset, Refusal};
+use station::output::Writer;
+use station::types::{Extent, Fault, Head, Preset, Refusal, Station};
 
-// Runs a whole text, and answers how many bytes its listing is: 10 for more than 32,768 bytes, 8 for fewer than 32 preset records, an output below 8,192 bytes or a table below 512 cells,
-// then the head's causes, then 5; else every line after the head is answered, and the listing stands at the start of the output, as far as it has room for it. A refusal leaves
-// table, clock, order of ties and output as they were; the head and its records are those handed in, and with 5 those read. The records past the last preset stay.
+// Runs a whole text, and answers how many bytes its listing is: 10 for more than 32,768 bytes, 8
+// for fewer than 32 preset records, an output below 8,192 bytes or a table below 512 cells, then
+// the head's causes, then 5; else every line after the head is answered, and the listing stands at
+// the start of the output, as far as it has room for it. A refusal leaves table, clock, order of
+// ties and output as they were; the head and its records are those handed in, and with 5 those
+// read. The records past the last preset stay.
 pub fn run_text(
     text: &[u8],
     head: &mut Head,
@@ -39,32 +44,36 @@ pub fn run_text(
     run_text_by_value(text, head, records, table, moment, out)
 }
 
-// A head that was read, so much of the text: its plan, then the lines after it, and the listing. 5 leaves all as it was.
+// A head that was read, so much of the text: its plan, then the lines after it, and the listing. 5
+// leaves all as it was.
 fn run_head(
     text: &[u8],
     read: Extent,
-    head: Head,
-    presets: [Preset; MOST_PRESETS],
+    station: &Station,
     table: &mut [Cell],
     moment: &mut Moment,
     out: &mut [u8],
 ) -> Result<usize, Fault>
-    requires { HeadStart head presets text.now read.bytes read.lines table.old }
-    ensures { Leaves (whole_of text.now table.old) head presets table.old moment.old.clock moment.old.hold out.old table.new out.new (text_run result head presets moment.new) }
+    requires { HeadStart station.now.head station.now.presets text.now read.bytes read.lines table.old }
+    ensures { Leaves (whole_of text.now table.old) station.now.head station.now.presets table.old moment.old.clock moment.old.hold out.old table.new out.new (text_run result station.now.head station.now.presets moment.new) }
 {
-    let grants = plan_by_value(head, presets, table).map_err(|cause| cause.at(read.lines))?;
-    let granted = granted_lines(out, 0, presets, grants, head.count);
+    let grants = plan_by_value(station, table).map_err(|cause| cause.at(read.lines))?;
+    let mut writer = Writer::new(out, 0);
+    granted_lines(&mut writer, station.presets, grants, station.head.count);
     *moment = Moment {
         clock: FIRST_CLOCK,
-        hold: head.hold,
+        hold: station.head.hold,
     };
-    let answered = run_lines(text, read, head, presets, table, moment, out, granted);
-    Ok(slot_lines(out, answered, head.slots, head.bridges, table))
+    run_lines(text, read, station, table, moment, &mut writer);
+    slot_lines(&mut writer, station.head.slots, station.head.bridges, table);
+    Ok(writer.place())
 }
 
-// Runs a whole text, and answers how many bytes its listing is: 10 for more than 32,768 bytes, 8 for an output below 8,192 bytes or a table below 512 cells, then the head's causes,
-// then 5; else every line after the head is answered, and the listing stands at the start of the output, as far as it has room for it. A refusal leaves table, clock, order of ties
-// and output as they were; the head is the one handed in, and with 5 the one read.
+// Runs a whole text, and answers how many bytes its listing is: 10 for more than 32,768 bytes, 8
+// for an output below 8,192 bytes or a table below 512 cells, then the head's causes, then 5; else
+// every line after the head is answered, and the listing stands at the start of the output, as far
+// as it has room for it. A refusal leaves table, clock, order of ties and output as they were; the
+// head is the one handed in, and with 5 the one read.
 pub fn run_text_by_value(
     text: &[u8],
     head: &mut Head,
@@ -83,5 +92,9 @@ pub fn run_text_by_value(
         return Err(Refusal::TooShort.into());
     }
     let read = read_head_by_value(text, head, presets)?;
-    run_head(text, read, *head, *presets, table, moment, out)
+    let station = Station {
+        head: *head,
+        presets: *presets,
+    };
+    run_head(text, read, &station, table, moment, out)
 }

@@ -1,9 +1,11 @@
 -- The entries on the running frame, law by law.
 --
--- In order: what is asked for on a frame that meets no cause (`asked_stopped`, `asked_carried`); a clock, a law for each answer, and the counts that it leaves (`clock_counts`); an
--- event line as it was read, a law for what each asks (`line_clock`, `line_place`, `line_tie`, `line_fault`), and that it is what the line asks for (`asked_read`); the causes of the
--- frame (`frame_passes`); where none is met, a line and a clock come to what the event does (`line_event_lem`, `line_done`, `clock_done`); a law for each answer of an entry; the frame
--- afterwards (`done_running`).
+-- In order: what is asked for on a frame that meets no cause (`asked_stopped`, `asked_carried`); a
+-- clock, a law for each answer, and the counts that it leaves (`clock_counts`); an event line as it
+-- was read, a law for what each asks (`line_clock`, `line_place`, `line_tie`, `line_fault`), and
+-- that it is what the line asks for (`asked_read`); the causes of the frame (`frame_passes`); where
+-- none is met, a line and a clock come to what the event does (`line_event_lem`, `line_done`,
+-- `clock_done`); a law for each answer of an entry; the frame afterwards (`done_running`).
 -- Assumes nothing.
 use Prim.Native.Nat.{ℕ, zero, suc, ◌≤◌, ◌<◌}
 use native.Mathlib.Omega.{arith}

@@ -1,7 +1,9 @@
 -- An event where the preset records stand in a list, law by law.
 --
--- In order: fewer than 32 records (`event_few`) and enough of them (`event_enough`); an event on the first 32 records by value is one on the list (`event_list`);
--- a refusal leaves what there was (`meant_refused`, `event_unchanged`), and the frame afterwards (`event_running`); the entries `set_clock` and `event` (`event_entry`, `entry_few`, `entry_enough`).
+-- In order: fewer than 32 records (`event_few`) and enough of them (`event_enough`); an event on
+-- the first 32 records by value is one on the list (`event_list`); a refusal leaves what there was
+-- (`meant_refused`, `event_unchanged`), and the frame afterwards (`event_running`); the entries
+-- `set_clock` and `event` (`event_entry`, `entry_few`, `entry_enough`).
 -- Assumes nothing.
 use Prim.Native.Nat.{ℕ, ◌≤◌, ◌<◌}
 use mathlib.Core.Path.{◌≡◌, refl, sym, ◌∙◌, ap, subst}

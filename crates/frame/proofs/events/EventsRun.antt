@@ -1,8 +1,10 @@
 -- The lines of a text without a head as events on a lent frame, law by law.
 --
--- In order: a refusal, a law for each cause (`events_long`, `events_few`, `events_short`, `events_stopped`), and no cause: what the loop over the lines starts from (`events_start`) and
--- leaves (`events_ran`); the frame afterwards, a refusal that changes nothing, and the claim (`events_claim`); a list of 32 records or more (`meant_enough`), and the first 32 by
--- value are those of the list (`events_entry`); the entry (`entry_long`, `entry_few`, `entry_enough`).
+-- In order: a refusal, a law for each cause (`events_long`, `events_few`, `events_short`,
+-- `events_stopped`), and no cause: what the loop over the lines starts from (`events_start`) and
+-- leaves (`events_ran`); the frame afterwards, a refusal that changes nothing, and the claim
+-- (`events_claim`); a list of 32 records or more (`meant_enough`), and the first 32 by value are
+-- those of the list (`events_entry`); the entry (`entry_long`, `entry_few`, `entry_enough`).
 -- Assumes nothing.
 use Prim.Native.Nat.{ℕ, ◌≤◌, ◌<◌}
 use native.Mathlib.Omega.{arith}
@@ -13,17 +15,18 @@ use mathlib.Core.List.{List, [], ◌∷◌}
 use lib.ListN.{length, take}
 use lib.Dec.{ltb, leb}
 use Rattle.std.specs.Prelude.{Result, Ok, Err}
-use Rattle.laws.proofs.Comparisons.{le_of, ge_of, ltb_yes, ltb_no}
+use Rattle.laws.proofs.Comparisons.{le_of, ltb_yes, ltb_no}
 use Rattle.station.specs.Head.{Head, valid}
 use Rattle.station.specs.Refusal.{Refusal, out_of_limits, too_short, not_well_formed, text_too_long, try, first_of}
 use Rattle.station.specs.Types.{head_in, refusal_in}
+use Rattle.station.specs.declared.output.Writer.{Writer}
 use Rattle.station.specs.declared.types.Preset as record-of-preset
 use Rattle.station.specs.declared.types.Head as record-of-head
 use Rattle.station.specs.declared.types.Refusal as cause
 use Rattle.station.specs.declared.types.Fault.{Fault}
 use Rattle.station.specs.ReadHead.{fault}
 use Rattle.station.specs.declared.types.Refusal.TheVariants.{TooShort, TextTooLong}
-use Rattle.station.proofs.Theorems.{passed, head_list}
+use Rattle.station.proofs.Theorems.{passed, head_list, writes_out}
 use Rattle.placing.specs.declared.moment.Moment.{Moment}
 use Rattle.placing.specs.State.{State, state_of, well_formed_frame}
 use Rattle.placing.specs.Causes.{cause_in, frame_causes_of}
@@ -33,7 +36,7 @@ use Rattle.frame.specs.Event.{run_of}
 use Rattle.frame.specs.Demands.{state_at, event_at, EventIs}
 use Rattle.frame.specs.TextDone.{listed, refused_at, end_in}
 use Rattle.frame.specs.EventsDone.{all_events, events_causes, EventsOutcome, answers_written, events_meant, EventsAnswer, events_answer, EventsLeft, EventsClaim, EventsEntry}
-use Rattle.frame.specs.method.TextLines.{LinesStart, lines_answer, RanLines}
+use Rattle.frame.specs.method.TextLines.{LinesStart, RanLines}
 use Rattle.frame.proofs.EventList.{outcome_at}
 use Rattle.frame.proofs.OneEvent.{event_is}
 use Rattle.frame.proofs.Demands.{demand_3}
@@ -98,11 +101,12 @@ module _ (n : ℕ) (head : record-of-head.Head) (ps : List record-of-preset.Pres
 
         -- ---- no cause
 
-        pub events_ran : {w : Result Unit cause.Refusal} {v : Unit} {t₁ out₁ : List ℕ} {end : ℕ} {k : Moment} → cause_in w ≡ first_of (frame_causes_of head ps st) → w ≡ Ok v
-            → RanLines h text 0 0 st out 0 t₁ out₁ (lines_answer end k) → EventsLeft (events_meant n head ps st text out) t₁ out₁ (events_answer (Ok end) k)
-        events_ran {t₁ = t₁} {out₁ = out₁} {end = end} {k = k} e m y =
+        pub events_ran : {w : Result Unit cause.Refusal} {v : Unit} {w₀ w₁ : Writer} {t₁ out₁ : List ℕ} {end : ℕ} {k : Moment} → cause_in w ≡ first_of (frame_causes_of head ps st) → w ≡ Ok v
+            → w₀.out.now ≡ out → w₀.at ≡ 0 → RanLines h text 0 0 st w₀ t₁ k w₁ → out₁ ≡ w₁.out.now → end ≡ w₁.at → EventsLeft (events_meant n head ps st text out) t₁ out₁ (events_answer (Ok end) k)
+        events_ran {t₁ = t₁} {out₁ = out₁} {end = end} {k = k} e m p q y r s =
+            let written = writes_out y.output p q r s in
             subst (λ (o : EventsOutcome). EventsLeft o t₁ out₁ (events_answer (Ok end) k)) (sym (runs (sym e ∙ ap cause_in m)))
-            (record { ended = ap listed y.output.position; table = y.table; clock = y.clock; hold = y.hold; output = y.output.output })
+            (record { ended = ap listed written.position; table = y.table; clock = y.clock; hold = y.hold; output = written.output })
 
     pub events_start : {w : Result Unit cause.Refusal} {v : Unit} → cause_in w ≡ first_of (frame_causes_of head ps st) → w ≡ Ok v → LinesStart head ps text 0 0 st
     events_start e m =
@@ -152,7 +156,8 @@ module _ (n : ℕ) (head : record-of-head.Head) (ps : List record-of-preset.Pres
 
 -- ---- the first 32 records by value
 
--- an outcome by the causes before 2, a count within 32 or not, and the head that the records stand for
+-- an outcome by the causes before 2, a count within 32 or not, and the head that the records stand
+-- for
 module _ (st : State) (f : Head → EventsOutcome) (g : Refusal → EventsOutcome) where
   abbrev outcome : Bool → Bool → Bool → Bool → Bool → Head → EventsOutcome
   outcome few short long room cells h =

@@ -1,6 +1,8 @@
--- How long the listing of a text can be: an output of 655,360 bytes has room for that of every text.
+-- How long the listing of a text can be: an output of 655,360 bytes has room for that of every
+-- text.
 --
--- In order: one line of each kind, granted lines and slot lines; the answers to a list of events (`answers_size`); the line of a refusal; `listing_fits`.
+-- In order: one line of each kind, granted lines and slot lines; the answers to a list of events
+-- (`answers_size`); the line of a refusal; `listing_fits`.
 -- Assumes nothing.
 use Prim.Native.Nat.{ℕ, zero, suc, ◌+◌, ◌*◌, ◌≤◌, ◌<◌}
 use native.Mathlib.Nat.{mod-lt}

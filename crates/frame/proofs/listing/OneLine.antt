@@ -1,9 +1,10 @@
 -- Laws of the entries that write one line of the listing.
 --
--- In order: an output that is too short for a line, and one that is not (`line_short`, `line_whole`); the line of a slot, by the cause that holds (`slot_few`, `slot_stopped`, `slot_none`, `slot_written_lem`), and
--- with the first 32 records of a list by value (`slot_list`).
+-- In order: an output that is too short for a line, and one that is not (`line_short`,
+-- `line_whole`); the line of a slot, by the cause that holds (`slot_few`, `slot_stopped`,
+-- `slot_none`, `slot_written_lem`), and with the first 32 records of a list by value (`slot_list`).
 -- Assumes nothing.
-use Prim.Native.Nat.{ℕ, zero, suc, ◌+◌, ◌-◌, ◌*◌, ◌^◌, ◌≤◌, ◌<◌}
+use Prim.Native.Nat.{ℕ, ◌-◌, ◌≤◌, ◌<◌}
 use native.Mathlib.Omega.{arith}
 use mathlib.Core.Path.{◌≡◌, refl, sym, ◌∙◌, ap, subst}
 use mathlib.Core.Bool.{Bool, true, false, not, ◌&&◌}
@@ -13,9 +14,9 @@ use mathlib.Core.List.{List, [], ◌∷◌, ◌++◌}
 use lib.ListN.{length, take}
 use lib.Dec.{ltb, leb}
 use Rattle.std.specs.Prelude.{Result, Ok, Err}
-use Rattle.laws.proofs.Comparisons.{le_of, ge_of, ltb_yes, ltb_no, leb_yes, leb_no}
+use Rattle.laws.proofs.Comparisons.{le_of, ltb_yes, ltb_no, leb_yes, leb_no}
 use Rattle.station.specs.Head.{Head, within, valid}
-use Rattle.station.specs.Refusal.{Refusal, out_of_limits, too_short, not_well_formed, number_of, try, first_of}
+use Rattle.station.specs.Refusal.{Refusal, out_of_limits, too_short, not_well_formed, try, first_of}
 use Rattle.station.specs.Types.{refusal_in, head_in}
 use Rattle.station.specs.Wrote.{Wrote}
 use Rattle.station.specs.WriteHead.{written}
@@ -105,7 +106,8 @@ module _ (n : ℕ) (head : record-of-head.Head) (ps : List record-of-preset.Pres
 
 -- ---- the first 32 records by value
 
--- the line of a slot by the causes before 2, a count within 32 or not, and the head that the records stand for
+-- the line of a slot by the causes before 2, a count within 32 or not, and the head that the
+-- records stand for
 module _ (slots : ℕ) (t : List ℕ) (s : ℕ) (out : List ℕ) where
   abbrev written_by : Bool → Bool → Bool → Bool → Head → WriteOutcome
   written_by few short room cells h =

@@ -1,7 +1,8 @@
 -- The listing of a whole text, law by law.
 --
--- In order: what a text that ran or was refused leaves once its listing is written (`lists_ran`, `lists_refused`); the cause (`cause-..`); the entry's answers
--- (`listed_refused`, `listed_written`).
+-- In order: what a text that ran or was refused leaves once its listing is written (`lists_ran`,
+-- `lists_refused`); the cause (`cause-..`); the entry's answers (`listed_refused`,
+-- `listed_written`).
 -- Assumes nothing.
 use Prim.Native.Nat.{ℕ, ◌≤◌, ◌<◌}
 use native.Mathlib.Omega.{arith}

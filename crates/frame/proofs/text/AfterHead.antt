@@ -1,7 +1,9 @@
 -- From a head that was read and planned to the lines after it, for the loop over them.
 --
--- In order: the lines after the first n (`lines_from`), and the bytes before them (`bytes_inside`, `forms_bytes`); of a text whose head was read: that it is
--- not too long (`read_short`), its events (`events_after`), what the loop starts from (`lines_start`), and what the whole text comes to (`whole_ran`).
+-- In order: the lines after the first n (`lines_from`), and the bytes before them (`bytes_inside`,
+-- `forms_bytes`); of a text whose head was read: that it is not too long (`read_short`), its events
+-- (`events_after`), what the loop starts from (`lines_start`), and what the whole text comes to
+-- (`whole_ran`).
 -- Assumes nothing.
 use Prim.Native.Nat.{ℕ, zero, suc, ◌+◌, ◌≤◌, ◌<◌}
 use native.Mathlib.Omega.{arith}
@@ -114,7 +116,8 @@ module _ (text : List ℕ) (h : Head) (n : ℕ) (reads : head_of text ≡ Readin
       ∙ ap (λ (a : PlanAnswer). whole_with_plan text h n a (plan_of h t).table) q
       ∙ ap (λ (es : List Event). ran h n g (run_of h (start_of h (plan_of h t).table) es)) events_after
 
--- The loop starts from a head that was read, its n lines and its k bytes, and the table of its plan.
+-- The loop starts from a head that was read, its n lines and its k bytes, and the table of its
+-- plan.
 pub lines_start : {text : List ℕ} {old : List record-of-preset.Preset} {r : HeadRead} {n k : ℕ} → ReadAccepted text old r n k
     → (t g : List ℕ) → (plan_of (head_in r.head r.presets) t).answer ≡ PlanAnswer.granted g
     → LinesStart r.head r.presets text k n (start_of (head_in r.head r.presets) (plan_of (head_in r.head r.presets) t).table)

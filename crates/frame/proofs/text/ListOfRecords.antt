@@ -1,7 +1,9 @@
 -- A whole text where the preset records stand in a list, law by law.
 --
--- In order: a text that is too long, fewer than 32 records, and enough of them (`listed_long`, `listed_few`, `listed_other`), and the claim (`list_claim`); what a refusal leaves
--- (`refused_same`); the first 32 records as a text leaves them, before the others (`left_list`); the entry `run_text` (`entry_long`, `entry_few`, `entry_enough`).
+-- In order: a text that is too long, fewer than 32 records, and enough of them (`listed_long`,
+-- `listed_few`, `listed_other`), and the claim (`list_claim`); what a refusal leaves
+-- (`refused_same`); the first 32 records as a text leaves them, before the others (`left_list`);
+-- the entry `run_text` (`entry_long`, `entry_few`, `entry_enough`).
 -- Assumes nothing.
 use Prim.Native.Nat.{ℕ, ◌≤◌, ◌<◌}
 use native.Mathlib.Omega.{arith}

@@ -1,7 +1,10 @@
--- A whole text beside a lent table and a lent output: what it comes to case by case, and what the code leaves in each case.
+-- A whole text beside a lent table and a lent output: what it comes to case by case, and what the
+-- code leaves in each case.
 --
--- In order: the outcome by the causes 10 and 8 (`beside-..`, `whole-..`), and the claim of it (`text_claim`); a refusal (`leaves_refused`); a head that was read
--- and its plan (`run_refused`, `lines_may_start`, `run_done`); the reading handed on (`run_unread`, `head_start`, `run_accepted`).
+-- In order: the outcome by the causes 10 and 8 (`beside-..`, `whole-..`), and the claim of it
+-- (`text_claim`); a refusal (`leaves_refused`); a head that was read and its plan (`run_refused`,
+-- `lines_may_start`, `run_done`); the reading handed on (`run_unread`, `head_start`,
+-- `run_accepted`).
 -- Assumes nothing.
 use Prim.Native.Nat.{ℕ, suc, ◌+◌, ◌≤◌, ◌<◌}
 use native.Mathlib.Omega.{arith}
@@ -23,12 +26,13 @@ use Rattle.station.specs.Refusal.{Refusal, too_short, text_too_long, first_of}
 use Rattle.station.specs.Reading.{Reading, head_of}
 use Rattle.station.specs.Types.{refusal_in, presets_in, head_in, valid_record}
 use Rattle.station.specs.ReadHead.{head_record, record_of, records_over, extent, fault, HeadRead}
-use Rattle.station.specs.Wrote.{Wrote}
+use Rattle.station.specs.Wrote.{Wrote, Writes}
+use Rattle.station.specs.declared.output.Writer.{Writer}
 use Rattle.station.specs.declared.types.Preset as record-of-preset
 use Rattle.station.specs.declared.types.Head as record-of-head
 use Rattle.station.specs.declared.types.Refusal as cause
 use Rattle.station.specs.declared.types.Fault.{Fault}
-use Rattle.station.proofs.Theorems.{of_valid, read_valid, records_back, ReadAccepted, ReadRefused, wrote_then}
+use Rattle.station.proofs.Theorems.{of_valid, read_valid, records_back, ReadAccepted, ReadRefused, writes_then, writes_out}
 use Rattle.placing.specs.Outcomes.{PlanAnswer, PlanOutcome, plan_causes, plan_of}
 use Rattle.placing.specs.PlanDone.{plan_meant, replied_in, PlanDone}
 use Rattle.placing.specs.State.{State, state_at}
@@ -38,7 +42,7 @@ use Rattle.frame.specs.Event.{Run}
 use Rattle.frame.specs.Text.{Whole, not_read, not_planned, ran, start_of, events_of, whole_with_plan, whole_with_head, whole_of}
 use Rattle.frame.specs.Listing.{granted_lines, slot_lines, listing_of}
 use Rattle.frame.specs.method.SlotLines.{lines_of_slots}
-use Rattle.frame.specs.method.TextLines.{LinesStart, lines_run, Lines, lines_answer, RanLines}
+use Rattle.frame.specs.method.TextLines.{LinesStart, lines_run, RanLines}
 use Rattle.frame.specs.TextDone.{whole_with_output, End, TextRun, text_run, end_of, head_after, presets_after, table_after, clock_after, hold_after, output_after, Leaves, TextClaim}
 use Rattle.frame.specs.method.TextParts.{HeadStart}
 use Rattle.frame.proofs.listing.bytes.SlotLines.{slot_lines_head}
@@ -238,22 +242,24 @@ module _ {head : record-of-head.Head} {ps : List record-of-preset.Preset} {text 
           ∙ ap (λ (v : List ℕ). ran h n g (lines_run h text k (start_of h v))) (sym table_is)
 
       -- granted lines, answers and slots make the listing
-      listing_wrote : {out l₁ l₂ l₃ v : List ℕ} {position end : ℕ} {r : Lines}
-          → Wrote out 0 (granted_lines grants 0 (presets_in head.count ps)) l₁ position → RanLines h text k n (start_of h u) l₁ position v l₂ r
-          → Wrote l₂ r.position (lines_of_slots head.slots head.bridges v) l₃ end → Wrote out 0 (listing_of (ran h n g x)) l₃ end
+      listing_wrote : {w w₁ w₂ w₃ : Writer} {v : List ℕ} {m : Moment}
+          → Writes w (granted_lines grants 0 (presets_in head.count ps)) w₁ → RanLines h text k n (start_of h u) w₁ v m w₂
+          → Writes w₂ (lines_of_slots head.slots head.bridges v) w₃ → Writes w (listing_of (ran h n g x)) w₃
       unfolding listing_of
-      listing_wrote {l₂} {l₃} {v} {end} {r} w₁ y w₃ =
+      listing_wrote {v = v} a y b =
           let first : granted_lines grants 0 h.presets ≡ granted_lines g 0 h.presets =
           granted_take grants head.count 0 h.presets (omega (arith, s.count)) in
           let last : lines_of_slots head.slots head.bridges v ≡ slot_lines h x.after.table 0 h.slots =
           slot_lines_head h v ok.slots_high ok.bridges_high ∙ ap (λ (m : List ℕ). slot_lines h m 0 h.slots) y.table in
-          wrote_then (rw first at w₁) (wrote_then y.output (rw last at w₃))
+          writes_then (rw first at a) (writes_then y.output (rw last at b))
 
-      pub run_done : (clock : ℕ) (hold : Bool) {out l₁ l₂ l₃ v : List ℕ} {position answered end : ℕ} {m : Moment}
-          → Wrote out 0 (granted_lines grants 0 (presets_in head.count ps)) l₁ position → RanLines h text k n (start_of h u) l₁ position v l₂ (lines_answer answered m)
-          → Wrote l₂ answered (lines_of_slots head.slots head.bridges v) l₃ end → Leaves (whole_of text t) head ps t clock hold out v l₃ (text_run (Ok end) head ps m)
-      run_done clock hold {out} w₁ y w₃ =
-          leaves_ran head ps t clock hold out h n g x whole_is own_head own_presets (listing_wrote w₁ y w₃) (rw (y.table, y.clock, y.hold) refl)
+      pub run_done : (clock : ℕ) (hold : Bool) {w w₁ w₂ w₃ : Writer} {out out₁ v : List ℕ} {end : ℕ} {m : Moment}
+          → w.out.now ≡ out → w.at ≡ 0
+          → Writes w (granted_lines grants 0 (presets_in head.count ps)) w₁ → RanLines h text k n (start_of h u) w₁ v m w₂
+          → Writes w₂ (lines_of_slots head.slots head.bridges v) w₃ → out₁ ≡ w₃.out.now → end ≡ w₃.at
+          → Leaves (whole_of text t) head ps t clock hold out v out₁ (text_run (Ok end) head ps m)
+      run_done clock hold {out = out} p q a y b r s =
+          leaves_ran head ps t clock hold out h n g x whole_is own_head own_presets (writes_out (listing_wrote a y b) p q r s) (rw (y.table, y.clock, y.hold) refl)
 
 -- what is known where an error was put in place of another
 pub mapped_err : {X E D : Type 0} (P : E → D → Type 0) (r : Result X E) (q : Result X D) (d : D) → MatchResult r (λ x. q ≡ Ok x) (λ e. IsErrAnd q (P e)) → q ≡ Err d
@@ -288,7 +294,8 @@ pub head_start : {text : List ℕ} {old : List record-of-preset.Preset} {r : Hea
     → HeadStart r.head r.presets text k n t
 head_start a l = record { reads = a.reads; bytes = a.bytes; count = a.count; long = l }
 
--- after a head that was read it does not matter which one was handed in, nor what records beside those past the last preset
+-- after a head that was read it does not matter which one was handed in, nor what records beside
+-- those past the last preset
 head_read_lem : (text : List ℕ) (h : Head) (n : ℕ) (y : PlanAnswer) (v : List ℕ) (a b : record-of-head.Head)
     → head_after (whole_with_plan text h n y v) a ≡ head_after (whole_with_plan text h n y v) b
 unfolding whole_with_plan head_after

@@ -1,6 +1,9 @@
--- The parts of an event, where the causes of the frame itself (8, 2 of a head record, 11) are not tried: what the code that they are made of is held to. Document 01, "Causes".
+-- The parts of an event, where the causes of the frame itself (8, 2 of a head record, 11) are not
+-- tried: what the code that they are made of is held to. Document 01, "Causes".
 --
--- In order: a clock (`clock_causes`, `clock_answer`, `clock_after`, `ClockDone`); what an event line asks for, as it was read (`asked_in`), and what that comes to (`line_outcome`, `line_meant`).
+-- In order: a clock (`clock_causes`, `clock_answer`, `clock_after`, `ClockDone`); what an event
+-- line asks for, as it was read (`asked_in`), and what that comes to (`line_outcome`,
+-- `line_meant`).
 -- Assumes nothing.
 use Rattle.std.specs.Prelude.{ℕ, ◌≡◌, Bool, not, List, [], ◌∷◌, ltb, Result, Ok, Err}
 use Rattle.std.proofs.Math.Option.{Option, none, some}
@@ -21,7 +24,8 @@ use Rattle.frame.specs.Types as result
 use Rattle.frame.specs.Event.{Asked, set_clock, set_tie, place_jobs, fault, Answer, clock_now, tie_now, refused, answer_of, Outcome, clock_state, tie_state}
 use Rattle.frame.specs.Types.{answer_in}
 
--- The causes of a clock itself, on a frame of so many slots at the clock c: a t outside 0 to S + 1 and "a clock below the present one".
+-- The causes of a clock itself, on a frame of so many slots at the clock c: a t outside 0 to S + 1
+-- and "a clock below the present one".
 abbrev pub clock_causes : ℕ → ℕ → ℕ → List (Option Refusal)
 clock_causes slots c t = try out_of_limits (not (clock_in slots t)) ∷ try clock_back (ltb t c) ∷ []
 
@@ -39,15 +43,17 @@ pub record ClockDone (slots c : ℕ) (order : Bool) (t : ℕ) (r : result.Outcom
   pub clock : r.clock ≡ clock_after slots c t
   pub hold : r.hold ≡ order
 
--- What an event line asks for, as it was read: a clock that stops at 65,535, the jobs that were kept, an order of ties, or the fault.
+-- What an event line asks for, as it was read: a clock that stops at 65,535, the jobs that were
+-- kept, an order of ties, or the fault.
 abbrev pub asked_in : Result read.Event cause.Refusal → Asked
 asked_in (Ok (Clock t)) = set_clock t
 asked_in (Ok (Call c)) = place_jobs (call_jobs c.count c.jobs)
 asked_in (Ok (Tie hold)) = set_tie hold
 asked_in (Err r) = fault (refusal_in r)
 
--- What that comes to: a clock is refused by its own causes alone or set, and the table stays; a call is what `call_meant` says, which tries the causes of the
--- frame itself, and the clock stays; a tie is set; a fault changes nothing.
+-- What that comes to: a clock is refused by its own causes alone or set, and the table stays; a
+-- call is what `call_meant` says, which tries the causes of the frame itself, and the clock stays;
+-- a tie is set; a fault changes nothing.
 unfoldable pub line_outcome : record-of-head.Head → List record-of-preset.Preset → State → Asked → Outcome
 line_outcome head ps st (set_clock t) =
     elim (first_of (clock_causes head.slots st.clock t)) [
@@ -58,6 +64,7 @@ line_outcome head ps st (set_tie hold) = record { answer = tie_now hold; after =
 line_outcome head ps st (place_jobs jobs) = record { answer = answer_of (call_meant head ps jobs st).answer; after = (call_meant head ps jobs st).after }
 line_outcome head ps st (fault r) = record { answer = refused 0 r; after = st }
 
--- An event line, by what was read of it. On a frame that meets none of its own causes this is `event_of` of the line: `line_event_lem` of proofs/Running.
+-- An event line, by what was read of it. On a frame that meets none of its own causes this is
+-- `event_of` of the line: `line_event_lem` of proofs/Running.
 abbrev pub line_meant : record-of-head.Head → List record-of-preset.Preset → State → List ℕ → Outcome
 line_meant head ps st l = line_outcome head ps st (asked_in (event_in (form l)))

@@ -1,4 +1,5 @@
--- The lines of slots as the code writes them: from the number of bridges and the table, whatever they are. Document 01, "One listing, whole".
+-- The lines of slots as the code writes them: from the number of bridges and the table, whatever
+-- they are. Document 01, "One listing, whole".
 -- Assumes nothing.
 use Rattle.std.specs.Prelude.{ℕ, false, cond, ◌&&◌, List, [], ltb, leb}
 use Rattle.station.specs.Limits.{most_slots, most_bridges}

@@ -1,12 +1,13 @@
--- What the lines of a text from a byte on come to, as events on a running frame, and the bytes that answer them. Document 01, "The station text" and "One
--- listing, whole".
+-- What the lines of a text from a byte on come to, as events on a running frame, and the bytes that
+-- answer them. Document 01, "The station text" and "One listing, whole".
 -- Assumes nothing.
-use Rattle.std.specs.Prelude.{ℕ, ◌≤◌, ◌≡◌, Bool, List, map, true, length, drop}
+use Rattle.std.specs.Prelude.{ℕ, ◌≤◌, ◌≡◌, List, map, true, length, drop}
 use Rattle.station.specs.Limits.{most_bytes}
 use Rattle.station.specs.Head.{Head}
 use Rattle.station.specs.Text.{lines}
 use Rattle.station.specs.Types.{head_in, valid_record}
-use Rattle.station.specs.Wrote.{Wrote}
+use Rattle.station.specs.Wrote.{Writes}
+use Rattle.station.specs.declared.output.Writer.{Writer}
 use Rattle.station.specs.declared.types.Preset as record-of-preset
 use Rattle.station.specs.declared.types.Head as record-of-head
 use Rattle.placing.specs.State.{State}
@@ -15,8 +16,8 @@ use Rattle.placing.specs.Claims.{Running}
 use Rattle.frame.specs.Event.{Event, line, Run, run_of}
 use Rattle.frame.specs.Listing.{answer_lines}
 
--- What the lines start from: the head, the table, the clock and the order of ties make a running frame, the byte and the number of the lines before it are within the text, which
--- is not too long.
+-- What the lines start from: the head, the table, the clock and the order of ties make a running
+-- frame, the byte and the number of the lines before it are within the text, which is not too long.
 pub record LinesStart (head : record-of-head.Head) (ps : List record-of-preset.Preset) (text : List ℕ) (from first : ℕ) (st : State) : Type 0 where
   pub valid : valid_record head ps ≡ true
   pub running : Running (head_in head ps) st
@@ -32,18 +33,10 @@ events_from text at = map line (lines (drop at text))
 abbrev pub lines_run : Head → List ℕ → ℕ → State → Run
 lines_run h text from st = run_of h st (events_from text from)
 
--- what the lines leave beside the table and the output: the clock, the order of ties, and the place after the last answer
-pub record Lines : Type 0 where
-  pub clock : ℕ
-  pub hold : Bool
-  pub position : ℕ
-
-abbrev pub lines_answer : ℕ → Moment → Lines
-lines_answer position m = record { clock = m.clock; hold = m.hold; position = position }
-
--- The table is now u, and the output l is now l₁: each line from the byte on was an event, and its answer was written. `first` lines went before.
-pub record RanLines (h : Head) (text : List ℕ) (from first : ℕ) (st : State) (l : List ℕ) (position : ℕ) (u l₁ : List ℕ) (r : Lines) : Type 0 where
+-- The table is now u, the clock and the order of ties m, and the writer w is now w₁: each line from
+-- the byte on was an event, and its answer was written. `first` lines went before.
+pub record RanLines (h : Head) (text : List ℕ) (from first : ℕ) (st : State) (w : Writer) (u : List ℕ) (m : Moment) (w₁ : Writer) : Type 0 where
   pub table : u ≡ (lines_run h text from st).after.table
-  pub clock : r.clock ≡ (lines_run h text from st).after.clock
-  pub hold : r.hold ≡ (lines_run h text from st).after.hold
-  pub output : Wrote l position (answer_lines first (lines_run h text from st).answers) l₁ r.position
+  pub clock : m.clock ≡ (lines_run h text from st).after.clock
+  pub hold : m.hold ≡ (lines_run h text from st).after.hold
+  pub output : Writes w (answer_lines first (lines_run h text from st).answers) w₁

@@ -1,6 +1,7 @@
-// What an event asks for, where the frame's own causes (8, a head record's 2, 11) are not tried: the causes of the event itself, and then it is carried out.
+// What an event asks for, where the frame's own causes (8, a head record's 2, 11) are not tried:
+// the causes of the event itself, and then it is carried out.
 ghost use Rattle.std.specs.Prelude.{◌≡◌, true};
-ghost use Rattle.station.specs.Types.{head_in, valid_record};
+ghost use Rattle.station.specs.Types.{station_in, valid_station};
 ghost use Rattle.placing.specs.Table.{cell};
 ghost use Rattle.placing.specs.Claims.{Running};
 ghost use Rattle.placing.specs.method.Counts.{CountsOf};
@@ -16,10 +17,10 @@ use placing::check::clock_in;
 use placing::counts::Counts;
 use placing::moment::Moment;
 use station::events::{Event, read_event};
-use station::limits::MOST_PRESETS;
-use station::types::{Head, Preset, Refusal};
+use station::types::{Refusal, Station};
 
-// Sets the clock of a frame of so many slots: 2 for a clock outside 0 to S + 1, 6 for one below the present clock, which stays.
+// Sets the clock of a frame of so many slots: 2 for a clock outside 0 to S + 1, 6 for one below the
+// present clock, which stays.
 pub(crate) fn asked_clock(slots: usize, moment: &mut Moment, to: usize) -> Result<Answer, Refusal>
     ensures { ClockDone slots moment.old.clock moment.old.hold to (outcome result moment.new) }
 {
@@ -33,31 +34,33 @@ pub(crate) fn asked_clock(slots: usize, moment: &mut Moment, to: usize) -> Resul
     Ok(Answer::Now(to))
 }
 
-// An event line on a running frame, by what it asks for alone: its clock or its order of ties is set, its call placed by the counts of the table and the clock, or its fault handed back. The
-// counts afterwards are those of what it leaves. It is a part of `event_by_value` and of the loop over a text's lines: they have tried the frame's own causes, and the loop
-// keeps the counts between events.
+// An event line on a running frame, by what it asks for alone: its clock or its order of ties is
+// set, its call placed by the counts of the table and the clock, or its fault handed back. The
+// counts afterwards are those of what it leaves. It is a part of `event_by_value` and of the loop
+// over a text's lines: they have tried the frame's own causes, and the loop keeps the counts
+// between events.
 pub(crate) fn event_by_counts(
-    head: Head,
-    presets: [Preset; MOST_PRESETS],
+    station: &Station,
     table: &mut [Cell],
     moment: &mut Moment,
     counts: &mut Counts,
     line: &[u8],
 ) -> Result<Answer, Refusal>
-    ensures { valid_record head presets ≡ true → Running (head_in head presets) (state_at table.old moment.old)
-        → CountsOf (head_in head presets) moment.old.clock (cell (head_in head presets) table.old) counts.old
-        → Yields (line_meant head presets (state_at table.old moment.old) line.now) table.new (outcome result moment.new)
-        × CountsOf (head_in head presets) moment.new.clock (cell (head_in head presets) table.new) counts.new }
+    ensures { valid_station station.now ≡ true → Running (station_in station.now) (state_at table.old moment.old)
+        → CountsOf (station_in station.now) moment.old.clock (cell (station_in station.now) table.old) counts.old
+        → Yields (line_meant station.now.head station.now.presets (state_at table.old moment.old) line.now) table.new (outcome result moment.new)
+        × CountsOf (station_in station.now) moment.new.clock (cell (station_in station.now) table.new) counts.new }
 {
     match read_event(line)? {
         Event::Clock(t) => {
+            // A cast, as std has no `From<u32>` of a `usize`.
             let before = moment.clock;
-            let answer = asked_clock(head.slots, moment, t as usize);
-            counts.pass_slots(head, table, before, moment.clock);
+            let answer = asked_clock(station.head.slots, moment, t as usize);
+            counts.pass_slots(station.head, table, before, moment.clock);
             answer
         }
         Event::Call(call) => {
-            let evicted = call_by_counts(head, presets, table, *moment, call, counts)?;
+            let evicted = call_by_counts(station, table, *moment, call, counts)?;
             Ok(Answer::Taken(evicted))
         }
         Event::Tie(hold) => {

@@ -1,4 +1,5 @@
--- `event::event` meets its contract: fewer than 32 records are refused, else the event is carried out with the first 32 of them. Assumes nothing.
+-- `event::event` meets its contract: fewer than 32 records are refused, else the event is carried
+-- out with the first 32 of them. Assumes nothing.
 use mathlib.Core.List.{List}
 use Rattle.std.proofs.Common.{Bor}
 use Rattle.std.proofs.lemmas.Result.{err_from_is_err_and}
@@ -9,6 +10,11 @@ use Rattle.placing.specs.State.{state_at}
 use Rattle.frame.specs.Event.{Event}
 use Rattle.frame.proofs.event.ListOfRecords.{entry_few, entry_enough}
 use Rattle.frame.proofs.event.event.Goals as goal
+
+pub invariant_of-station : goal.invariant_of-station
+invariant_of-station c = let chunk = first_records (λ (y : Bor (List Preset)). y.now) 32 c.args.presets.now TooShort c.first_chunk.result c.ok_or.result c.in_ok-records.records c.first_chunk.ensures.cases
+    c.ok_or.ensures.value c.in_ok-records.was in
+    record { full = chunk.2 }
 
 pub returns-in_err-records : goal.returns-in_err-records
 returns-in_err-records c = let a = c.args in

@@ -1,4 +1,5 @@
--- `events::run_events` meets its contract: a text that is too long and fewer than 32 records are refused, else the events are run with the first 32 of them. Assumes nothing.
+-- `events::run_events` meets its contract: a text that is too long and fewer than 32 records are
+-- refused, else the events are run with the first 32 of them. Assumes nothing.
 use mathlib.Core.List.{List}
 use Rattle.std.proofs.Common.{Bor}
 use Rattle.std.proofs.lemmas.Result.{err_from_is_err_and}
@@ -8,6 +9,11 @@ use Rattle.station.proofs.Theorems.{few_records, first_records}
 use Rattle.placing.specs.State.{state_at}
 use Rattle.frame.proofs.events.EventsRun.{entry_long, entry_few, entry_enough}
 use Rattle.frame.proofs.events.run_events.Goals as goal
+
+pub invariant_of-station : goal.invariant_of-station
+invariant_of-station c = let chunk = first_records (λ (y : Bor (List Preset)). y.now) 32 c.args.presets.now TooShort c.first_chunk.result c.ok_or.result c.in_ok-records.records c.first_chunk.ensures.cases
+    c.ok_or.ensures.value c.in_ok-records.was in
+    record { full = chunk.2 }
 
 pub returns-then-text-gt-MOST_BYTES : goal.returns-then-text-gt-MOST_BYTES
 returns-then-text-gt-MOST_BYTES c = let a = c.args in

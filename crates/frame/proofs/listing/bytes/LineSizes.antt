@@ -1,6 +1,7 @@
 -- How long each line of the listing can be: an output of 8,192 bytes has room for any of them.
 --
--- In order: the line of an answer (`answer_fits`), of a grant (`grant_fits`) and of a slot (`slot_fits`).
+-- In order: the line of an answer (`answer_fits`), of a grant (`grant_fits`) and of a slot
+-- (`slot_fits`).
 -- Assumes nothing.
 use Prim.Native.Nat.{ℕ, zero, suc, ◌+◌, ◌*◌, ◌^◌, ◌≤◌, ◌<◌}
 use native.Mathlib.Omega.{arith}

@@ -1,20 +1,22 @@
 -- Laws of the listing's lines, as the writers meet them.
 --
--- In order: the text of a cell by what it holds (`text_in`, `cell_kind`); the cells of a slot one by one (`cell_texts_step`); the lines
--- of slots one by one (`slot_lines_step`), what a frame's size lets pass (`line_of_slot_lem`, `no_line`, `lines_of_slots_lem`, `no_lines`),
--- and that only the number of bridges counts (`slot_line_head`, `slot_lines_head`); the granted lines one by one (`granted_step`).
+-- In order: the text of a cell by what it holds (`text_in`, `cell_kind`); the cells of a slot one
+-- by one (`cell_texts_step`); the lines of slots one by one (`slot_lines_step`), what a frame's
+-- size lets pass (`line_of_slot_lem`, `no_line`, `lines_of_slots_lem`, `no_lines`), and that only
+-- the number of bridges counts (`slot_line_head`, `slot_lines_head`); the granted lines one by one
+-- (`granted_step`).
 -- Assumes nothing.
 use Prim.Native.Nat.{ℕ, zero, suc, ◌-◌, ◌≤◌, ◌<◌}
 use native.Mathlib.Omega.{arith}
 use mathlib.Core.Path.{◌≡◌, refl, sym, ◌∙◌, ap}
 use mathlib.Core.Logic.{◌⊎◌, inl, inr}
-use mathlib.Core.List.{List, [], ◌∷◌, ◌++◌, append_assoc, map}
+use mathlib.Core.List.{List, [], ◌++◌, append_assoc, map}
 use lib.ListN.{length, take, drop, get_or}
 use Rattle.laws.specs.Lists.{at}
 use Rattle.laws.proofs.Comparisons.{ltb_yes, ltb_no, leb_yes, leb_no}
 use Rattle.station.specs.Head.{Head}
 use Rattle.station.specs.declared.types.Preset as record-of-preset
-use Rattle.station.specs.Types.{preset_in, presets_in, no_record}
+use Rattle.station.specs.Types.{preset_in, no_record}
 use Rattle.station.specs.Text.{bytes}
 use Rattle.station.specs.Decimal.{digits}
 use Rattle.station.proofs.Theorems.{records_step}

@@ -1,4 +1,6 @@
 -- `listing::write_answer` meets its contract. Assumes nothing.
+use Rattle.std.proofs.Common.{rules}
+use Rattle.station.proofs.Theorems.{writes_out}
 use Rattle.frame.specs.Types.{answer_in}
 use Rattle.frame.specs.Listing.{answer_line}
 use Rattle.frame.proofs.listing.OneLine.{line_short, line_whole}
@@ -9,4 +11,4 @@ returns-then-out-lt-LEAST_OUTPUT c = let a = c.args in line_short _ (answer_line
 
 pub returns : goal.returns
 returns c = let a = c.args in
-    line_whole (answer_line a.line (answer_in a.answer)) a.out.now c.if-out-lt-LEAST_OUTPUT.false c.answer_line.ensures.fits c.answer_line.ensures.wrote
+    line_whole (answer_line a.line (answer_in a.answer)) a.out.now c.if-out-lt-LEAST_OUTPUT.false c.answer_line.ensures.fits (writes_out c.answer_line.ensures.wrote c.new-writer.ensures.bytes c.new-writer.ensures.place (search rules) c.place.ensures)

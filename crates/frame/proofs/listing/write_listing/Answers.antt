@@ -1,4 +1,5 @@
--- `listing::write_listing` meets its contract: a law for each cause and one for the listing. Assumes nothing.
+-- `listing::write_listing` meets its contract: a law for each cause and one for the listing.
+-- Assumes nothing.
 use native.Mathlib.Omega.{arith}
 use Rattle.station.specs.declared.types.Refusal.TheVariants.{TooShort, TextTooLong}
 use Rattle.frame.proofs.listing.WholeListing.{cause_long, cause_short, listed_refused, listed_written}
@@ -14,7 +15,7 @@ pub returns-then-out-lt-LEAST_OUTPUT : goal.returns-then-out-lt-LEAST_OUTPUT
 returns-then-out-lt-LEAST_OUTPUT c = let a = c.args in
     let r =
     listed_refused a.text.now a.table.now a.out.now TooShort
-    (cause_short a.text.now a.table.now a.out.now c.if-text-gt-MOST_BYTES.false c.then-out-lt-LEAST_OUTPUT.either) in
+    (cause_short a.text.now a.table.now a.out.now (omega arith) c.then-out-lt-LEAST_OUTPUT.either) in
     record { done = r.0; whole = r.1 }
 
 pub returns : goal.returns

@@ -1,21 +1,23 @@
 -- `listing::write_slot` meets its contract: a law for each answer, by the first 32 records of the list. Assumes nothing.
 use Prim.Native.Nat.{◌-◌}
-use mathlib.Core.Path.{◌≡◌, sym, ◌∙◌, ap}
-use mathlib.Core.Option.{none}
+use mathlib.Core.Path.{sym, ◌∙◌, ap}
 use mathlib.Core.List.{List}
 use lib.ListN.{length, take}
-use Rattle.std.proofs.Common.{Bor}
+use Rattle.std.proofs.Common.{Bor, rules}
 use Rattle.std.proofs.lemmas.Result.{err_from_is_err_and}
-use Rattle.station.specs.Refusal.{first_of}
 use Rattle.station.specs.Types.{head_in}
 use Rattle.station.specs.declared.types.Preset.{Preset}
 use Rattle.station.specs.declared.types.Refusal.TheVariants.{TooShort}
-use Rattle.station.proofs.Theorems.{few_records, first_records}
-use Rattle.placing.specs.Causes.{cause_in, frame_causes_of}
+use Rattle.station.proofs.Theorems.{few_records, first_records, writes_out}
+use Rattle.placing.specs.Causes.{cause_in}
 use Rattle.frame.specs.Listing.{slot_line}
-use Rattle.frame.specs.Text.{start_of}
 use Rattle.frame.proofs.listing.OneLine.{line_short, slot_few, slot_stopped, slot_none, slot_written_lem, slot_list}
 use Rattle.frame.proofs.listing.write_slot.Goals as goal
+
+pub invariant_of-station : goal.invariant_of-station
+invariant_of-station c = let chunk = first_records (λ (y : Bor (List Preset)). y.now) 32 c.args.presets.now TooShort c.first_chunk.result c.ok_or.result c.in_ok-records.records c.first_chunk.ensures.cases
+    c.ok_or.ensures.value c.in_ok-records.was in
+    record { full = chunk.2 }
 
 pub returns-then-out-lt-LEAST_OUTPUT : goal.returns-then-out-lt-LEAST_OUTPUT
 returns-then-out-lt-LEAST_OUTPUT c = let a = c.args in line_short _ (slot_line (head_in a.head a.presets.now) a.table.now (a.slot - 1)) a.out.now c.if-out-lt-LEAST_OUTPUT.true
@@ -51,4 +53,4 @@ returns c = let a = c.args in
     c.ok_or.ensures.value c.in_ok-records.was in
     slot_list a.head a.presets.now a.table.now a.slot a.out.now
     (slot_written_lem (length a.presets.now) a.head (take 32 a.presets.now) a.table.now a.slot a.out.now c.if-out-lt-LEAST_OUTPUT.false chunk.0
-    (rw chunk.1 at (sym (ap cause_in c.in_ok-frame_cause.was) ∙ c.frame_cause.ensures a.head.hold)) c.if-slot-lt1.false c.if-head-slot.false c.slot_line.ensures)
+    (rw chunk.1 at (sym (ap cause_in c.in_ok-frame_cause.was) ∙ c.frame_cause.ensures a.head.hold)) c.if-slot-lt1.false c.if-head-slot.false (writes_out c.slot_line.ensures c.new-writer.ensures.bytes c.new-writer.ensures.place (search rules) c.place.ensures))

@@ -2,7 +2,7 @@
 --
 -- In order: between two lines (`AtEvent`, `at_first`); at a line (`line_room`), and after it (`at_next`); no line is left (`at_end`).
 -- Assumes nothing.
-use Prim.Native.Nat.{ℕ, suc, ◌+◌, ◌≤◌, ◌<◌}
+use Prim.Native.Nat.{ℕ, suc, ◌+◌, ◌≤◌}
 use native.Mathlib.Omega.{arith}
 use native.Mathlib.Numerals.{add-one}
 use mathlib.Core.Path.{◌≡◌, refl, sym, ◌∙◌, ap, subst}
@@ -15,11 +15,12 @@ use Rattle.station.specs.Head.{Head}
 use Rattle.station.specs.Text.{lines}
 use Rattle.station.specs.Refusal.{first_of}
 use Rattle.station.specs.Types.{head_in, valid_record}
-use Rattle.station.specs.Wrote.{Wrote, Left}
+use Rattle.station.specs.Wrote.{Writes, Rest}
+use Rattle.station.specs.declared.output.Writer.{Writer}
 use Rattle.station.specs.declared.types.Preset as record-of-preset
 use Rattle.station.specs.declared.types.Head as record-of-head
 use Rattle.station.specs.declared.types.Refusal as cause
-use Rattle.station.proofs.Theorems.{lines_few, left_all, left_wrote, left_none}
+use Rattle.station.proofs.Theorems.{lines_few, rest_all, rest_wrote, rest_none}
 use Rattle.placing.specs.Causes.{frame_causes_of}
 use Rattle.placing.specs.Table.{cell}
 use Rattle.placing.specs.State.{State, state_at}
@@ -33,7 +34,7 @@ use Rattle.frame.specs.Types.{answer_in, outcome}
 use Rattle.frame.specs.Listing.{answer_line, answer_lines}
 use Rattle.frame.specs.EventDone.{Yields}
 use Rattle.frame.specs.method.EventParts.{line_meant}
-use Rattle.frame.specs.method.TextLines.{LinesStart, lines_run, lines_answer, RanLines}
+use Rattle.frame.specs.method.TextLines.{LinesStart, lines_run, RanLines}
 use Rattle.frame.proofs.OneEvent.{event_running}
 use Rattle.frame.proofs.KeptCells.{run_kept}
 use Rattle.placing.proofs.Theorems.{running_frame}
@@ -65,11 +66,12 @@ event_size h st e run = (run_kept h st (e ∷ []) run).past.long
 
 -- ---- between two lines
 
--- The lines of a text from the byte `from` on are run on the state `start`, `first` lines having gone before, and the answers go into the output l from `position` on.
--- So far n lines of the text were read, and those that are left are `left`; they left the table u, the clock and the order of ties of the moment m, and the output l₁, whose next place is r.
--- The counts k are those of u and the clock.
-pub record AtEvent (head : record-of-head.Head) (ps : List record-of-preset.Preset) (text : List ℕ) (from first : ℕ) (start : State) (l : List ℕ) (position : ℕ) (left : List (List ℕ)) (n : ℕ)
-    (m : Moment) (r : ℕ) (u l₁ : List ℕ) (k : Counts) : Type 0 where
+-- The lines of a text from the byte `from` on are run on the state `start`, `first` lines having
+-- gone before, and the answers are written by w. So far n lines of the text were read, and those that
+-- are left are `left`; they left the table u, the clock and the order of ties of the moment m, and
+-- the writer w₁. The counts k are those of u and the clock.
+pub record AtEvent (head : record-of-head.Head) (ps : List record-of-preset.Preset) (text : List ℕ) (from first : ℕ) (start : State) (w : Writer) (left : List (List ℕ)) (n : ℕ)
+    (m : Moment) (u : List ℕ) (w₁ : Writer) (k : Counts) : Type 0 where
   pub valid : valid_record head ps ≡ true
   pub running : Running (head_in head ps) (state_at u m)
   pub counted : CountsOf (head_in head ps) m.clock (cell (head_in head ps) u) k
@@ -77,25 +79,25 @@ pub record AtEvent (head : record-of-head.Head) (ps : List record-of-preset.Pres
   pub room : n + length left ≤ 32768
   pub after : (run_of (head_in head ps) (state_at u m) (map line left)).after ≡ (lines_run (head_in head ps) text from start).after
   pub output :
-      Left l position (answer_lines first (lines_run (head_in head ps) text from start).answers) l₁ r
+      Rest w (answer_lines first (lines_run (head_in head ps) text from start).answers) w₁
       (answer_lines n (run_of (head_in head ps) (state_at u m) (map line left)).answers)
 
-pub at_first : (head : record-of-head.Head) (ps : List record-of-preset.Preset) (text : List ℕ) (from first : ℕ) (t : List ℕ) (m : Moment) (l : List ℕ) (position : ℕ)
+pub at_first : (head : record-of-head.Head) (ps : List record-of-preset.Preset) (text : List ℕ) (from first : ℕ) (t : List ℕ) (m : Moment) (w : Writer)
     {k : Counts} → LinesStart head ps text from first (state_at t m)
     → (valid_record head ps ≡ true → 512 ≤ length t → CountsOf (head_in head ps) m.clock (cell (head_in head ps) t) k)
-    → AtEvent head ps text from first (state_at t m) l position (lines (drop from text)) first m position t l k
-at_first head ps text from first t m l position s right = record {
+    → AtEvent head ps text from first (state_at t m) w (lines (drop from text)) first m t w k
+at_first head ps text from first t m w s right = record {
   valid = s.valid;
   running = s.running;
   counted = right s.valid s.running.long;
   size = refl;
   room = omega (arith, s.few, s.inside, s.short, lines_few (drop from text), length-drop from text);
   after = refl;
-  output = left_all l position (answer_lines first (lines_run (head_in head ps) text from (state_at t m)).answers);
+  output = rest_all w (answer_lines first (lines_run (head_in head ps) text from (state_at t m)).answers);
 }
 
-module _ {head : record-of-head.Head} {ps : List record-of-preset.Preset} {text : List ℕ} {from first : ℕ} {start : State} {l : List ℕ} {position : ℕ} {left : List (List ℕ)} {n : ℕ}
-    {m : Moment} {r : ℕ} {u l₁ : List ℕ} {k : Counts} (a : AtEvent head ps text from first start l position left n m r u l₁ k) where
+module _ {head : record-of-head.Head} {ps : List record-of-preset.Preset} {text : List ℕ} {from first : ℕ} {start : State} {w : Writer} {left : List (List ℕ)} {n : ℕ}
+    {m : Moment} {u : List ℕ} {w₁ : Writer} {k : Counts} (a : AtEvent head ps text from first start w left n m u w₁ k) where
   abbrev h : Head
   h = head_in head ps
 
@@ -131,19 +133,19 @@ module _ {head : record-of-head.Head} {ps : List record-of-preset.Preset} {text 
         ∙ answers_cons n done.answer (run_of h done.after (map line rest)).answers
 
     -- the event was answered, and its answer written
-    pub at_next : {u₁ l₂ : List ℕ} {y : Result reply.Answer cause.Refusal} {m₁ : Moment} {r₁ : ℕ} {k₁ : Counts}
+    pub at_next : {u₁ : List ℕ} {w₂ : Writer} {y : Result reply.Answer cause.Refusal} {m₁ : Moment} {k₁ : Counts}
         → (valid_record head ps ≡ true → Running h st → CountsOf h m.clock (cell h u) k
         → Yields (line_meant head ps st x) u₁ (outcome y m₁) × CountsOf h m₁.clock (cell h u₁) k₁)
-        → Wrote l₁ r (answer_line (n + 1) (answer_in y)) l₂ r₁
-        → AtEvent head ps text from first start l position rest (n + 1) m₁ r₁ u₁ l₂ k₁
-    at_next {u₁} {l₂} {y} {m₁} {r₁} d w =
+        → Writes w₁ (answer_line (n + 1) (answer_in y)) w₂
+        → AtEvent head ps text from first start w rest (n + 1) m₁ u₁ w₂ k₁
+    at_next {u₁} {w₂} {y} {m₁} d v =
         let left_by_lem = d a.valid a.running a.counted in
         let z = line_done head ps st at_free x left_by_lem.0 in
         let run : Running h (state_at u₁ m₁) = rw (z.clock, z.table, z.hold) (event_running h st (line x) a.running) in
         let leaves : state_at u₁ m₁ ≡ done.after = rw (z.table, z.clock, z.hold) refl in
-        let wrote : Wrote l₁ r (answer_line (suc n) done.answer) l₂ r₁ =
-        subst (λ (b : Answer). Wrote l₁ r (answer_line (suc n) b) l₂ r₁) z.answer
-        (subst (λ (i : ℕ). Wrote l₁ r (answer_line i (answer_in y)) l₂ r₁) (add-one n) w) in
+        let wrote : Writes w₁ (answer_line (suc n) done.answer) w₂ =
+        subst (λ (b : Answer). Writes w₁ (answer_line (suc n) b) w₂) z.answer
+        (subst (λ (i : ℕ). Writes w₁ (answer_line i (answer_in y)) w₂) (add-one n) v) in
         rw (add-one n)
         (record {
           valid = a.valid;
@@ -153,14 +155,14 @@ module _ {head : record-of-head.Head} {ps : List record-of-preset.Preset} {text 
           room = omega (arith, a.room, ap length here);
           after = ap (λ (v : State). (run_of h v (map line rest)).after) leaves ∙ sym after_here ∙ a.after;
           output =
-              subst (λ (v : State). Left l position all l₂ r₁ (answer_lines (suc n) (run_of h v (map line rest)).answers)) (sym leaves)
-              (left_wrote (answer_line (suc n) done.answer) (answer_lines (suc n) (run_of h done.after (map line rest)).answers)
-              (subst (Left l position all l₁ r) output_here a.output) wrote);
+              subst (λ (v : State). Rest w all w₂ (answer_lines (suc n) (run_of h v (map line rest)).answers)) (sym leaves)
+              (rest_wrote (answer_line (suc n) done.answer) (answer_lines (suc n) (run_of h done.after (map line rest)).answers)
+              (subst (Rest w all w₁) output_here a.output) wrote);
         })
 
   -- ---- no line is left
 
-  pub at_end : left ≡ [] → RanLines h text from first start l position u l₁ (lines_answer r m)
+  pub at_end : left ≡ [] → RanLines h text from first start w u m w₁
   at_end none_left =
       let z = run_none h st in
       let same : st ≡ (lines_run h text from start).after = sym z.0 ∙ ap (λ (ls : List (List ℕ)). (run_of h st (map line ls)).after) (sym none_left) ∙ a.after in
@@ -169,8 +171,8 @@ module _ {head : record-of-head.Head} {ps : List record-of-preset.Preset} {text 
         clock = ap (λ (s : State). s.clock) same;
         hold = ap (λ (s : State). s.hold) same;
         output =
-            left_none
-            (subst (Left l position all l₁ r)
+            rest_none
+            (subst (Rest w all w₁)
             (ap (λ (ls : List (List ℕ)). answer_lines n (run_of h st (map line ls)).answers) none_left ∙ ap (answer_lines n) z.1 ∙ answers_none n)
             a.output);
       }

@@ -1,4 +1,5 @@
--- `text::run_text` meets its contract: a text that is too long and fewer than 32 records are refused, else the text is run with the first 32 of them. Assumes nothing.
+-- `text::run_text` meets its contract: a text that is too long and fewer than 32 records are
+-- refused, else the text is run with the first 32 of them. Assumes nothing.
 use mathlib.Core.List.{List}
 use Rattle.std.proofs.Common.{MutBor}
 use Rattle.std.proofs.lemmas.Result.{err_from_is_err_and}

@@ -1,4 +1,5 @@
--- `text::run_text_by_value` meets its contract: a law for each answer, and the claim by `text_claim`. Assumes nothing.
+-- `text::run_text_by_value` meets its contract: a law for each answer, and the claim by
+-- `text_claim`. Assumes nothing.
 use Rattle.std.proofs.lemmas.Result.{err_from_is_err_and}
 use Rattle.station.specs.declared.types.Refusal.TheVariants.{TooShort, TextTooLong}
 use Rattle.station.specs.ReadHead.{left_by}

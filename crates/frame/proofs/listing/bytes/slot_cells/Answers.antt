@@ -6,24 +6,13 @@ use native.Mathlib.Omega.{arith}
 use mathlib.Core.Path.{◌≡◌}
 use mathlib.Core.List.{◌++◌}
 use Rattle.station.specs.Text.{bytes}
-use Rattle.station.proofs.Theorems.{left_all, left_wrote}
+use Rattle.station.proofs.Theorems.{rest_wrote}
 use Rattle.placing.specs.Table.{cell, kind_of, number_in}
 use Rattle.placing.proofs.Theorems.{frame_le}
 use Rattle.frame.specs.Listing.{cell_text, cell_texts}
 use Rattle.frame.specs.method.SlotLines.{of_bridges}
 use Rattle.frame.proofs.listing.bytes.SlotLines.{cell_texts_step}
 use Rattle.frame.proofs.listing.bytes.slot_cells.Goals as goal
-
-pub overflow_mul-start : goal.overflow_mul-start
-overflow_mul-start c = let a = c.args in omega (arith, frame_le a.slot a.bridges (omega arith) (omega arith))
-
-pub loop-b-init : goal.loop-b-init
-loop-b-init c = let a = c.args in
-    let all : a.bridges - 0 ≡ a.bridges = omega arith in
-    rw all (left_all a.out.now a.at (cell_texts (of_bridges a.bridges) a.table.now a.slot 0 a.bridges))
-
-pub overflow_add-start : goal.overflow_add-start
-overflow_add-start c = let a = c.args in omega (arith, frame_le a.slot a.bridges (omega arith) (omega arith))
 
 pub loop-b-preserved : goal.loop-b-preserved
 loop-b-preserved c = let loop = c.loop-b in
@@ -33,8 +22,8 @@ loop-b-preserved c = let loop = c.loop-b in
     let v = cell h t a.slot loop.b in
     let value : c.unwrap_or-value.result ≡ v = search rules in
     rw add-one
-    (left_wrote (bytes " " ++ cell_text (kind_of v) (number_in v)) (cell_texts h t a.slot (suc loop.b) (a.bridges - suc loop.b))
-    (rw (cell_texts_step h t a.slot loop.b a.bridges c.loop-b-test.true) at loop.invariant) (rw value at c.next_cell-position.ensures))
+    (rest_wrote (bytes " " ++ cell_text (kind_of v) (number_in v)) (cell_texts h t a.slot (suc loop.b) (a.bridges - suc loop.b))
+    (rw (cell_texts_step h t a.slot loop.b a.bridges c.loop-b-test.true) at loop.invariant) (rw value at c.next_cell.ensures))
 
 pub returns : goal.returns
 unfolding cell_texts
