@@ -9,7 +9,7 @@ const END: u8 = b'\n';
 const SHOWN: usize = 80;
 
 // An event of a text: its line, and the line's number, counted from 1.
-#[derive(Clone, Copy)]
+#[derive(Clone, Copy, Debug, PartialEq, Eq, Hash)]
 pub struct Event<'a> {
     pub line: &'a [u8],
     pub number: usize,

@@ -31,10 +31,9 @@ fn draw_frame(
     moment: Moment,
     event: Option<Event>,
 ) -> io::Result<()> {
-    let head = station.head;
     let before = View {
-        slots: head.slots,
-        bridges: head.bridges,
+        slots: station.head.slots,
+        bridges: station.head.bridges,
         was: table,
         is: table,
         clock: moment.clock,
@@ -44,7 +43,7 @@ fn draw_frame(
     };
     let mut left = *table;
     let mut then = moment;
-    let answer = event_by_value(head, station.presets, &mut left, &mut then, event.line);
+    let answer = event_by_value(&station, &mut left, &mut then, event.line);
     let after = View {
         is: &left,
         clock: then.clock,

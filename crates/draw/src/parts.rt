@@ -7,7 +7,7 @@ use std::io;
 
 // What a picture shows: the frame's cells, slot by slot, as they are and as they were before, and the
 // clock.
-#[derive(Clone, Copy)]
+#[derive(Clone, Copy, Debug, PartialEq, Eq, Hash)]
 pub struct View<'a> {
     pub slots: usize,
     pub bridges: usize,

@@ -38,20 +38,15 @@ pub extern "C" fn planner_run_text(
     if MOST_BYTES < text.len() {
         return refusal_number(Refusal::TextTooLong);
     }
-    let Some(mut station) = lent_station(frame, presets) else {
+    let Some(station) = lent_station(frame, presets) else {
         return refusal_number(Refusal::TooShort);
     };
+    let mut head = station.head;
+    let mut records = station.presets;
     let mut moment = moment_of(frame);
-    let ended = run_text_by_value(
-        text,
-        &mut station.head,
-        &mut station.presets,
-        table,
-        &mut moment,
-        out,
-    );
-    save_run(frame, ended, station.head, moment);
-    save_presets(presets, station.presets);
+    let ended = run_text_by_value(text, &mut head, &mut records, table, &mut moment, out);
+    save_run(frame, ended, head, moment);
+    save_presets(presets, records);
     returned(ended, end)
 }
 
@@ -74,7 +69,7 @@ pub extern "C" fn planner_event(
         return refusal_number(Refusal::TooShort);
     };
     let mut moment = moment_of(frame);
-    let answer = event_by_value(station.head, station.presets, table, &mut moment, line);
+    let answer = event_by_value(&station, table, &mut moment, line);
     save_clock(frame, moment.clock);
     save_tie(frame, moment.hold);
     returned(counted(answer), number)
@@ -99,7 +94,7 @@ pub extern "C" fn planner_plan(
     if grants.len() < MOST_PRESETS {
         return refusal_number(Refusal::TooShort);
     }
-    match plan_by_value(station.head, station.presets, table) {
+    match plan_by_value(&station, table) {
         Ok(granted) => {
             save_grants(grants, granted);
             0
@@ -142,11 +137,12 @@ pub extern "C" fn planner_read_rows(
     if MOST_BYTES < text.len() {
         return refusal_number(Refusal::TextTooLong);
     }
-    let Some(mut station) = lent_station(frame, presets) else {
+    let Some(station) = lent_station(frame, presets) else {
         return refusal_number(Refusal::TooShort);
     };
-    let read = read_rows_by_value(text, &mut station.head, &station.presets);
-    save_masks(frame, station.head.busy);
+    let mut head = station.head;
+    let read = read_rows_by_value(text, &mut head, &station.presets);
+    save_masks(frame, head.busy);
     returned(read, row)
 }
 
@@ -166,6 +162,6 @@ pub extern "C" fn planner_write_rows(
     let Some(station) = lent_station(frame, presets) else {
         return refusal_number(Refusal::TooShort);
     };
-    let rows = write_rows_by_value(station.head, station.presets, out);
+    let rows = write_rows_by_value(&station, out);
     returned(written(rows), bytes)
 }

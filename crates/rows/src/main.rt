@@ -16,7 +16,7 @@ use station::heads::read_head_by_value;
 use station::lines::Lines;
 use station::rows::read_rows_by_value;
 use station::rows::text::write_rows_by_value;
-use station::types::{Fault, NO_HEAD, NO_PRESETS};
+use station::types::{Fault, NO_HEAD, NO_PRESETS, Station};
 use station::write::write_head_by_value;
 use std::io;
 use std::io::Read;
@@ -49,12 +49,12 @@ fn written(input: &[u8], out: &mut [u8]) -> Result<usize, Fault>
     let mut presets = NO_PRESETS;
     let Some(end) = empty_line(input) else {
         read_head_by_value(input, &mut head, &mut presets)?;
-        return Ok(write_rows_by_value(head, presets, out)?);
+        return Ok(write_rows_by_value(&Station { head, presets }, out)?);
     };
     read_head_by_value(&input[..end], &mut head, &mut presets)?;
     let rows = &input[end + 1..];
     read_rows_by_value(rows, &mut head, &presets)?;
-    Ok(write_head_by_value(head, presets, out)?)
+    Ok(write_head_by_value(&Station { head, presets }, out)?)
 }
 
 // Writes what the program prints of an input. Answers how many bytes it is.
