@@ -9,7 +9,7 @@ use crate::tables::Table;
 use std::cmp::Reverse;
 
 // A call that is taken: the table after it, and the number of evicted cells.
-#[derive(Clone, Copy, Debug, PartialEq, Eq)]
+#[derive(Clone, Copy, Debug, PartialEq, Eq, Hash)]
 pub struct Taken {
     pub table: Table,
     pub evicted: usize,
@@ -31,7 +31,7 @@ fn is_used(head: &Head, table: &Table, call: &Call) -> bool {
 
 // A call on a table: where it may be placed, the cells that it may evict, and the slots that its
 // jobs need.
-#[derive(Clone, Copy)]
+#[derive(Clone, Copy, Debug, PartialEq, Eq, Hash)]
 struct Search<'a> {
     room: Room<'a>,
     evictable: Cells,

@@ -1,7 +1,7 @@
 // Calls of at most three jobs, and lists of them.
 
 // A job: its name, and how many slots it needs.
-#[derive(Clone, Copy, Debug, PartialEq, Eq)]
+#[derive(Clone, Copy, Debug, PartialEq, Eq, Hash)]
 pub struct Job {
     pub name: u8,
     pub slots: u8,
@@ -9,7 +9,7 @@ pub struct Job {
 
 // A call at a clock, of the first so many jobs. Those past them have no slots, and names that no
 // job and no preset has.
-#[derive(Clone, Copy, Debug, PartialEq, Eq)]
+#[derive(Clone, Copy, Debug, PartialEq, Eq, Hash)]
 pub struct Call {
     pub jobs: [Job; 3],
     pub count: usize,
@@ -48,7 +48,7 @@ fn clock_of(code: u32, slots: usize) -> usize {
 }
 
 // A code at a step of a list, whose new names are those of the step.
-#[derive(Clone, Copy)]
+#[derive(Clone, Copy, Debug, PartialEq, Eq, Hash)]
 struct Drawn {
     code: u32,
     step: u8,

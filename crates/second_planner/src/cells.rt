@@ -4,7 +4,7 @@ use std::ops::{BitAnd, BitOr, Sub};
 
 // A set of cells, a bit for each. Of two sets the greater is the one with the latest cell that is
 // not in both.
-#[derive(Clone, Copy, Debug, PartialEq, Eq, PartialOrd, Ord)]
+#[derive(Clone, Copy, Debug, PartialEq, Eq, PartialOrd, Ord, Hash)]
 pub struct Cells(u8);
 
 impl Cells {

@@ -23,7 +23,7 @@ use tables::Table;
 
 // What is asked of a planner: a plan, or a call on a table; by a head on a frame, under an order of
 // ties, `(tie hold)` where `hold` is true, else `(tie place)`.
-#[derive(Clone, Copy, Debug, PartialEq, Eq)]
+#[derive(Clone, Copy, Debug, PartialEq, Eq, Hash)]
 pub struct Case {
     pub frame: Frame,
     pub head: Head,
@@ -31,21 +31,21 @@ pub struct Case {
     pub asked: Asked,
 }
 
-#[derive(Clone, Copy, Debug, PartialEq, Eq)]
+#[derive(Clone, Copy, Debug, PartialEq, Eq, Hash)]
 pub enum Asked {
     Plan,
     Call(Table, Call),
 }
 
 // What a planner answers.
-#[derive(Clone, Copy, Debug, PartialEq, Eq)]
+#[derive(Clone, Copy, Debug, PartialEq, Eq, Hash)]
 pub enum Answer {
     Plan(Plan),
     Taken(Taken),
 }
 
 // The causes of refusal that can be right here: 4, 5, 7 and 11 of document 01.
-#[derive(Clone, Copy, Debug, PartialEq, Eq)]
+#[derive(Clone, Copy, Debug, PartialEq, Eq, Hash)]
 pub enum Refusal {
     NumberUsed,
     MandatoryNotFeasible,

@@ -8,7 +8,7 @@ use std::cmp::Reverse;
 // Where up to three presets or jobs may be placed: the cells of each slot that are not busy, the
 // cells that may be filled, the others being held by presets and calls, and the number of the
 // supply line, if there is one.
-#[derive(Clone, Copy, Debug, PartialEq, Eq)]
+#[derive(Clone, Copy, Debug, PartialEq, Eq, Hash)]
 pub struct Room<'a> {
     pub sets: &'a [Cells],
     pub free: Cells,
@@ -101,7 +101,7 @@ impl Room<'_> {
 
 // Who gets cells: a preset its mandatory slots and as many optional ones as its line has here, or a
 // job of a call.
-#[derive(Clone, Copy, Debug, PartialEq, Eq)]
+#[derive(Clone, Copy, Debug, PartialEq, Eq, Hash)]
 pub enum Owner {
     Preset(Line),
     Job(Job),
@@ -127,7 +127,7 @@ impl Owner {
 
 // One of the three while they are placed: its place in file or call order, how many slots it has
 // left to get, and whether it is held.
-#[derive(Clone, Copy)]
+#[derive(Clone, Copy, Debug, PartialEq, Eq, Hash)]
 struct Waiting {
     owner: Owner,
     place: u8,

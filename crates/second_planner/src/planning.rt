@@ -7,7 +7,7 @@ use crate::placements::{Owner, Room};
 use crate::tables::Table;
 
 // A plan: its table, and what each line is granted of its optional slots.
-#[derive(Clone, Copy, Debug, PartialEq, Eq)]
+#[derive(Clone, Copy, Debug, PartialEq, Eq, Hash)]
 pub struct Plan {
     pub table: Table,
     pub grants: [u8; 3],

@@ -5,7 +5,7 @@ use crate::frames::Frame;
 use crate::heads::{Head, Line};
 
 // A cell of a table: its kind of document 01, with the name of the preset or job that has it.
-#[derive(Clone, Copy, Debug, PartialEq, Eq)]
+#[derive(Clone, Copy, Debug, PartialEq, Eq, Hash)]
 pub enum Cell {
     Empty,
     Mandatory(u8),
@@ -14,7 +14,7 @@ pub enum Cell {
 }
 
 // The table of a small frame. Busy cells are empty in it: they are in no slot's set.
-#[derive(Clone, Copy, Debug, PartialEq, Eq)]
+#[derive(Clone, Copy, Debug, PartialEq, Eq, Hash)]
 pub struct Table(pub [Cell; 6]);
 
 impl Table {
@@ -86,7 +86,7 @@ impl Table {
 }
 
 // A preset while a table is filled cell by cell: the slots that it has still to get, and its cells.
-#[derive(Clone, Copy)]
+#[derive(Clone, Copy, Debug, PartialEq, Eq, Hash)]
 struct Filling {
     line: Line,
     left: u8,

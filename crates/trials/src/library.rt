@@ -1,6 +1,6 @@
 // The library's planner on small heads and tables.
 use crate::cells::{MARK, table_of};
-use crate::records::{call_of, cause_of, head_of, presets_of};
+use crate::records::{call_of, cause_of, station_of};
 use placing::call::call_by_value;
 use placing::moment::Moment;
 use placing::plan::plan_by_value;
@@ -12,8 +12,7 @@ use second_planner::{Answer, Asked, Case, Refusal};
 // stay so where the plan is refused.
 fn plans_so(case: &Case, right: &Result<Answer, Refusal>) -> bool {
     let mut table = [MARK; 512];
-    let head = head_of(case, case.hold);
-    let planned = plan_by_value(head, presets_of(&case.head), &mut table);
+    let planned = plan_by_value(&station_of(case, case.hold), &mut table);
     match (planned, right) {
         (Ok(grants), Ok(Answer::Plan(plan))) => {
             grants.starts_with(&plan.grants) && table == table_of(&case.frame, &plan.table)
@@ -28,13 +27,12 @@ fn plans_so(case: &Case, right: &Result<Answer, Refusal>) -> bool {
 fn takes_so(case: &Case, table: &Table, call: &Call, right: &Result<Answer, Refusal>) -> bool {
     let before = table_of(&case.frame, table);
     let mut after = before;
-    let head = head_of(case, !case.hold);
     let moment = Moment {
         clock: call.clock,
         hold: case.hold,
     };
-    let presets = presets_of(&case.head);
-    let taken = call_by_value(head, presets, &mut after, moment, call_of(call));
+    let station = station_of(case, !case.hold);
+    let taken = call_by_value(&station, &mut after, moment, call_of(call));
     match (taken, right) {
         (Ok(evicted), Ok(Answer::Taken(taken))) => {
             evicted == taken.evicted && after == table_of(&case.frame, &taken.table)

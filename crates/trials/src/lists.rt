@@ -15,7 +15,7 @@ use station::types::{Call, Head, Job, NO_HEAD, NO_JOB, NO_PRESETS, Preset};
 use std::io;
 
 // A head with the list of its preset records.
-#[derive(Clone, Copy)]
+#[derive(Clone, Copy, Debug, PartialEq, Eq, Hash)]
 pub struct Lent {
     pub head: Head,
     pub records: [Preset; 32],

@@ -3,7 +3,7 @@
 use second_planner::frames::Frame;
 use second_planner::heads::{self, Line};
 use second_planner::{self, Case, calls};
-use station::types::{Call, Head, Job, Preset, Refusal};
+use station::types::{Call, Head, Job, Preset, Refusal, Station};
 
 // The number of a name. The presets' numbers do not ascend, so that an order by number would show.
 pub fn number_of(name: u8) -> u8 {
@@ -27,7 +27,7 @@ fn busy_of(frame: &Frame) -> [u64; 8] {
 }
 
 // The record of a case's head, with its supply and an order of ties.
-pub fn head_of(case: &Case, hold: bool) -> Head {
+fn head_of(case: &Case, hold: bool) -> Head {
     Head {
         slots: case.frame.slots,
         bridges: case.frame.bridges,
@@ -49,12 +49,20 @@ fn preset_of(line: Line) -> Preset {
 }
 
 // The preset records. Those past the third are the third again.
-pub fn presets_of(head: &heads::Head) -> [Preset; 32] {
+fn presets_of(head: &heads::Head) -> [Preset; 32] {
     let [first, second, third] = head.lines.map(preset_of);
     let mut records = [third; 32];
     records[0] = first;
     records[1] = second;
     records
+}
+
+// The station of a case, with an order of ties.
+pub fn station_of(case: &Case, hold: bool) -> Station {
+    Station {
+        head: head_of(case, hold),
+        presets: presets_of(&case.head),
+    }
 }
 
 // The record of a job.

@@ -4,7 +4,7 @@ use std::io;
 // The counts of one supply: of plans, of lists of calls and of calls; the evicted cells, and the
 // calls that leave one of these empty; what `(tie hold)` and the supply change, what the clock's
 // own slot would change, and where the two planners differ.
-#[derive(Clone, Copy, Debug, Default, PartialEq, Eq)]
+#[derive(Clone, Copy, Debug, Default, PartialEq, Eq, Hash)]
 pub struct Tally {
     pub plans_granted: usize,
     pub plans_refused: usize,
@@ -27,7 +27,7 @@ pub fn count(counted: &mut usize, n: usize) {
 }
 
 // A column of what is written: a supply, and the tally of what is tried with it.
-#[derive(Clone, Copy, Debug, PartialEq, Eq)]
+#[derive(Clone, Copy, Debug, PartialEq, Eq, Hash)]
 pub struct Column {
     pub supply: Option<usize>,
     pub tally: Tally,

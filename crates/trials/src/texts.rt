@@ -5,7 +5,7 @@
 use crate::shown::{show_written, write_first};
 use frame::listing::write_listing;
 use station::heads::read_head_by_value;
-use station::types::{NO_HEAD, NO_PRESETS};
+use station::types::{NO_HEAD, NO_PRESETS, Station};
 use station::write::write_head_by_value;
 use std::io;
 
@@ -22,7 +22,7 @@ fn show_head(rt: &impl Print, text: &[u8]) -> io::Result<()> {
     };
     println!(rt; "(accepted {} {})", extent.lines, extent.bytes)?;
     let mut out = [0u8; 8192];
-    match write_head_by_value(head, presets, &mut out) {
+    match write_head_by_value(&Station { head, presets }, &mut out) {
         Ok(n) => write_first(rt, &out, n),
         Err(cause) => println!(rt; "(not written 0 {cause})"),
     }
