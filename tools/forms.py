@@ -48,7 +48,7 @@ FORMS = [
     (5, 'free bridges and how many are filled', 'params', r'\bfree: ', r'\bcounts: '),
     (5, 'chains: first and next', 'params', r'\bfirst: &', r'\bnext: &'),
     (5, 'what early and late cells are', 'params', r'\bearly: ', r'\blate: '),
-    (5, 'a valid head record', 'clause', r'valid_record \S*head \S*presets'),
+    (5, 'a valid head record', 'clause', r'valid_record \S*head \S*presets|valid_station station\S* ≡ true'),
     (5, 'bridges within the limit', 'clause', r'bridges ≤ most_bridges'),
     (5, 'slots within the limit', 'clause', r'slots ≤ most_slots'),
     (5, 'presets within the limit', 'clause', r'count ≤ most_presets'),
