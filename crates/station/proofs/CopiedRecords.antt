@@ -6,12 +6,20 @@
 use Prim.Native.Nat.{ℕ, ◌≤◌}
 use native.Mathlib.Omega.{arith}
 use mathlib.Core.Path.{◌≡◌, sym, ◌∙◌, ap}
-use mathlib.Core.List.{List, ◌++◌, append_assoc}
+use mathlib.Core.List.{List, ◌++◌, append-nil, append_assoc}
 use lib.ListN.{length, take, drop, replicate, length-append, length-take, length-drop, take-append-drop}
 use lib.Seq.{take_all, take-take, take-append-le, drop-append-le}
 use Rattle.station.specs.declared.types.Preset.{Preset}
 use Rattle.station.specs.Types.{no_record}
 use Rattle.station.specs.Records.{loaded, reach, saved}
+
+-- the first n of 32 records read, zeros after them
+abbrev pub loading : List Preset → ℕ → List Preset
+loading ps n = take n (ps ++ replicate 32 no_record) ++ drop n (replicate 32 no_record)
+
+-- all 32
+pub loading_all : (ps : List Preset) → loading ps 32 ≡ loaded ps
+loading_all ps = append-nil (loaded ps)
 
 -- a list of 32 records or more has no zeros put to it
 pub loaded_whole : (ps : List Preset) → 32 ≤ length ps → loaded ps ≡ take 32 ps

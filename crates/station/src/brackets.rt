@@ -27,7 +27,8 @@ pub struct Stretches {
     pub mask: u64,
 }
 
-// The jobs of a call: how many, whether each is within its limits, and the first eight.
+// The jobs of a call: how many, whether each is within its limits, and the first eight. `fit` is no
+// Option: the jobs of a call that is out of limits go on being counted.
 #[derive(Clone, Copy, Debug, PartialEq, Eq, Hash)]
 pub struct Jobs {
     pub count: usize,

@@ -71,7 +71,7 @@ impl Error for Refusal {}
 
 impl Error for Fault {}
 
-// The paper's number of a cause, as a function.
+// The paper's number of a cause, as a function: it stays beside `u8::from`, since pages name it.
 pub fn cause_number(cause: Refusal) -> u8
     ensures { result ≡ number_of (refusal_in cause) }
 {

@@ -1,6 +1,7 @@
 // The entries of layer 1 over a borrowed slice of preset records: each works on the first 32 of
 // them, and is refused where there are fewer. Head and slice are lent apart. Where both are only
-// looked at, the head becomes a station with those 32; where one is read, it is written in place.
+// looked at, the head becomes a station with those 32 (`Station::of`); where one is read, it is
+// written in place.
 ghost use Rattle.std.specs.Prelude.{◌≡◌, length};
 ghost use Rattle.station.specs.ReadHead.{left_by};
 ghost use Rattle.station.specs.Entries.{WroteEntry, entry_read};
@@ -21,13 +22,7 @@ pub fn write_head(head: Head, presets: &[Preset], out: &mut [u8]) -> Result<usiz
     ensures { WroteEntry (length presets.now) head presets.now
         out.old result out.new }
 {
-    let records = presets
-        .first_chunk::<LEAST_RECORDS>()
-        .ok_or(Refusal::TooShort)?;
-    let station = Station {
-        head,
-        presets: *records,
-    };
+    let station = Station::of(head, presets)?;
     write_head_by_value(&station, out)
 }
 
@@ -71,12 +66,6 @@ pub fn write_rows(head: Head, presets: &[Preset], out: &mut [u8]) -> Result<usiz
     ensures { WroteRows (length presets.now) head presets.now
         out.old result out.new }
 {
-    let records = presets
-        .first_chunk::<LEAST_RECORDS>()
-        .ok_or(Refusal::TooShort)?;
-    let station = Station {
-        head,
-        presets: *records,
-    };
+    let station = Station::of(head, presets)?;
     write_rows_by_value(&station, out)
 }

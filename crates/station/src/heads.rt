@@ -23,7 +23,8 @@ fn no_state(presets: [Preset; MOST_PRESETS]) -> State
     }
 }
 
-// The head of a text that is not too long, line by line.
+// The head of a text that is not too long, line by line. Head and records are lent apart, as
+// `read_head_by_value` has them.
 fn read_lines(
     text: &[u8],
     head: &mut Head,

@@ -9,9 +9,9 @@
 // tenth longer.
 //
 // Nearly always the output goes on past what is written. So the writers of a text and of numbers
-// test once whether it does, and then store with no further test; near the end of the output they go
-// byte by byte. The place is on the one side of that test alone: the other, the length less what is
-// written, a compiler finds once for a whole loop.
+// test once whether it does, and then store with no further test; near the end of the output they
+// go byte by byte. The place is on the one side of that test alone: the other, the length less what
+// is written, a compiler finds once for a whole loop.
 ghost use Rattle.std.specs.Prelude.{◌+◌, ◌-◌, ◌/◌, ◌%◌, ◌≡◌, ◌≤◌, ◌<◌, [], ◌∷◌, length};
 ghost use Rattle.station.specs.Text.{bytes, ◌then◌};
 ghost use Rattle.station.specs.Decimal.{digits};
@@ -117,8 +117,8 @@ fn word_by_bytes(out: &mut [u8], at: usize, text: &[u8]) -> usize
 }
 
 // Writes the bytes of a text at a place. Answers the next place. Small enough for a compiler to put
-// in its caller's place, where a text that is known becomes one or two stores; by `copy_from_slice` a
-// line of three such texts takes half as long again.
+// in its caller's place, where a text that is known becomes one or two stores; by `copy_from_slice`
+// a line of three such texts takes half as long again.
 fn word(out: &mut [u8], at: usize, text: &[u8]) -> usize
     ensures { Wrote out.old at text.now out.new result }
 {

@@ -1,8 +1,8 @@
 // The records and answers that the layers share. What each stands for is in specs/Types.antt.
-ghost use Rattle.std.specs.Prelude.{◌≡◌, length};
+ghost use Rattle.std.specs.Prelude.{◌≡◌, ◌<◌, ◌≤◌, length, take, MatchResult};
 ghost use Rattle.station.specs.Limits.{most_presets};
 
-use crate::limits::{MOST_BRIDGES, MOST_JOBS, MOST_PRESETS};
+use crate::limits::{LEAST_RECORDS, MOST_BRIDGES, MOST_JOBS, MOST_PRESETS};
 
 // A preset line as a record.
 #[derive(Clone, Copy, Debug, PartialEq, Eq, Hash)]
@@ -76,6 +76,25 @@ pub struct Station {
     pub ghost full: { length presets ≡ most_presets },
 }
 
+impl Station {
+    // The station of a head and the first 32 records of a list: 8 where the list has fewer. The
+    // entries take head and list apart, since C and the programs lend a list of any length.
+    pub fn of(head: Head, presets: &[Preset]) -> Result<Station, Refusal>
+        ensures { MatchResult result
+            (λ s. (most_presets ≤ length presets.now) × (s.head ≡ head)
+            × (s.presets ≡ take most_presets presets.now))
+            (λ cause. (length presets.now < most_presets) × (cause ≡ Refusal.TooShort)) }
+    {
+        let records = presets
+            .first_chunk::<LEAST_RECORDS>()
+            .ok_or(Refusal::TooShort)?;
+        Ok(Station {
+            head,
+            presets: *records,
+        })
+    }
+}
+
 // The causes, in the order of their numbers, 1 to 12.
 #[derive(Clone, Copy, Debug, PartialEq, Eq, Hash)]
 pub enum Refusal {
@@ -100,8 +119,8 @@ pub struct Extent {
     pub bytes: usize,
 }
 
-// Where a text is refused: the line at fault, counted from 1, and the cause. Line 0 is none: the text
-// was refused before any line was read.
+// Where a text is refused: the line at fault, counted from 1, and the cause. Line 0 is none: the
+// text was refused before any line was read.
 #[derive(Clone, Copy, Debug, PartialEq, Eq, Hash)]
 pub struct Fault {
     pub line: usize,

@@ -85,8 +85,8 @@ fn bracket(out: &mut Writer, first: usize, last: usize, more: bool)
 }
 
 // Writes a bracket for each run of busy slots of a mask, and the end of the line; nothing where no
-// slot is busy. rows/text.rt has the same walk: an iterator of runs, with what it promises, would be
-// longer than both.
+// slot is busy. rows/text.rt has the same walk: an iterator of runs, with what it promises, would
+// be longer than both.
 fn stretch_list(out: &mut Writer, mask: u64)
     ensures { Writes out.old (brackets_of (stretches most_slots 1 mask))
         out.new }
@@ -174,9 +174,10 @@ pub(crate) fn write_cause(station: &Station, out: &[u8]) -> Result<(), Refusal>
     Ok(())
 }
 
-// Writes the one text of a station's head at the start of the output and answers its length; the bytes past
-// it stay. Refused with 8 for an output below 8,192 bytes, whatever the frame, and with 2 for a
-// head record that no text yields; the output then stays as it was.
+// Writes the one text of a station's head at the start of the output and answers its length; the
+// bytes past it stay. Refused with 8 for an output below 8,192 bytes, whatever the frame, and with
+// 2 for a head record that no text yields; the output then stays as it was. It stays beside
+// `write_head`: who has 32 records meets no 8 of the list.
 pub fn write_head_by_value(station: &Station, out: &mut [u8]) -> Result<usize, Refusal>
     ensures { WroteHead station.now.head station.now.presets out.old result out.new }
 {

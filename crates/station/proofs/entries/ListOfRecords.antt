@@ -33,6 +33,8 @@ use Rattle.station.specs.method.HeadStep.{refused_read}
 use Rattle.station.specs.WriteHead.{WroteHead, write_causes, write_answer, write_output, answer_of, output_of}
 use Rattle.station.specs.Row.{rows_text}
 use Rattle.station.specs.RowEntries.{WroteRows}
+use Rattle.station.specs.Records.{loaded}
+use Rattle.station.proofs.CopiedRecords.{loaded_whole}
 use Rattle.station.specs.Entries.{entry_causes, WroteEntry, entry_reading, entry_read}
 
 -- ---- writing
@@ -72,10 +74,10 @@ pub head_list : (h : Head) (ps : List Preset) → h.count ≤ 32 → head_in h (
 head_list h ps few = rw (take-take h.count 32 ps few) refl
 
 -- A count above 32 is refused; else no record past the first 32 is looked at, and the text t of those is the list's, u.
-write_same : (h : Head) (ps : List Preset) (out t u : List ℕ) → 32 ≤ length ps → (h.count ≤ 32 → t ≡ u)
+write_first : (h : Head) (ps : List Preset) (out t u : List ℕ) → 32 ≤ length ps → (h.count ≤ 32 → t ≡ u)
     → Same (first_of (write_causes h (take 32 ps) out)) (first_of (entry_causes (length ps) h ps out)) t u out
 unfolding first_of
-write_same h ps out t u long same = rw (ltb_no (length ps) 32 long) (go (is (leb h.count 32)))
+write_first h ps out t u long same = rw (ltb_no (length ps) 32 long) (go (is (leb h.count 32)))
   where
     go : Is (leb h.count 32) → Same (first_of (write_causes h (take 32 ps) out)) (first_of (write_causes h ps out)) t u out
     go (is_true c) =
@@ -83,17 +85,31 @@ write_same h ps out t u long same = rw (ltb_no (length ps) 32 long) (go (is (leb
         rw (head_list h ps few, same few) (refl, refl)
     go (is_false c) = rw c (refused_any (ltb (length out) 8192) t u out)
 
+-- The same of a list with zeros after it: fewer than 32 records are refused whatever they are.
+write_same : (h : Head) (ps : List Preset) (out t u : List ℕ) → (h.count ≤ 32 → 32 ≤ length ps → t ≡ u)
+    → Same (first_of (entry_causes (length ps) h (loaded ps) out)) (first_of (entry_causes (length ps) h ps out)) t u out
+unfolding first_of
+write_same h ps out t u same = go (is (ltb (length ps) 32)) (is (leb h.count 32))
+  where
+    go : Is (ltb (length ps) 32) → Is (leb h.count 32) → Same (first_of (entry_causes (length ps) h (loaded ps) out)) (first_of (entry_causes (length ps) h ps out)) t u out
+    go (is_true e) c = rw e (refl, refl)
+    go (is_false e) (is_true c) =
+        let few = le_of h.count 32 c in
+        let long = ge_of (length ps) 32 e in
+        rw (loaded_whole ps long, head_list h ps few, same few long) (refl, refl)
+    go (is_false e) (is_false c) = rw (e, c) (refused_any (ltb (length out) 8192) t u out)
+
 module _ (h : Head) (ps : List Preset) (out : List ℕ) {r : Result ℕ code.Refusal} {after : List ℕ} (long : 32 ≤ length ps) where
   pub write_list : WroteHead h (take 32 ps) out r after → WroteEntry (length ps) h ps out r after
   unfolding write_answer write_output
   write_list w =
-      let same = write_same h ps out (text_of (head_in h (take 32 ps))) (text_of (head_in h ps)) long (λ few. ap text_of (head_list h ps few)) in
+      let same = write_first h ps out (text_of (head_in h (take 32 ps))) (text_of (head_in h ps)) long (λ few. ap text_of (head_list h ps few)) in
       record { answer = w.answer ∙ same.0; output = w.output ∙ same.1 }
 
   pub write_rows_list : WroteRows 32 h (take 32 ps) out r after → WroteRows (length ps) h ps out r after
   unfolding first_of
   write_rows_list w =
-      let same = write_same h ps out (rows_text h.busy) (rows_text h.busy) long (λ few. refl) in
+      let same = write_first h ps out (rows_text h.busy) (rows_text h.busy) long (λ few. refl) in
       record { answer = w.answer ∙ same.0; output = w.output ∙ same.1 }
 
 -- ---- reading

@@ -1,7 +1,7 @@
 -- Laws of event lines.
 --
 -- In order: a line that begins as a call has no other form (`call_form`); the event of what was read is
--- the line's (`call_lacks`, `call_has`, `line_lacks`, `line_has`).
+-- the line's (`call_read_lem`, `call_lacks`, `call_has`, `line_lacks`, `line_has`).
 -- Assumes nothing.
 use Prim.Native.Nat.{ℕ}
 use mathlib.Core.Path.{◌≡◌, refl, sym, ◌∙◌, ap}
@@ -37,6 +37,14 @@ unfolding form frame_in busy_in preset_in supply_in clock_in call_in tie_in word
 call_form l e = word_had (bytes "(call ") l (λ r. some r) (drop 6 l) (rw e refl) (λ r h q. rw h (or_none (made call_line (read_jobs r))))
 
 -- ---- the event of what was read
+
+-- a call's event, by the jobs that were read of it
+pub call_read_lem : (l : List ℕ) (j : Jobs) → starts (bytes "(call ") l ≡ true → Some j ≡ jobs_read (read_jobs (drop 6 l)) → call_event j ≡ event_in (form l)
+call_read_lem l j s e = go (read_jobs (drop 6 l)) e ∙ ap event_in (sym (call_form l s))
+  where
+    go : (p : Option CallJobs) → Some j ≡ jobs_read p → call_event j ≡ event_in (made call_line p)
+    go none q = absurd cc
+    go (some p) q = let k : j ≡ jobs_made p = cc in rw k refl
 
 -- the place after a call's first word
 call_start : (l : List ℕ) (at : ℕ) → Some at ≡ word_at (bytes "(call ") l 0 → at ≡ 6

@@ -86,7 +86,11 @@ module _ (t : List ℕ) where
       let a : word (bytes "(tie hold)\n") t (whole (tie_line true)) ≡ none = ends_no t (bytes "(tie hold)\n") 0 (tie_line true) h in
       rw a refl
 
+  -- the other of the two texts
+  pub tie_place_lem : is_hold ≡ false → is_place ≡ true → tie_in t ≡ some (tie_line false)
+  tie_place_lem h p = not_hold h ∙ ends_yes t (bytes "(tie place)\n") 0 (tie_line false) p
+
   -- the other of the two texts, or none
   pub tie_other : (hi : ℕ) → is_hold ≡ false → (b : Bool) → b ≡ is_place → then_some b (Tie false) ≡ line_in hi (tie_in t)
-  tie_other hi h true e = ap (line_in hi) (sym (not_hold h ∙ ends_yes t (bytes "(tie place)\n") 0 (tie_line false) (sym e)))
+  tie_other hi h true e = ap (line_in hi) (sym (tie_place_lem h (sym e)))
   tie_other hi h false e = ap (line_in hi) (sym (not_hold h ∙ ends_no t (bytes "(tie place)\n") 0 (tie_line false) (sym e)))

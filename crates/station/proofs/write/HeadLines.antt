@@ -7,18 +7,19 @@
 use Prim.Native.Nat.{ℕ, zero, suc, ◌≤◌, ◌<◌}
 use native.Mathlib.Omega.{arith}
 use mathlib.Core.Path.{◌≡◌, refl, sym, ◌∙◌, ap}
-use mathlib.Core.Bool.{true, not}
+use mathlib.Core.Bool.{false, not, true}
 use mathlib.Core.Option.{Option, none, some}
 use mathlib.Core.List.{List, [], ◌∷◌, ◌++◌, map, map-append, append-nil}
 use lib.Dec.{ltb}
 use lib.ListN.{length, drop, get_or}
 use lib.Seq.{drop-cons}
 use Rattle.std.specs.Prelude.{Ok, Err}
-use Rattle.laws.proofs.Comparisons.{ltb_no, ge_of}
+use Rattle.laws.proofs.Comparisons.{ltb_yes, ltb_no, ge_of}
 use Rattle.laws.proofs.Tests.{true_of_not}
 use Rattle.station.specs.declared.types.Preset.{Preset}
 use Rattle.station.specs.declared.types.Head.{Head as Record}
 use Rattle.station.specs.declared.types.Refusal as code
+use Rattle.station.specs.declared.types.Refusal.TheVariants.{OutOfLimits, TooShort}
 use Rattle.station.specs.Head.{Head}
 use Rattle.station.specs.Refusal.{Refusal, out_of_limits, too_short, try, first_of}
 use Rattle.station.specs.Text.{bytes, ◌then◌, join}
@@ -94,6 +95,15 @@ module _ (h : Record) (ps : List Preset) (out : List ℕ) where
   pub head_refused : (r : code.Refusal) → cause_in (Err r) ≡ first_of (write_causes h ps out) → WroteHead h ps out (Err r) out
   unfolding write_answer write_output
   head_refused r e = let both = text_refused (first_of (write_causes h ps out)) r (text_of (head_in h ps)) out e in record { answer = both.0; output = both.1 }
+
+  -- the two causes, one by one
+  pub too_short_lem : length out < 8192 → WroteHead h ps out (Err TooShort) out
+  unfolding first_of
+  too_short_lem l = head_refused TooShort (rw (ltb_yes (length out) 8192 l) refl)
+
+  pub out_of_limits_lem : 8192 ≤ length out → valid_record h ps ≡ false → WroteHead h ps out (Err OutOfLimits) out
+  unfolding first_of
+  out_of_limits_lem l v = head_refused OutOfLimits (rw (ltb_no (length out) 8192 l, v) refl)
 
   pub head_written : (n : ℕ) (after : List ℕ) → none ≡ first_of (write_causes h ps out) → Wrote out 0 (text_of (head_in h ps)) after n → WroteHead h ps out (Ok n) after
   unfolding write_answer write_output

@@ -28,7 +28,9 @@ pub(crate) enum Stage {
     Presets,
 }
 
-// What the lines read so far make: the stage, the head and its preset records.
+// What the lines read so far make: the stage, the head and its preset records. That the head has at
+// most 8 bridges stands in the contracts of three steps and not in a ghost field: each definition
+// of specs/method/HeadStep that makes a state of any numbers would have to prove it.
 #[derive(Clone, Copy, Debug, PartialEq, Eq, Hash)]
 pub(crate) struct State {
     pub stage: Stage,

@@ -25,7 +25,7 @@ fn bare_row(out: &mut Writer, bridge: usize, first: usize, last: usize)
     out.word(b"\r\n");
 }
 
-// Writes a row for each run of busy slots of a bridge.
+// Writes a row for each run of busy slots of a bridge. std has no iterator over the runs of a mask.
 fn bridge_rows(out: &mut Writer, bridge: usize, mask: u64)
     ensures { Writes out.old
         (bare (bridge_rows bridge (stretches most_slots 1 mask))) out.new }
@@ -49,7 +49,8 @@ fn all_rows(out: &mut Writer, busy: &[u64])
 
 // Writes the rows of a head at the start of the output and answers their length; the bytes past
 // them stay. Refused with 8 for an output below 8,192 bytes, whatever the frame, and with 2 for a
-// head record that no text yields; the output then stays as it was.
+// head record that no text yields; the output then stays as it was. It stays beside `write_rows`:
+// who has 32 records meets no 8 of the list.
 pub fn write_rows_by_value(station: &Station, out: &mut [u8]) -> Result<usize, Refusal>
     ensures { WroteRows most_presets station.now.head station.now.presets out.old result out.new }
 {
