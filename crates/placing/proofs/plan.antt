@@ -1,2 +1,3 @@
 -- The answers of a plan.
+pub mod BusyCells
 pub mod PlanAnswers

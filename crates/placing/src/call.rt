@@ -1,5 +1,7 @@
-// A call on a running frame: the causes, by the counts of the table and the clock, then the eviction search, then the jobs into the table. The entry `call` has its presets in
-// a borrowed slice of records, `call_by_value` takes a station; `call_by_counts` is for who keeps the counts between calls.
+// A call on a running frame: the causes, by the counts of the table and the clock, then the
+// eviction search, then the jobs into the table. The entry `call` has its presets in a borrowed
+// slice of records, `call_by_value` takes a station; `call_by_counts` is for who keeps the counts
+// between calls.
 ghost use Rattle.std.specs.Prelude.{◌≡◌, true, false, ℕ, ◌<◌, ◌≤◌, length, get_or};
 ghost use Rattle.station.specs.Limits.{most_jobs, least_cells};
 ghost use Rattle.station.specs.Types.{station_in, valid_station};
@@ -26,10 +28,11 @@ use crate::limits::MOST_PLACED;
 use crate::moment::Moment;
 use crate::rule::{Work, place};
 use crate::search::evict;
-use station::limits::{LEAST_RECORDS, MOST_JOBS};
+use station::limits::MOST_JOBS;
 use station::types::{Call, Head, Job, Preset, Refusal, Station};
 
-// The call cell with the number of each of the eight job records; 0 past them. Of jobs within their limits the numbers are the jobs' own.
+// The call cell with the number of each of the eight job records; 0 past them. Of jobs within their
+// limits the numbers are the jobs' own.
 fn job_cells(jobs: [Job; MOST_JOBS]) -> [Cell; MOST_PLACED]
     ensures { (n : ℕ) → n ≤ most_jobs → jobs_outside (jobs_in n jobs) ≡ false → (i : ℕ) → i < n → get_or result i 0 ≡ call_cell (job_at (jobs_in n jobs) i).number }
 {
@@ -40,8 +43,9 @@ fn job_cells(jobs: [Job; MOST_JOBS]) -> [Cell; MOST_PLACED]
     all
 }
 
-// Carries out a call that meets no cause but perhaps the last: 7 where it does not fit, and else the table is written. No cell is evicted past `clean`: from the first slot on where none is
-// at all, else only past the frame, since what goes first are the latest cells of a preset.
+// Carries out a call that meets no cause but perhaps the last: 7 where it does not fit, and else
+// the table is written. No cell is evicted past `clean`: from the first slot on where none is at
+// all, else only past the frame, since what goes first are the latest cells of a preset.
 fn carry_out(
     station: &Station,
     table: &mut [Cell],
@@ -72,8 +76,9 @@ fn carry_out(
 }
 
 // Takes a call on a running frame, by the counts of its table and clock: the causes 2, 4, 9 of its
-// jobs, then 7 where it does not fit. A refusal changes nothing; a call that is taken brings the counts up to the table that it leaves. Who keeps them between calls need not have the
-// table counted for each.
+// jobs, then 7 where it does not fit. A refusal changes nothing; a call that is taken brings the
+// counts up to the table that it leaves. Who keeps them between calls need not have the table
+// counted for each.
 pub fn call_by_counts(
     station: &Station,
     table: &mut [Cell],
@@ -94,8 +99,9 @@ pub fn call_by_counts(
     Ok(evicted)
 }
 
-// Takes a call on the frame at a moment: the causes 8, 2, 11, then 2, 4, 9 of its jobs, then 7 where it does not
-// fit. A refusal changes nothing. A frame that 11 lets pass is such a frame afterwards.
+// Takes a call on the frame at a moment: the causes 8, 2, 11, then 2, 4, 9 of its jobs, then 7
+// where it does not fit. A refusal changes nothing. A frame that 11 lets pass is such a frame
+// afterwards. It stays beside `call`: who has 32 records meets no 8 of the list.
 pub fn call_by_value(
     station: &Station,
     table: &mut [Cell],
@@ -111,8 +117,9 @@ pub fn call_by_value(
     call_by_counts(station, table, moment, call, &mut counts)
 }
 
-// Takes a call on the frame at a moment, the presets being the list's first records: the causes 8 (a table below 512 cells or
-// a list below 32 records), 2, 11, then 2, 4, 9 of its jobs, then 7 where it does not fit. A refusal changes nothing. A frame that 11 lets pass is such a frame
+// Takes a call on the frame at a moment, the presets being the list's first records: the causes 8
+// (a table below 512 cells or a list below 32 records), 2, 11, then 2, 4, 9 of its jobs, then 7
+// where it does not fit. A refusal changes nothing. A frame that 11 lets pass is such a frame
 // afterwards.
 pub fn call(
     head: Head,
@@ -123,12 +130,6 @@ pub fn call(
 ) -> Result<usize, Refusal>
     ensures { CallEntry head presets.now (call_jobs call.count call.jobs) (state_at table.old moment) table.new result }
 {
-    let records = presets
-        .first_chunk::<LEAST_RECORDS>()
-        .ok_or(Refusal::TooShort)?;
-    let station = Station {
-        head,
-        presets: *records,
-    };
+    let station = Station::of(head, presets)?;
     call_by_value(&station, table, moment, call)
 }

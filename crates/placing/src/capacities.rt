@@ -23,7 +23,8 @@ pub(crate) fn enter_slot(entries: &mut [u8; MOST_BRIDGES], free: usize)
     }
 }
 
-// Takes a slot with so many free bridges off again.
+// Takes a slot with so many free bridges off again. One function with the step as a closure would
+// be no plainer: entering has a clause against too large a number, which this has not.
 pub(crate) fn leave_slot(entries: &mut [u8; MOST_BRIDGES], free: usize)
     ensures { (length entries.new ≡ length entries.old) × (length entries.old ≡ most_bridges → (r : ℕ) → r < most_bridges → get_or entries.new r 0 ≡ get_or entries.old r 0 - bit (ltb r free)) }
 {

@@ -1,13 +1,16 @@
-// What a cell of the table is in code: kind × 256 + number. The kinds are 0 empty, 1 busy, both with number 0, 2 mandatory, 3 optional, 4 call.
+// What a cell of the table is in code: kind × 256 + number. The kinds are 0 empty, 1 busy, both
+// with number 0, 2 mandatory, 3 optional, 4 call.
 ghost use Rattle.std.specs.Prelude.{◌<◌, ◌≡◌};
 ghost use Rattle.placing.specs.Types.{kind_in};
 ghost use Rattle.placing.specs.Table.{kind_of, number_in, is_optional, is_call, is_held};
 ghost use Rattle.placing.specs.method.Counts.{evictable_cell};
 
-// A cell of the table: its kind times 256, and the number of the preset or job that has it. It stays a number and is no enum: the C interface lends tables as numbers.
+// A cell of the table: its kind times 256, and the number of the preset or job that has it. It
+// stays a number and is no enum: the C interface lends tables as numbers.
 pub type Cell = u16;
 
-// The busy cell, the first cell of each kind that has numbers, and the first value past the last kind.
+// The busy cell, the first cell of each kind that has numbers, and the first value past the last
+// kind.
 pub const BUSY: Cell = 256;
 
 pub const MANDATORY: Cell = 512;
@@ -18,7 +21,8 @@ pub const CALL: Cell = 1024;
 
 pub const VALUES: Cell = 1280;
 
-// What a cell holds, in the order of the kinds' numbers. A value past the last kind is of none of them: no well-formed table has one.
+// What a cell holds, in the order of the kinds' numbers. A value past the last kind is of none of
+// them: no well-formed table has one.
 #[derive(Clone, Copy, Debug, PartialEq, Eq, Hash)]
 pub enum Kind {
     Empty,

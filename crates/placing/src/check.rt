@@ -11,6 +11,7 @@ ghost use Rattle.placing.specs.Causes.{cause_in, frame_causes_of};
 
 use crate::cells::Cell;
 use crate::check::table::well_formed;
+use crate::lawful::Lawful;
 use station::check::valid_record;
 use station::limits::LEAST_CELLS;
 use station::types::{Refusal, Station};
@@ -26,15 +27,16 @@ pub fn clock_in(slots: usize, clock: usize) -> bool
 }
 
 // Whether the frame is one that 11 lets pass: a well-formed table, and a clock of the frame.
-fn well_formed_frame(station: &Station, table: &[Cell], clock: usize) -> bool
-    requires { (valid_station station.now ≡ true) × (least_cells ≤ length table.now) }
-    ensures { (hold : Bool) → result ≡ well_formed_frame (station_in station.now) (state_of table.now clock hold) }
+fn well_formed_frame(lawful: &Lawful, table: &[Cell], clock: usize) -> bool
+    requires { least_cells ≤ length table.now }
+    ensures { (hold : Bool) → result ≡ well_formed_frame (station_in lawful.now.station.now) (state_of table.now clock hold) }
 {
-    well_formed(station, table) && clock_in(station.head.slots, clock)
+    well_formed(lawful, table) && clock_in(lawful.station.head.slots, clock)
 }
 
-// The causes of a running frame: 8 for a table below 512 cells, 2 for a head record that no text yields, 11 for a table that is not well-formed or a clock
-// outside 0 to S + 1, whatever the order of ties is.
+// The causes of a running frame: 8 for a table below 512 cells, 2 for a head record that no text
+// yields, 11 for a table that is not well-formed or a clock outside 0 to S + 1, whatever the order
+// of ties is.
 pub fn frame_cause(station: &Station, table: &[Cell], clock: usize) -> Result<(), Refusal>
     ensures { (hold : Bool) → cause_in result ≡ first_of (frame_causes_of station.now.head station.now.presets (state_of table.now clock hold)) }
 {
@@ -44,7 +46,8 @@ pub fn frame_cause(station: &Station, table: &[Cell], clock: usize) -> Result<()
     if !valid_record(station) {
         return Err(Refusal::OutOfLimits);
     }
-    if !well_formed_frame(station, table, clock) {
+    let lawful = Lawful { station };
+    if !well_formed_frame(&lawful, table, clock) {
         return Err(Refusal::NotWellFormed);
     }
     Ok(())

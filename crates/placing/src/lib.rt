@@ -1,5 +1,5 @@
-// Layer 2, placing: the plan of a fresh frame, and a call on a running one. What must be believed of it is specs/, what is proved proofs/Theorems.antt.
-// The entries:
+// Layer 2, placing: the plan of a fresh frame, and a call on a running one. What must be believed
+// of it is specs/, what is proved proofs/Theorems.antt. The entries:
 #![tactic(auto)]
 
 pub mod plan; // plan.rt: plan, over a borrowed list of preset records; and with them by value
@@ -12,6 +12,8 @@ mod sums; // sums.rt: needs by their sums, and by how much they exceed the capac
 // The causes of a frame, and the limits within which the parts look at one:
 pub mod check; // check.rt: the first cause that a running frame meets
 pub mod limits; // limits.rt: the limits, and the motors that the supply feeds
+mod lawful; // lawful.rt: a station within all its limits
+mod grid; // grid.rt: the cells of a frame within the limits
 // What a plan's presets get:
 mod grants; // grants.rt: the grants
 // What a call costs:

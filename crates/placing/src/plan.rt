@@ -3,7 +3,7 @@
 ghost use Rattle.std.specs.Prelude.{◌≡◌, true, ◌+◌, ◌-◌, ◌≤◌, length};
 ghost use Rattle.laws.specs.Lists.{at};
 ghost use Rattle.station.specs.Limits.{most_presets, least_cells};
-ghost use Rattle.station.specs.Types.{head_in, station_in, valid_station};
+ghost use Rattle.station.specs.Types.{head_in, station_in};
 ghost use Rattle.placing.specs.method.Limits.{most_placed};
 ghost use Rattle.placing.specs.method.Records.{record_at};
 ghost use Rattle.placing.specs.method.Grants.{GrantedValid};
@@ -16,20 +16,22 @@ ghost use Rattle.placing.specs.Types.{filled};
 
 use crate::cells::{BUSY, Cell, MANDATORY, OPTIONAL};
 use crate::grants::{Granted, grant};
+use crate::lawful::Lawful;
 use crate::limits::MOST_PLACED;
 use crate::rule::{Work, place};
-use station::limits::{LEAST_CELLS, LEAST_RECORDS, MOST_PRESETS};
+use station::check::valid_record;
+use station::limits::{LEAST_CELLS, MOST_PRESETS};
 use station::types::{Head, Preset, Refusal, Station};
 
 // The cell of the kind that begins at `kind` with the number of each preset; 0 after them.
 #[tactic(auto, using(crate::proofs::grants::Arrays::filled_none, crate::proofs::grants::Arrays::filled_more))]
-fn preset_cells(station: &Station, kind: Cell) -> [Cell; MOST_PLACED]
-    requires { (station.now.head.count ≤ most_presets) × (kind ≤ 1024) }
-    ensures { result ≡ filled most_placed station.now.head.count (λ i. kind + (record_at station.now.presets i).number) }
+fn preset_cells(lawful: &Lawful, kind: Cell) -> [Cell; MOST_PLACED]
+    requires { kind ≤ 1024 }
+    ensures { result ≡ filled most_placed lawful.now.station.now.head.count (λ i. kind + (record_at lawful.now.station.now.presets i).number) }
 {
     let mut all = [0; MOST_PLACED];
-    for i in 0..station.head.count {
-        all[i] = kind + Cell::from(station.presets[i].number);
+    for i in 0..lawful.station.head.count {
+        all[i] = kind + Cell::from(lawful.station.presets[i].number);
     }
     all
 }
@@ -48,18 +50,18 @@ fn grants_of(needs: [u8; MOST_PLACED], mandatory: [u8; MOST_PLACED], k: usize) -
 }
 
 // Writes the plan's table: busy cells first, then the presets with what each of them gets.
-fn write_plan(station: &Station, table: &mut [Cell], granted: Granted)
-    requires { (valid_station station.now ≡ true) × (least_cells ≤ length table.old) × GrantedValid station.now.head station.now.presets granted }
-    ensures { table.new ≡ written (station_in station.now) (planned (tie_of station.now.head.hold) (station_in station.now)) table.old }
+fn write_plan(lawful: &Lawful, table: &mut [Cell], granted: Granted)
+    requires { (least_cells ≤ length table.old) × GrantedValid lawful.now.station.now.head lawful.now.station.now.presets granted }
+    ensures { table.new ≡ written (station_in lawful.now.station.now) (planned (tie_of lawful.now.station.now.head.hold) (station_in lawful.now.station.now)) table.old }
 {
-    let head = &station.head;
+    let head = &lawful.station.head;
     table[..head.slots * head.bridges].fill(BUSY);
     let work = Work {
         needs: granted.needs,
         count: head.count,
         first: granted.mandatory,
-        early: preset_cells(station, MANDATORY),
-        late: preset_cells(station, OPTIONAL),
+        early: preset_cells(lawful, MANDATORY),
+        late: preset_cells(lawful, OPTIONAL),
     };
     // No free cell is empty yet: the busy cells stand in all of them.
     place(table, head, &granted.offer, &work, head.slots, head.hold);
@@ -67,7 +69,8 @@ fn write_plan(station: &Station, table: &mut [Cell], granted: Granted)
 
 // Plans a fresh frame over the whole table, and answers each preset's grant in file order, 0 past
 // the last preset: 8 for a table below 512 cells, 2 for a head record that no text yields, 5 where
-// the mandatory slots do not fit. A refusal changes nothing.
+// the mandatory slots do not fit. A refusal changes nothing. It stays beside `plan`: who has 32
+// records meets no 8 of the list.
 pub fn plan_by_value(station: &Station, table: &mut [Cell]) -> Result<[u8; MOST_PRESETS], Refusal>
     ensures done { PlanDone station.now.head station.now.presets table.old table.new result }
     ensures claim { PlanClaim (station_in station.now) table.old }
@@ -75,11 +78,15 @@ pub fn plan_by_value(station: &Station, table: &mut [Cell]) -> Result<[u8; MOST_
     if table.len() < LEAST_CELLS {
         return Err(Refusal::TooShort);
     }
-    let granted = grant(station)?;
+    if !valid_record(station) {
+        return Err(Refusal::OutOfLimits);
+    }
+    let lawful = Lawful { station };
+    let granted = grant(&lawful)?;
     let needs = granted.needs;
     let mandatory = granted.mandatory;
     let grants = grants_of(needs, mandatory, station.head.count);
-    write_plan(station, table, granted);
+    write_plan(&lawful, table, granted);
     Ok(grants)
 }
 
@@ -94,12 +101,6 @@ pub fn plan(
     ensures done { PlanEntered (length presets.now) head presets.now table.old table.new result }
     ensures claim { PlanClaim (head_in head presets.now) table.old }
 {
-    let records = presets
-        .first_chunk::<LEAST_RECORDS>()
-        .ok_or(Refusal::TooShort)?;
-    let station = Station {
-        head,
-        presets: *records,
-    };
+    let station = Station::of(head, presets)?;
     plan_by_value(&station, table)
 }

@@ -12,13 +12,14 @@ ghost use Rattle.placing.specs.method.Search.{Starts, Searched};
 
 use crate::capacities::slot_counts;
 use crate::cells::Cell;
-use crate::limits::{MOST_PLACED, in_limits};
+use crate::grid::Grid;
+use crate::limits::MOST_PLACED;
 use crate::rule::Offer;
 use crate::search::empty::slot_masks;
 use crate::search::taking::walk;
 use crate::sums::Sums;
-use station::limits::{MOST_BRIDGES, MOST_SLOTS};
-use station::types::{Head, Station};
+use station::limits::{MOST_BRIDGES, MOST_PRESETS, MOST_SLOTS};
+use station::types::Station;
 
 // What a call that fits evicts: how many cells, and where its jobs may go: over the empty cells
 // above the clock and the evicted ones, nowhere up to the clock and past the frame.
@@ -28,8 +29,8 @@ pub(crate) struct Evicted {
     pub offer: Offer,
 }
 
-// What the jobs demand: the sums of their lengths, and the number of slots in which they are to have
-// it.
+// What the jobs demand: the sums of their lengths, and the number of slots in which they are to
+// have it.
 #[derive(Clone, Copy, Debug, PartialEq, Eq, Hash)]
 pub(crate) struct Demand {
     pub slots: usize,
@@ -38,8 +39,9 @@ pub(crate) struct Demand {
 
 // What the search keeps: where the jobs may go, each slot's count being its free number, how many
 // slots have at least one, two, up to eight free bridges, the shortage, and how many cells are
-// evicted so far. That these numbers are right (`Stands`) is no ghost field: it speaks of the demand
-// too, and with the demand in here every contract of the walk would have to say that it stays.
+// evicted so far. That these numbers are right (`Stands`) is no ghost field: it speaks of the
+// demand too, and with the demand in here every contract of the walk would have to say that it
+// stays.
 #[derive(Clone, Copy, Debug, PartialEq, Eq, Hash)]
 pub(crate) struct Search {
     pub offer: Offer,
@@ -49,12 +51,12 @@ pub(crate) struct Search {
 }
 
 // What the search has before its walk: the empty cells above the clock, and the free numbers.
-fn starting(table: &[Cell], head: &Head, clock: usize, demand: &Demand) -> Search
-    requires { (head.now.bridges ≤ most_bridges) × (demand.now.slots ≡ head.now.slots) × (head.now.slots ≤ most_slots) × (least_cells ≤ length table.now) × ((r : ℕ) → r < capacity_count → get_or demand.now.sums.largest r 0 ≤ 255 * most_placed) × (demand.now.sums.total ≤ 255 * most_placed) }
-    ensures { Starts table.now head.now.bridges (motors_in head.now) clock demand.now result }
+fn starting(grid: &Grid, clock: usize, demand: &Demand) -> Search
+    requires { (demand.now.slots ≡ grid.now.slots) × ((r : ℕ) → r < capacity_count → get_or demand.now.sums.largest r 0 ≤ 255 * most_placed) × (demand.now.sums.total ≤ 255 * most_placed) }
+    ensures { Starts grid.now.cells.now grid.now.bridges grid.now.fed clock demand.now result }
 {
     let mut spare = [0; MOST_SLOTS];
-    let free = slot_masks(table, head, clock, &mut spare);
+    let free = slot_masks(grid, clock, &mut spare);
     let mut entries = [0; MOST_BRIDGES];
     let counts = slot_counts(&free, &spare, demand.slots, &mut entries);
     let short = demand.sums.excess(&entries);
@@ -79,15 +81,16 @@ pub(crate) fn evict(
     ensures { Searched station.now.head station.now.presets clock needs.now k table.now result }
 {
     let head = &station.head;
-    if MOST_PLACED < k || !in_limits(head.slots, head.bridges, head.count, table.len()) {
+    if MOST_PLACED < k || MOST_PRESETS < head.count {
         return None;
     }
+    let grid = Grid::of(head, table)?;
     let demand = Demand {
         slots: head.slots,
         sums: Sums::of(needs, k),
     };
-    let mut search = starting(table, head, clock, &demand);
-    walk(table, station, clock, &demand, &mut search);
+    let mut search = starting(&grid, clock, &demand);
+    walk(&grid, station, clock, &demand, &mut search);
     if search.short != 0 {
         return None;
     }

@@ -33,6 +33,10 @@ module _ (slots bridges n cells : ℕ) where
       ap (λ (b : Bool). b && leb 512 cells)
       (both p (leb n 32) (both (leb slots 64) (leb bridges 8) (leb_yes slots 64 f) (leb_yes bridges 8 g)) (leb_yes n 32 h))
 
+  pub few_presets : n ≤ 32 → sizes_in_limits slots bridges n cells ≡ sizes_in_limits slots bridges 0 cells
+  unfolding sizes_in_limits
+  few_presets h = ap (λ (b : Bool). (p && b) && leb 512 cells) (leb_yes n 32 h)
+
   pub in_limits : slots ≤ 64 → bridges ≤ 8 → n ≤ 32 → 512 ≤ cells → sizes_in_limits slots bridges n cells ≡ true
   in_limits f g h l = all_but_cells f g h ∙ leb_yes 512 cells l
 

@@ -1,4 +1,5 @@
-// The causes of a call itself, tried by the counts of the table and the clock: 2, 4 and 9 of its jobs, then 7.
+// The causes of a call itself, tried by the counts of the table and the clock: 2, 4 and 9 of its
+// jobs, then 7.
 ghost use Rattle.std.specs.Prelude.{ℕ, ◌+◌, ◌*◌, ◌<◌, ◌≤◌, ◌≡◌, false, not};
 ghost use Rattle.std.proofs.Math.Option.{none};
 ghost use Rattle.laws.specs.Sums.{every};
@@ -51,7 +52,8 @@ fn jobs_used(used: &[bool; 256], call: Call) -> bool
     false
 }
 
-// Whether the jobs fit beside what is unfinished, of which the sums are given, into slots of which it is given how many have at least one, two, up to eight free bridges.
+// Whether the jobs fit beside what is unfinished, of which the sums are given, into slots of which
+// it is given how many have at least one, two, up to eight free bridges.
 fn fits_by_counts(sums: Sums, at_least: &[u8; MOST_BRIDGES], call: Call) -> bool
     requires { IsCall call × ((r : ℕ) → r < capacity_count → at sums.largest r ≤ most_frame_jobs * most_length) × (sums.total ≤ most_frame_jobs * most_length) }
     ensures { FitBeside sums.largest sums.total at_least.now (jobs_in call.count call.jobs) result }
@@ -63,8 +65,9 @@ fn fits_by_counts(sums: Sums, at_least: &[u8; MOST_BRIDGES], call: Call) -> bool
     !all.lacks(at_least, 1)
 }
 
-// Whether the jobs fit into slots of which it is given how many have at least one, two, up to eight free bridges. Nothing is unfinished beside them, so that one job alone fits
-// where as many slots as it is long have a free bridge: the first entry.
+// Whether the jobs fit into slots of which it is given how many have at least one, two, up to eight
+// free bridges. Nothing is unfinished beside them, so that one job alone fits where as many slots
+// as it is long have a free bridge: the first entry.
 fn jobs_fit(at_least: &[u8; MOST_BRIDGES], call: Call) -> bool
     requires { IsCall call }
     ensures { CountedFit at_least.now (jobs_in call.count call.jobs) result }
@@ -75,8 +78,9 @@ fn jobs_fit(at_least: &[u8; MOST_BRIDGES], call: Call) -> bool
     fits_by_counts(NO_SUMS, at_least, call)
 }
 
-// The causes of the jobs of a call, by the numbers that are used and how many of them the call cells have: 2 for a ninth job, for none, or for one outside its
-// limits, 4 for a number that is used or twice in the call, 9 for more than 64 job numbers.
+// The causes of the jobs of a call, by the numbers that are used and how many of them the call
+// cells have: 2 for a ninth job, for none, or for one outside its limits, 4 for a number that is
+// used or twice in the call, 9 for more than 64 job numbers.
 fn own_cause(counts: &Counts, call: Call) -> Result<(), Refusal>
     ensures { OwnCause counts.now (call_jobs call.count call.jobs) result × (cause_in result ≡ none → (counts.now.admitted + call.count ≤ most_frame_jobs) × IsCall call) }
 {
@@ -92,7 +96,8 @@ fn own_cause(counts: &Counts, call: Call) -> Result<(), Refusal>
     Ok(())
 }
 
-// The causes of a call itself, by the counts of the table and the clock: those of its jobs, then 7 where it does not fit.
+// The causes of a call itself, by the counts of the table and the clock: those of its jobs, then 7
+// where it does not fit.
 pub(crate) fn cause_by_counts(counts: &Counts, call: Call) -> Result<(), Refusal>
     ensures { CountedCause counts.now (call_jobs call.count call.jobs) result × (cause_in result ≡ none → counts.now.admitted + call.count ≤ most_frame_jobs) }
 {

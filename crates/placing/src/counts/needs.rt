@@ -9,7 +9,8 @@ use crate::limits::MOST_PLACED;
 use station::limits::MOST_JOBS;
 use station::types::Job;
 
-// The lengths of the eight job records, and 0 past them. Of jobs within their limits they are the jobs' own.
+// The lengths of the eight job records, and 0 past them. Of jobs within their limits they are the
+// jobs' own.
 pub(crate) fn job_needs(jobs: [Job; MOST_JOBS]) -> [u8; MOST_PLACED]
     ensures { (n : ℕ) → n ≤ most_jobs → jobs_outside (jobs_in n jobs) ≡ false → lengths (jobs_in n jobs) ≡ take n result }
 {

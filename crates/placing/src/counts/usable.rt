@@ -1,5 +1,6 @@
-// The slots by what a call may fill in them: those of a table and a clock, and what is left of them where the clock moves.
-ghost use Rattle.std.specs.Prelude.{◌+◌, ◌≤◌, ◌≡◌, true, length};
+// The slots by what a call may fill in them: those of a table and a clock, and what is left of them
+// where the clock moves.
+ghost use Rattle.std.specs.Prelude.{◌*◌, ◌<◌, ◌≤◌, ◌≡◌, true, length};
 ghost use Rattle.laws.specs.method.Capacities.{AtLeast};
 ghost use Rattle.station.specs.Limits.{most_bridges};
 ghost use Rattle.placing.specs.method.Limits.{sizes_in_limits, motors_in};
@@ -8,7 +9,7 @@ ghost use Rattle.placing.specs.method.Counts.{free_cell, staying_cell, usable_in
 use crate::capacities::{enter_slot, leave_slot};
 use crate::cells::{Cell, is_evictable, is_held};
 use crate::counts::Counts;
-use crate::limits::{in_limits, motors};
+use crate::grid::Grid;
 use station::limits::MOST_BRIDGES;
 use station::types::Head;
 
@@ -26,61 +27,56 @@ fn is_free(v: Cell) -> bool
     v == 0 || is_evictable(v)
 }
 
-// How many cells of the slot whose first cell is at `from` a call may fill: the smaller of those that it may use and of the motors without the cells that stay. Always eight cells are looked
-// at, so that one vector instruction looks at all; those past the slot count for nothing.
-fn usable_in(table: &[Cell], from: usize, bridges: usize, motors: usize) -> usize
-    requires { (bridges ≤ most_bridges) × (from + most_bridges ≤ length table.now) }
-    ensures { (result ≡ usable_in table.now from bridges motors) × (result ≤ most_bridges) }
+// How many cells of a slot a call may fill: the smaller of those that it may use and of the motors
+// without the cells that stay. Always eight cells are looked at, so that one vector instruction
+// looks at all; those past the slot count for nothing.
+fn usable_in(grid: &Grid, slot: usize) -> usize
+    requires { slot < grid.now.slots }
+    ensures { (result ≡ usable_in grid.now.cells.now (slot * grid.now.bridges) grid.now.bridges grid.now.fed) × (result ≤ most_bridges) }
 {
+    let from = grid.start(slot);
     let mut free: u16 = 0;
     let mut staying: u16 = 0;
     for b in 0..MOST_BRIDGES {
-        let v = table[from + b];
+        let v = grid.cells[from + b];
         let one = u16::from(is_free(v));
         let other = u16::from(is_staying(v));
-        if b < bridges {
+        if b < grid.bridges {
             free += one;
             staying += other;
         }
     }
-    usize::from(free).min(motors.saturating_sub(usize::from(staying)))
+    usize::from(free).min(grid.fed.saturating_sub(usize::from(staying)))
 }
 
-// How many slots above the clock have at least one, two, up to eight cells that a call may fill, of a table within the limits. The other slots are not entered.
+// How many slots above the clock have at least one, two, up to eight cells that a call may fill, of
+// a table within the limits. The other slots are not entered.
 pub(crate) fn count_slots(head: Head, table: &[Cell], clock: usize) -> [u8; MOST_BRIDGES]
     ensures { sizes_in_limits head.slots head.bridges 0 (length table.now) ≡ true → AtLeast result head.slots (slot_free table.now head.bridges (motors_in head) clock) }
 {
-    let slots = head.slots;
-    let bridges = head.bridges;
-    let fed = motors(head);
     let mut entries = [0u8; MOST_BRIDGES];
-    if in_limits(slots, bridges, 0, table.len()) {
-        for s in clock.min(slots)..slots {
-            enter_slot(&mut entries, usable_in(table, s * bridges, bridges, fed));
+    if let Some(grid) = Grid::of(&head, table) {
+        for s in clock.min(grid.slots)..grid.slots {
+            enter_slot(&mut entries, usable_in(&grid, s));
         }
     }
     entries
 }
 
 impl Counts {
-    // Takes the slots above one clock and up to another off: a call cannot use them any more. It promises something
-    // within the limits, where the second clock is not below the first, and is safe for every other input.
+    // Takes the slots above one clock and up to another off: a call cannot use them any more. It
+    // promises something within the limits, where the second clock is not below the first, and is
+    // safe for every other input.
     pub fn pass_slots(&mut self, head: Head, table: &[Cell], from: usize, to: usize)
         ensures kept { (self.new.used ≡ self.old.used) × (self.new.admitted ≡ self.old.admitted) }
         ensures passed { sizes_in_limits head.slots head.bridges 0 (length table.now) ≡ true → from ≤ to
             → AtLeast self.old.at_least head.slots (slot_free table.now head.bridges (motors_in head) from) → AtLeast self.new.at_least head.slots (slot_free table.now head.bridges (motors_in head) to) }
     {
-        let slots = head.slots;
-        let bridges = head.bridges;
-        let fed = motors(head);
-        if !in_limits(slots, bridges, 0, table.len()) {
+        let Some(grid) = Grid::of(&head, table) else {
             return;
-        }
-        for s in from.min(slots)..to.min(slots) {
-            leave_slot(
-                &mut self.at_least,
-                usable_in(table, s * bridges, bridges, fed),
-            );
+        };
+        for s in from.min(grid.slots)..to.min(grid.slots) {
+            leave_slot(&mut self.at_least, usable_in(&grid, s));
         }
     }
 }

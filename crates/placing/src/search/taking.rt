@@ -2,12 +2,12 @@
 ghost use Rattle.std.specs.Prelude.{ℕ, ◌*◌, ◌<◌, ◌≤◌, ◌≡◌, true, List, [], ◌∷◌, length};
 ghost use Rattle.station.specs.Limits.{most_bridges, most_presets};
 ghost use Rattle.station.specs.Types.{station_in};
-ghost use Rattle.placing.specs.method.Limits.{sizes_in_limits};
+ghost use Rattle.placing.specs.method.Grid.{GridOf};
 ghost use Rattle.placing.specs.Table.{cell};
 ghost use Rattle.placing.specs.Call.{CellPlace, downward, eviction_order};
 ghost use Rattle.placing.specs.method.Search.{Stands, Walked, Chains, Linked};
 
-use crate::cells::Cell;
+use crate::grid::Grid;
 use crate::search::links::Links;
 use crate::search::ranks::ranks_of;
 use crate::search::{Demand, Search};
@@ -37,6 +37,7 @@ fn try_cell(search: &mut Search, demand: &Demand, slot: usize, bridge: usize)
 }
 
 // The walk over the chain of a rank: each cell is tried. It ends as soon as there is no shortage.
+// Down a chain there is no slice to go over.
 fn through_chain(links: &Links, rank: usize, demand: &Demand, search: &mut Search)
     requires { (rank < most_presets) × Linked links.now (demand.now.slots * most_bridges) × Stands demand.now search.old }
     ensures { Stands demand.now search.new × ((of : ℕ → List CellPlace) → Chains links.now of → Walked demand.now (of rank) search.old search.new) }
@@ -69,20 +70,20 @@ fn through_ranks(links: &Links, n: usize, demand: &Demand, search: &mut Search)
 // The walk over the refinement cells from what the search starts with. Where there is no shortage,
 // no cell is chained.
 pub(crate) fn walk(
-    table: &[Cell],
+    grid: &Grid,
     station: &Station,
     clock: usize,
     demand: &Demand,
     search: &mut Search,
 )
-    requires { (sizes_in_limits station.now.head.slots station.now.head.bridges station.now.head.count (length table.now) ≡ true) × (demand.now.slots ≡ station.now.head.slots) × Stands demand.now search.old }
-    ensures { Walked demand.now (eviction_order (station_in station.now) clock (cell (station_in station.now) table.now)) search.old search.new }
+    requires { (station.now.head.count ≤ most_presets) × GridOf station.now.head grid.now.cells.now grid.now × (demand.now.slots ≡ station.now.head.slots) × Stands demand.now search.old }
+    ensures { Walked demand.now (eviction_order (station_in station.now) clock (cell (station_in station.now) grid.now.cells.now)) search.old search.new }
 {
     if search.short == 0 {
         return;
     }
     let head = &station.head;
     let ranks = ranks_of(&station.presets[..head.count]);
-    let links = Links::of_slots(table, head, clock, &ranks);
+    let links = Links::of_slots(grid, clock, &ranks);
     through_ranks(&links, head.count, demand, search);
 }

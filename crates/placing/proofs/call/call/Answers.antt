@@ -1,29 +1,17 @@
 -- `call::call` meets its contract: a list of fewer than 32 records, and a call over the first 32. Assumes nothing.
-use mathlib.Core.List.{List}
-use Rattle.std.proofs.Common.{Bor}
 use Rattle.std.proofs.lemmas.Result.{err_from_is_err_and}
-use Rattle.station.specs.declared.types.Preset.{Preset}
-use Rattle.station.specs.declared.types.Refusal.TheVariants.{TooShort}
-use Rattle.station.proofs.Theorems.{few_records, first_records}
 use Rattle.placing.specs.State.{state_at}
 use Rattle.placing.specs.Causes.{call_jobs}
 use Rattle.placing.proofs.ListOfRecords.{call_entry, call_entry_short}
 use Rattle.placing.proofs.call.call.Goals as goal
 
-pub invariant_of-station : goal.invariant_of-station
-invariant_of-station c = let chunk = first_records (λ (y : Bor (List Preset)). y.now) 32 c.args.presets.now TooShort c.first_chunk.result c.ok_or.result c.in_ok-records.records c.first_chunk.ensures.cases
-    c.ok_or.ensures.value c.in_ok-records.was in
-    record { full = chunk.2 }
-
-pub returns-in_err-records : goal.returns-in_err-records
-returns-in_err-records c = let a = c.args in
-    let few = few_records (λ (y : Bor (List Preset)). y.now) 32 a.presets.now TooShort c.first_chunk.result c.ok_or.result c.in_err-records.field-0.0 c.first_chunk.ensures.cases
-    c.ok_or.ensures.value c.in_err-records.was in
+pub returns-in_err-station : goal.returns-in_err-station
+returns-in_err-station c = let a = c.args in
+    let few = rw c.in_err-station.was at c.of.ensures in
     let p = err_from_is_err_and c.from_residual.result c.from_residual.ensures.1 in
     rw (p.1, p.2, few.1) (call_entry_short a.head a.presets.now (call_jobs a.call.count a.call.jobs) (state_at a.table.now a.moment) few.0)
 
 pub returns : goal.returns
 returns c = let a = c.args in
-    let chunk = first_records (λ (y : Bor (List Preset)). y.now) 32 a.presets.now TooShort c.first_chunk.result c.ok_or.result c.in_ok-records.records c.first_chunk.ensures.cases
-    c.ok_or.ensures.value c.in_ok-records.was in
-    call_entry a.head a.presets.now (call_jobs a.call.count a.call.jobs) (state_at a.table.now a.moment) chunk.1 chunk.0 c.call_by_value.ensures.done
+    let made = rw c.in_ok-station.was at c.of.ensures in
+    call_entry a.head a.presets.now (call_jobs a.call.count a.call.jobs) (state_at a.table.now a.moment) made.2 made.0 (rw made.1 at c.call_by_value.ensures.done)

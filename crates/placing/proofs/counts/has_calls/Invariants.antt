@@ -7,4 +7,4 @@ use Rattle.placing.specs.Table.{is_call}
 use Rattle.placing.proofs.counts.has_calls.Given as goal
 
 abbrev pub invariant-loop-b : goal.invariant-loop-b
-invariant-loop-b l = (l.calls ≤ l.b) × (l.calls ≡ count l.b (λ j. is_call (get_or l.table (l.from + j) 0)))
+invariant-loop-b l = (l.calls ≤ l.b) × (l.calls ≡ count l.b (λ j. is_call (get_or l.grid.cells.now (l.from + j) 0)))

@@ -7,4 +7,4 @@ use Rattle.placing.specs.method.Counts.{Marked}
 use Rattle.placing.proofs.counts.mark_calls.Given as goal
 
 abbrev pub invariant-loop-s : goal.invariant-loop-s
-invariant-loop-s l = Marked l.table (l.s * l.bridges) l.used × (l.jobs ≡ count 256 (marked l.used))
+invariant-loop-s l = Marked l.grid.cells.now (l.s * l.grid.bridges) l.used × (l.jobs ≡ count 256 (marked l.used))

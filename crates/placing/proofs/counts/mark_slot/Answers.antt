@@ -10,4 +10,4 @@ pub loop-b-preserved : goal.loop-b-preserved
 loop-b-preserved c = let l = c.loop-b in
     let a = c.args in
     let one = one_bit _ c.mark.result c.from-jobs.ensures refl in
-    (marked_more (a.from + (l.b + 1)) l.invariant.0 refl c.mark.ensures (omega arith), omega (arith, l.invariant.1, one.0, c.mark.ensures.more), omega (arith, l.invariant.2, one.1))
+    (marked_more (c.start-from.result + (l.b + 1)) l.invariant.0 refl c.mark.ensures (omega arith), omega (arith, l.invariant.1, one.0, c.mark.ensures.more), omega (arith, l.invariant.2, one.1))

@@ -7,4 +7,4 @@ use Rattle.placing.specs.method.Counts.{Marked}
 use Rattle.placing.proofs.counts.mark_slot.Given as goal
 
 abbrev pub invariant-loop-b : goal.invariant-loop-b
-invariant-loop-b l = Marked l.table (l.from + l.b) l.used × (count 256 (marked l.used) ≡ count 256 (marked l.initial.used) + l.jobs) × (l.jobs ≤ l.b)
+invariant-loop-b l = Marked l.grid.cells.now (l.from + l.b) l.used × (count 256 (marked l.used) ≡ count 256 (marked l.initial.used) + l.jobs) × (l.jobs ≤ l.b)

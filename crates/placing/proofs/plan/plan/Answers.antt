@@ -1,34 +1,22 @@
 -- `plan::plan` meets its contract: a list of fewer than 32 records, and a plan over the first 32. Assumes nothing.
-use mathlib.Core.List.{List}
-use Rattle.std.proofs.Common.{Bor}
 use Rattle.std.proofs.lemmas.Result.{err_from_is_err_and}
-use Rattle.station.specs.declared.types.Preset.{Preset}
-use Rattle.station.specs.declared.types.Refusal.TheVariants.{TooShort}
-use Rattle.station.proofs.Theorems.{few_records, first_records}
 use Rattle.placing.proofs.ListOfRecords.{plan_short, plan_entered}
 use Rattle.placing.proofs.ClaimsHold.{plan_claim}
 use Rattle.placing.proofs.plan.plan.Goals as goal
 
-pub invariant_of-station : goal.invariant_of-station
-invariant_of-station c = let chunk = first_records (λ (y : Bor (List Preset)). y.now) 32 c.args.presets.now TooShort c.first_chunk.result c.ok_or.result c.in_ok-records.records c.first_chunk.ensures.cases
-    c.ok_or.ensures.value c.in_ok-records.was in
-    record { full = chunk.2 }
-
-pub returns-in_err-records-clause-claim : goal.returns-in_err-records-clause-claim
-returns-in_err-records-clause-claim c = plan_claim _ _
+pub returns-in_err-station-clause-claim : goal.returns-in_err-station-clause-claim
+returns-in_err-station-clause-claim c = plan_claim _ _
 
 pub returns-clause-claim : goal.returns-clause-claim
 returns-clause-claim c = plan_claim _ _
 
-pub returns-in_err-records-clause-done : goal.returns-in_err-records-clause-done
-returns-in_err-records-clause-done c = let a = c.args in
-    let few = few_records (λ (y : Bor (List Preset)). y.now) 32 a.presets.now TooShort c.first_chunk.result c.ok_or.result c.in_err-records.field-0.0 c.first_chunk.ensures.cases
-    c.ok_or.ensures.value c.in_err-records.was in
+pub returns-in_err-station-clause-done : goal.returns-in_err-station-clause-done
+returns-in_err-station-clause-done c = let a = c.args in
+    let few = rw c.in_err-station.was at c.of.ensures in
     let p = err_from_is_err_and c.from_residual.result c.from_residual.ensures.1 in
     rw (p.1, p.2, few.1) (plan_short a.head a.presets.now a.table.now few.0)
 
 pub returns-clause-done : goal.returns-clause-done
 returns-clause-done c = let a = c.args in
-    let chunk = first_records (λ (y : Bor (List Preset)). y.now) 32 a.presets.now TooShort c.first_chunk.result c.ok_or.result c.in_ok-records.records c.first_chunk.ensures.cases
-    c.ok_or.ensures.value c.in_ok-records.was in
-    plan_entered a.head a.presets.now chunk.1 chunk.0 c.plan_by_value.ensures.done
+    let made = rw c.in_ok-station.was at c.of.ensures in
+    plan_entered a.head a.presets.now made.2 made.0 (rw made.1 at c.plan_by_value.ensures.done)

@@ -6,4 +6,4 @@ use Rattle.placing.specs.Types.{filled}
 use Rattle.placing.proofs.plan.preset_cells.Given as goal
 
 abbrev pub invariant-loop-i : goal.invariant-loop-i
-invariant-loop-i l = l.all ≡ filled 64 l.i (λ j. l.kind + (record_at l.station.presets j).number)
+invariant-loop-i l = l.all ≡ filled 64 l.i (λ j. l.kind + (record_at l.lawful.station.now.presets j).number)

@@ -9,7 +9,7 @@ use lib.Seq.{length-take-le}
 use Rattle.station.specs.declared.types.Preset.{Preset}
 use Rattle.station.specs.declared.types.Head.{Head}
 use Rattle.station.specs.Types.{valid_record}
-use Rattle.placing.proofs.HeadRecord.{count_high, record_valid}
+use Rattle.placing.proofs.HeadRecord.{record_valid}
 use Rattle.placing.proofs.rule.SlotsPlaced.{frame_within}
 use Rattle.placing.proofs.plan.PlanAnswers.{plan_fillable, plan_written}
 use Rattle.placing.proofs.plan.write_plan.Goals as goal
@@ -24,27 +24,21 @@ cells_in head ps t v long =
     (frame, inside, length-take-le (head.slots * head.bridges) t inside)
 
 pub overflow_mul-head : goal.overflow_mul-head
-overflow_mul-head c = omega (arith, (cells_in c.args.station.now.head c.args.station.now.presets c.args.table.now c.requires.0 c.requires.1).0)
+overflow_mul-head c = omega (arith, (cells_in c.args.lawful.now.station.now.head c.args.lawful.now.station.now.presets c.args.table.now c.args.lawful.now.valid c.requires.0).0)
 
 pub slice_bounds-fill-end : goal.slice_bounds-fill-end
-slice_bounds-fill-end c = (cells_in c.args.station.now.head c.args.station.now.presets c.args.table.now c.requires.0 c.requires.1).1
+slice_bounds-fill-end c = (cells_in c.args.lawful.now.station.now.head c.args.lawful.now.station.now.presets c.args.table.now c.args.lawful.now.valid c.requires.0).1
 
 pub slice_bounds-fill-end-2 : goal.slice_bounds-fill-end-2
-slice_bounds-fill-end-2 c = sym (cells_in c.args.station.now.head c.args.station.now.presets c.args.table.now c.requires.0 c.requires.1).2
-
-pub preset_cells-requires : goal.preset_cells-requires
-preset_cells-requires c = (count_high c.args.station.now.head c.args.station.now.presets c.requires.0, omega arith)
-
-pub preset_cells-requires-2 : goal.preset_cells-requires-2
-preset_cells-requires-2 c = (count_high c.args.station.now.head c.args.station.now.presets c.requires.0, omega arith)
+slice_bounds-fill-end-2 c = sym (cells_in c.args.lawful.now.station.now.head c.args.lawful.now.station.now.presets c.args.table.now c.args.lawful.now.valid c.requires.0).2
 
 pub returns : goal.returns
 returns c = let a = c.args in
-    let g = c.requires.2 in
-    let n = a.station.now.head.slots * a.station.now.head.bridges in
-    let busy = c.fill.ensures.after (λ y e. e) ∙ ap (λ (k : ℕ). replicate k 256) (cells_in a.station.now.head a.station.now.presets a.table.now c.requires.0 c.requires.1).2 in
+    let g = c.requires.1 in
+    let n = a.lawful.now.station.now.head.slots * a.lawful.now.station.now.head.bridges in
+    let busy = c.fill.ensures.after (λ y e. e) ∙ ap (λ (k : ℕ). replicate k 256) (cells_in a.lawful.now.station.now.head a.lawful.now.station.now.presets a.table.now c.args.lawful.now.valid c.requires.0).2 in
     c.place.ensures (λ z b past inside low free. absurd (omega (arith, past, inside)))
-    (plan_fillable a.station.now.head a.station.now.presets a.station.now.full c.requires.0 a.granted g.granted a.granted.offer.counts g.free g.counts)
-    ∙ plan_written a.station.now.head a.station.now.presets a.station.now.full c.requires.0 a.granted g.granted a.table.now a.granted.offer.counts c.requires.1
+    (plan_fillable a.lawful.now.station.now.head a.lawful.now.station.now.presets a.lawful.now.station.now.full c.args.lawful.now.valid a.granted g.granted a.granted.offer.counts g.free g.counts)
+    ∙ plan_written a.lawful.now.station.now.head a.lawful.now.station.now.presets a.lawful.now.station.now.full c.args.lawful.now.valid a.granted g.granted a.table.now a.granted.offer.counts c.requires.0
     (ap (λ (q : List ℕ). q ++ drop n a.table.now) busy) g.free g.counts g.mandatory c.preset_cells.ensures
     c.preset_cells-2.ensures

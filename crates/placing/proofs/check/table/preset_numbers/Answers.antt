@@ -17,13 +17,13 @@ loop-i-init c = sym (numbered_none _)
 pub overflow_add-numbers : goal.overflow_add-numbers
 overflow_add-numbers c = let a = c.args in
     let l = c.loop-i in
-    rw l.invariant (omega (arith, numbered_le (presets_in a.station.now.head.count a.station.now.presets) c.from.result l.i))
+    rw l.invariant (omega (arith, numbered_le (presets_in a.lawful.now.station.now.head.count a.lawful.now.station.now.presets) c.from.result l.i))
 
 pub loop-i-preserved : goal.loop-i-preserved
 loop-i-preserved c = let a = c.args in
     let l = c.loop-i in
-    let ps = presets_in a.station.now.head.count a.station.now.presets in
+    let ps = presets_in a.lawful.now.station.now.head.count a.lawful.now.station.now.presets in
     rw c.from.ensures
     (sym (numbered_more ps l.i
-    ∙ ap (λ (p : Preset). bump (numbered ps l.i) p.number) (preset_at_lem a.station.now.head.count a.station.now.presets l.i (omega arith))
-    ∙ ap (λ (k : List ℕ). bump k (record_at a.station.now.presets l.i).number) (sym l.invariant)))
+    ∙ ap (λ (p : Preset). bump (numbered ps l.i) p.number) (preset_at_lem a.lawful.now.station.now.head.count a.lawful.now.station.now.presets l.i (omega arith))
+    ∙ ap (λ (k : List ℕ). bump k (record_at a.lawful.now.station.now.presets l.i).number) (sym l.invariant)))

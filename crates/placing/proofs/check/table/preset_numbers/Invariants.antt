@@ -7,4 +7,4 @@ use Rattle.placing.specs.method.Check.{numbered}
 use Rattle.placing.proofs.check.table.preset_numbers.Given as goal
 
 abbrev pub invariant-loop-i : goal.invariant-loop-i
-invariant-loop-i l = l.numbers ≡ numbered (map preset_in (take l.fn.station.head.count l.station.presets)) l.i
+invariant-loop-i l = l.numbers ≡ numbered (map preset_in (take l.fn.lawful.station.now.head.count l.lawful.station.now.presets)) l.i

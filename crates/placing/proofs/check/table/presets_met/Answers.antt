@@ -16,12 +16,12 @@ use Rattle.placing.proofs.check.table.presets_met.Goals as goal
 
 pub returns : goal.returns
 returns c =
-    let ps = c.args.station.now.presets in
-    let n = c.args.station.now.head.count in
+    let ps = c.args.lawful.now.station.now.presets in
+    let n = c.args.lawful.now.station.now.head.count in
     let t = c.args.counts.now in
     let met : Preset → Type 0 = λ p. is_met t (preset_in p) ≡ true in
     let unmet : Preset → Type 0 = λ p. is_met t (preset_in p) ≡ false in
-    every_by_all no_record met unmet (take n ps) n (length-take-le n ps (omega (arith, c.args.station.now.full))) (preset_met (presets_in n ps) t)
+    every_by_all no_record met unmet (take n ps) n (length-take-le n ps (omega (arith, c.args.lawful.now.station.now.full))) (preset_met (presets_in n ps) t)
     (λ k l q. ap (is_met t) (preset_at_lem n ps k l) ∙ (rw (get_or-take n ps k no_record l) at q))
     (λ k l q. ap (is_met t) (preset_at_lem n ps k l) ∙ (rw (get_or-take n ps k no_record l) at q))
     _ (cases_from_all _ _ _ met unmet c.all.ensures.ran (YieldsList-from_slice (take n ps) cc) (λ x q k. search (rules, tests)) (λ x q k. search (rules, tests)))

@@ -36,25 +36,28 @@ presets_by : (h : Head) (n : ℕ) (held counts : List ℕ) → preset_count h �
 presets_by h n held counts lines full = ap₂ (λ (k : ℕ) (l : List ℕ). every k (preset_met h.presets l)) lines full
 
 pub overflow_mul-cells : goal.overflow_mul-cells
-overflow_mul-cells c = let v = record_valid c.args.station.now.head c.args.station.now.presets c.requires.0 in
-    omega (arith, frame_le c.args.station.now.head.slots c.args.station.now.head.bridges v.slots_high v.bridges_high)
+overflow_mul-cells c = let v = record_valid c.args.lawful.now.station.now.head c.args.lawful.now.station.now.presets c.args.lawful.now.valid in
+    omega (arith, frame_le c.args.lawful.now.station.now.head.slots c.args.lawful.now.station.now.head.bridges v.slots_high v.bridges_high)
+
+pub invariant_of-grid : goal.invariant_of-grid
+invariant_of-grid c = let v = record_valid c.args.lawful.now.station.now.head c.args.lawful.now.station.now.presets c.args.lawful.now.valid in
+    record { few_slots = v.slots_high; few_bridges = v.bridges_high; enough = c.requires }
 
 pub scan-requires : goal.scan-requires
-scan-requires c = let v = record_valid c.args.station.now.head c.args.station.now.presets c.requires.0 in
-    (v.slots_high, v.bridges_high, c.requires.1, sym (tally_none c.args.table.now))
+scan-requires c = sym (tally_none c.args.table.now)
 
 pub returns-then-presets_met : goal.returns-then-presets_met
 returns-then-presets_met c = elim c.if-cells-scan.branch [
   | then-cells-scan w ↦
       let a = c.args in
-      let h = head_in a.station.now.head a.station.now.presets in
-      let v = record_valid a.station.now.head a.station.now.presets c.requires.0 in
-      let lines : preset_count h ≡ a.station.now.head.count = presets_count a.station.now.head a.station.now.presets (omega (arith, a.station.now.full, count_high a.station.now.head a.station.now.presets c.requires.0)) in
-      let first = first_by h a.station.now.head.count c.preset_numbers-numbers.result a.table.now c.scan.result lines c.preset_numbers-numbers.ensures c.scan.ensures.0 in
+      let h = head_in a.lawful.now.station.now.head a.lawful.now.station.now.presets in
+      let v = record_valid a.lawful.now.station.now.head a.lawful.now.station.now.presets c.args.lawful.now.valid in
+      let lines : preset_count h ≡ a.lawful.now.station.now.head.count = presets_count a.lawful.now.station.now.head a.lawful.now.station.now.presets (omega (arith, a.lawful.now.station.now.full, count_high a.lawful.now.station.now.head a.lawful.now.station.now.presets c.args.lawful.now.valid)) in
+      let first = first_by h a.lawful.now.station.now.head.count c.preset_numbers-numbers.result a.table.now c.scan.result lines c.preset_numbers-numbers.ensures (rw c.motors.ensures at c.scan.ensures.0) in
       let full = full_by h a.table.now c.scan.new.counts c.scan.result first.most w.if-cells-scan.true c.scan.ensures.1 in
       sym (all_but_jobs h v a.table.now
       (cells_fit h v a.table.now c.scan.result first w.if-cells-scan.true)
-      (presets_by h a.station.now.head.count a.table.now c.scan.new.counts lines full ∙ sym w.presets_met.ensures ∙ sym w.value-is ∙ c.if-presets_met.true)
+      (presets_by h a.lawful.now.station.now.head.count a.table.now c.scan.new.counts lines full ∙ sym w.presets_met.ensures ∙ sym w.value-is ∙ c.if-presets_met.true)
       ∙ ap (λ (x : List ℕ). leb (count 256 (has_call x)) 64) full
       ∙ ap (λ (n : ℕ). leb n 64) (sym c.job_count.ensures))
   | else-cells-scan w ↦ absurd (clash (sym c.if-presets_met.true ∙ w.value-is ∙ lt-leb _ _ w.if-cells-scan.false))
@@ -63,14 +66,14 @@ returns-then-presets_met c = elim c.if-cells-scan.branch [
 pub returns-else-presets_met : goal.returns-else-presets_met
 returns-else-presets_met c =
     let a = c.args in
-    let h = head_in a.station.now.head a.station.now.presets in
-    let v = record_valid a.station.now.head a.station.now.presets c.requires.0 in
-    let lines : preset_count h ≡ a.station.now.head.count = presets_count a.station.now.head a.station.now.presets (omega (arith, a.station.now.full, count_high a.station.now.head a.station.now.presets c.requires.0)) in
-    let first = first_by h a.station.now.head.count c.preset_numbers-numbers.result a.table.now c.scan.result lines c.preset_numbers-numbers.ensures c.scan.ensures.0 in
+    let h = head_in a.lawful.now.station.now.head a.lawful.now.station.now.presets in
+    let v = record_valid a.lawful.now.station.now.head a.lawful.now.station.now.presets c.args.lawful.now.valid in
+    let lines : preset_count h ≡ a.lawful.now.station.now.head.count = presets_count a.lawful.now.station.now.head a.lawful.now.station.now.presets (omega (arith, a.lawful.now.station.now.full, count_high a.lawful.now.station.now.head a.lawful.now.station.now.presets c.args.lawful.now.valid)) in
+    let first = first_by h a.lawful.now.station.now.head.count c.preset_numbers-numbers.result a.table.now c.scan.result lines c.preset_numbers-numbers.ensures (rw c.motors.ensures at c.scan.ensures.0) in
     c.if-presets_met.false
     ∙ sym (elim c.if-cells-scan.branch [
       | then-cells-scan w ↦
           let full = full_by h a.table.now c.scan.new.counts c.scan.result first.most w.if-cells-scan.true c.scan.ensures.1 in
-          preset_fails h v a.table.now (presets_by h a.station.now.head.count a.table.now c.scan.new.counts lines full ∙ sym w.presets_met.ensures ∙ sym w.value-is ∙ c.if-presets_met.false)
+          preset_fails h v a.table.now (presets_by h a.lawful.now.station.now.head.count a.table.now c.scan.new.counts lines full ∙ sym w.presets_met.ensures ∙ sym w.value-is ∙ c.if-presets_met.false)
       | else-cells-scan w ↦ cell_fails h v a.table.now c.scan.result first w.if-cells-scan.false
     ])

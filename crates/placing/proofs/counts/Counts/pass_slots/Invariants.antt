@@ -7,4 +7,4 @@ use Rattle.placing.proofs.counts.Counts.pass_slots.Given as goal
 
 abbrev pub invariant-loop-s : goal.invariant-loop-s
 invariant-loop-s l = (l.self.used ≡ l.initial.self.used) × (l.self.admitted ≡ l.initial.self.admitted)
-    × (l.from ≤ l.to → AtLeast l.initial.self.at_least l.slots (slot_free l.table l.bridges l.fed l.from) → AtLeast l.self.at_least l.slots (slot_free l.table l.bridges l.fed l.s))
+    × (l.from ≤ l.to → AtLeast l.initial.self.at_least l.grid.slots (slot_free l.grid.cells.now l.grid.bridges l.grid.fed l.from) → AtLeast l.self.at_least l.grid.slots (slot_free l.grid.cells.now l.grid.bridges l.grid.fed l.s))

@@ -4,4 +4,4 @@ use Rattle.placing.specs.method.Counts.{slot_free}
 use Rattle.placing.proofs.counts.usable.count_slots.Given as goal
 
 abbrev pub invariant-loop-s : goal.invariant-loop-s
-invariant-loop-s l = AtLeast l.entries l.s (slot_free l.table l.bridges l.fed l.clock)
+invariant-loop-s l = AtLeast l.entries l.s (slot_free l.grid.cells.now l.grid.bridges l.grid.fed l.clock)

@@ -13,4 +13,4 @@ abbrev pub along : (ℕ → Bool) → List ℕ → ℕ → ℕ → Bool
 along p table from b = p (get_or table (from + b) 0)
 
 abbrev pub invariant-loop-b : goal.invariant-loop-b
-invariant-loop-b l = (l.free ≤ l.b) × (l.free ≡ count (min l.b l.bridges) (along free_cell l.table l.from)) × (l.staying ≤ l.b) × (l.staying ≡ count (min l.b l.bridges) (along staying_cell l.table l.from))
+invariant-loop-b l = (l.free ≤ l.b) × (l.free ≡ count (min l.b l.grid.bridges) (along free_cell l.grid.cells.now l.from)) × (l.staying ≤ l.b) × (l.staying ≡ count (min l.b l.grid.bridges) (along staying_cell l.grid.cells.now l.from))

@@ -5,4 +5,4 @@ use Rattle.placing.specs.Types.{filled}
 use Rattle.placing.proofs.grants.free.plan_free.Given as goal
 
 abbrev pub invariant-loop-s : goal.invariant-loop-s
-invariant-loop-s l = l.masks ≡ filled 64 l.s (free_mask l.head.busy l.head.bridges)
+invariant-loop-s l = l.masks ≡ filled 64 l.s (free_mask l.lawful.station.now.head.busy l.lawful.station.now.head.bridges)

@@ -6,4 +6,4 @@ use Rattle.placing.specs.method.Search.{empty_mask, held_from}
 use Rattle.placing.proofs.search.empty.found_in.Given as goal
 
 abbrev pub invariant-loop-b : goal.invariant-loop-b
-invariant-loop-b l = (l.mask ≡ empty_mask l.table l.from l.b) × (l.held ≤ l.b) × (l.held ≡ held_from l.table l.from (min l.b l.bridges))
+invariant-loop-b l = (l.mask ≡ empty_mask l.grid.cells.now l.from l.b) × (l.held ≤ l.b) × (l.held ≡ held_from l.grid.cells.now l.from (min l.b l.grid.bridges))

@@ -13,27 +13,27 @@ pub loop-s-init : goal.loop-s-init
 loop-s-init c = let a = c.args in (
   omega arith,
   record {
-    done = λ q low l. zeros 64 q ∙ sym (slot_mask_before a.table.now a.head.now.bridges a.clock q (omega arith));
+    done = λ q low l. zeros 64 q ∙ sym (slot_mask_before a.grid.now.cells.now a.grid.now.bridges a.clock q (omega arith));
     under = λ q l. refl;
     rest = λ q l. refl;
   },
-  stored_none a.spare.now (λ q. c.motors-fed.result - held_from a.table.now (q * a.head.now.bridges) a.head.now.bridges) (min (first_slot a.clock) a.head.now.slots),
+  stored_none a.spare.now (λ q. a.grid.now.fed - held_from a.grid.now.cells.now (q * a.grid.now.bridges) a.grid.now.bridges) (min (first_slot a.clock) a.grid.now.slots),
 )
 
 pub loop-s-preserved : goal.loop-s-preserved
 loop-s-preserved c = let a = c.args in
     let s = c.loop-s.s in
-    let here : min s a.head.now.slots ≡ s = omega arith in
-    let next : min (s + 1) a.head.now.slots ≡ s + 1 = omega arith in
+    let here : min s a.grid.now.slots ≡ s = omega arith in
+    let next : min (s + 1) a.grid.now.slots ≡ s + 1 = omega arith in
     let found = c.found_in-found.ensures in
     let l = rw here at c.loop-s.invariant in (
       simp length-set l.0,
-      rw next (stored_more l.1 (omega arith) (omega arith) (found.0 ∙ sym (slot_mask_from a.table.now a.head.now.bridges a.clock s c.loop-s.auto.s))),
-      rw next (stored_more l.2 (omega arith) (omega arith) (c.saturating_sub.ensures ∙ ap (λ (n : ℕ). c.motors-fed.result - n) found.1)),
+      rw next (stored_more l.1 (omega arith) (omega arith) (found.0 ∙ sym (slot_mask_from a.grid.now.cells.now a.grid.now.bridges a.clock s c.loop-s.auto.s))),
+      rw next (stored_more l.2 (omega arith) (omega arith) (c.saturating_sub.ensures ∙ ap (λ (n : ℕ). a.grid.now.fed - n) found.1)),
     )
 
 pub returns : goal.returns
 returns c = let a = c.args in
-    let end : min c.loop-s.s a.head.now.slots ≡ a.head.now.slots = omega arith in
+    let end : min c.loop-s.s a.grid.now.slots ≡ a.grid.now.slots = omega arith in
     let l = rw end at c.loop-s.invariant in
-    (stored_zeros 64 l.1, λ s low few. l.2.done s (omega (arith, low)) few ∙ ap (λ (n : ℕ). n - held_from a.table.now (s * a.head.now.bridges) a.head.now.bridges) c.motors-fed.ensures)
+    (stored_zeros 64 l.1, λ s low few. l.2.done s (omega (arith, low)) few)

@@ -10,5 +10,5 @@ use Rattle.placing.proofs.search.empty.slot_masks.Given as goal
 -- (a clock past the frame is where the loop then stands)
 abbrev pub invariant-loop-s : goal.invariant-loop-s
 invariant-loop-s l = (length l.out ≡ 64)
-    × Stored (replicate 64 0) (slot_mask l.table l.head.bridges l.clock) 0 (min l.s l.head.slots) l.out
-    × Stored l.initial.spare (λ q. l.fed - held_from l.table (q * l.head.bridges) l.head.bridges) (min (first_slot l.clock) l.head.slots) (min l.s l.head.slots) l.spare
+    × Stored (replicate 64 0) (slot_mask l.grid.cells.now l.grid.bridges l.clock) 0 (min l.s l.grid.slots) l.out
+    × Stored l.initial.spare (λ q. l.grid.fed - held_from l.grid.cells.now (q * l.grid.bridges) l.grid.bridges) (min (first_slot l.clock) l.grid.slots) (min l.s l.grid.slots) l.spare
