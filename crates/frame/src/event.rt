@@ -20,7 +20,6 @@ use placing::cells::Cell;
 use placing::check::frame_cause;
 use placing::counts::Counts;
 use placing::moment::Moment;
-use station::limits::LEAST_RECORDS;
 use station::types::{Head, Preset, Refusal, Station};
 
 // Sets the clock: "slot t is about to begin". The causes 8 of the list and of the table, 2 of the
@@ -36,13 +35,7 @@ pub fn set_clock(
 ) -> Result<Answer, Refusal>
     ensures { EventEntry head presets.now (state_at table.now moment.old) (Event.clock t) table.now (outcome result moment.new) }
 {
-    let records = presets
-        .first_chunk::<LEAST_RECORDS>()
-        .ok_or(Refusal::TooShort)?;
-    let station = Station {
-        head,
-        presets: *records,
-    };
+    let station = Station::of(head, presets)?;
     set_clock_by_value(&station, table, moment, t)
 }
 
@@ -60,13 +53,7 @@ pub fn event(
 ) -> Result<Answer, Refusal>
     ensures { EventEntry head presets.now (state_at table.old moment.old) (Event.line line.now) table.new (outcome result moment.new) }
 {
-    let records = presets
-        .first_chunk::<LEAST_RECORDS>()
-        .ok_or(Refusal::TooShort)?;
-    let station = Station {
-        head,
-        presets: *records,
-    };
+    let station = Station::of(head, presets)?;
     event_by_value(&station, table, moment, line)
 }
 

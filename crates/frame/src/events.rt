@@ -9,7 +9,7 @@ use crate::text::lines::run_lines;
 use placing::cells::Cell;
 use placing::check::frame_cause;
 use placing::moment::Moment;
-use station::limits::{LEAST_OUTPUT, LEAST_RECORDS, MOST_BYTES};
+use station::limits::{LEAST_OUTPUT, MOST_BYTES};
 use station::output::Writer;
 use station::types::{Extent, Fault, Head, Preset, Refusal, Station};
 
@@ -33,13 +33,7 @@ pub fn run_events(
     if MOST_BYTES < text.len() {
         return Err(Refusal::TextTooLong.into());
     }
-    let records = presets
-        .first_chunk::<LEAST_RECORDS>()
-        .ok_or(Refusal::TooShort)?;
-    let station = Station {
-        head,
-        presets: *records,
-    };
+    let station = Station::of(head, presets)?;
     run_events_by_value(&station, table, moment, text, out)
 }
 

@@ -13,7 +13,7 @@ use crate::types::Answer;
 use placing::cells::Cell;
 use placing::check::{FIRST_CLOCK, frame_cause};
 use placing::moment::Moment;
-use station::limits::{LEAST_CELLS, LEAST_OUTPUT, LEAST_RECORDS, MOST_BYTES};
+use station::limits::{LEAST_CELLS, LEAST_OUTPUT, MOST_BYTES};
 use station::output::Writer;
 use station::types::{Head, NO_HEAD, NO_PRESETS, Preset, Refusal, Station};
 
@@ -60,13 +60,7 @@ pub fn write_slot(
     if out.len() < LEAST_OUTPUT {
         return Err(Refusal::TooShort);
     }
-    let records = presets
-        .first_chunk::<LEAST_RECORDS>()
-        .ok_or(Refusal::TooShort)?;
-    let station = Station {
-        head,
-        presets: *records,
-    };
+    let station = Station::of(head, presets)?;
     frame_cause(&station, table, FIRST_CLOCK)?;
     if slot < 1 || head.slots < slot {
         return Err(Refusal::OutOfLimits);

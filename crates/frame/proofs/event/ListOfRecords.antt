@@ -3,7 +3,7 @@
 -- In order: fewer than 32 records (`event_few`) and enough of them (`event_enough`); an event on
 -- the first 32 records by value is one on the list (`event_list`); a refusal leaves what there was
 -- (`meant_refused`, `event_unchanged`), and the frame afterwards (`event_running`); the entries
--- `set_clock` and `event` (`event_entry`, `entry_few`, `entry_enough`).
+-- `set_clock` and `event` (`event_entry`, `event_entered`, `entry_few`, `entry_enough`).
 -- Assumes nothing.
 use Prim.Native.Nat.{ℕ, ◌≤◌, ◌<◌}
 use mathlib.Core.Path.{◌≡◌, refl, sym, ◌∙◌, ap, subst}
@@ -21,7 +21,8 @@ use Rattle.station.specs.Types.{head_in}
 use Rattle.station.specs.declared.types.Preset as record-of-preset
 use Rattle.station.specs.declared.types.Head as record-of-head
 use Rattle.station.specs.declared.types.Refusal.TheVariants.{TooShort}
-use Rattle.station.proofs.Theorems.{head_list}
+use Rattle.station.proofs.Theorems.{head_list, loaded_whole}
+use Rattle.station.specs.Records.{loaded}
 use Rattle.placing.specs.State.{State, state_of}
 use Rattle.placing.specs.Causes.{causes_of}
 use Rattle.placing.specs.Claims.{Running}
@@ -105,6 +106,15 @@ module _ (head : record-of-head.Head) (ps : List record-of-preset.Preset) (st : 
           ∙ meant_list head st e ps long
           ∙ sym (listed_enough (length ps) head ps st e long)
 
+  listed_loaded : event_on_slice (length ps) head (loaded ps) st e ≡ event_on_slice (length ps) head (take 32 ps) st e
+  listed_loaded = go (is (ltb (length ps) 32))
+    where
+      go : Is (ltb (length ps) 32) → event_on_slice (length ps) head (loaded ps) st e ≡ event_on_slice (length ps) head (take 32 ps) st e
+      go (is_true l) =
+          let few = lt_of (length ps) 32 l in
+          listed_few (length ps) head (loaded ps) st e few ∙ sym (listed_few (length ps) head (take 32 ps) st e few)
+      go (is_false l) = rw (loaded_whole ps (ge_of (length ps) 32 l)) refl
+
   listed_refused : (n : ℕ) (c : Refusal) → (event_on_slice (length ps) head ps st e).answer ≡ refused n c → (event_on_slice (length ps) head ps st e).after ≡ st
   listed_refused n c = go (is (ltb (length ps) 32))
     where
@@ -135,18 +145,28 @@ module _ (head : record-of-head.Head) (ps : List record-of-preset.Preset) (st : 
         let same = listed_refused n c (sym d.answer ∙ q) in
         rw (d.table, d.clock, d.hold) (ap (λ (x : State). state_of x.table x.clock x.hold) same)
 
-    event_entry : EventOnSlice (length ps) head (take 32 ps) st e u r → EventEntry head ps st e u r
-    event_entry d =
+    event_first : EventOnSlice (length ps) head (take 32 ps) st e u r → EventEntry head ps st e u r
+    event_first d =
         let done = event_list d in
         record { done = done; unchanged = event_unchanged done; kept = event_running done; claim = demand_3 (head_in head ps) st (e ∷ []) }
+
+    -- the same with zeros after a list that is too short, and by its length
+    pub event_entry : EventOnSlice (length ps) head (loaded ps) st e u r → EventEntry head ps st e u r
+    event_entry d = event_first (subst (λ (o : Outcome). Yields o u r) listed_loaded d)
+
+    pub event_entered : {n : ℕ} {copied : List record-of-preset.Preset} → n ≡ length ps → copied ≡ loaded ps → EventOnSlice n head copied st e u r → EventEntry head ps st e u r
+    event_entered {n} {copied} count load d =
+        event_entry
+        (subst (λ (qs : List record-of-preset.Preset). EventOnSlice (length ps) head qs st e u r) load
+        (subst (λ (k : ℕ). EventOnSlice k head copied st e u r) count d))
 
 -- ---- the entries
 
 module _ (head : record-of-head.Head) (ps : List record-of-preset.Preset) (st : State) (e : Event) where
   -- fewer than 32 records
   pub entry_few : length ps < 32 → EventEntry head ps st e st.table (record { answer = Err TooShort; clock = st.clock; hold = st.hold })
-  entry_few l = event_entry head ps st e (event_few (length ps) head (take 32 ps) st e l)
+  entry_few l = event_first head ps st e (event_few (length ps) head (take 32 ps) st e l)
 
   -- with the first 32 of them by value
   pub entry_enough : {copied : List record-of-preset.Preset} {u : List ℕ} {r : result.Outcome} → 32 ≤ length ps → copied ≡ take 32 ps → EventDone head copied st e u r → EventEntry head ps st e u r
-  entry_enough {copied} {u} {r} l same d = event_entry head ps st e (event_enough (length ps) head (take 32 ps) st e l (subst (λ (qs : List record-of-preset.Preset). EventDone head qs st e u r) same d))
+  entry_enough {copied} {u} {r} l same d = event_first head ps st e (event_enough (length ps) head (take 32 ps) st e l (subst (λ (qs : List record-of-preset.Preset). EventDone head qs st e u r) same d))

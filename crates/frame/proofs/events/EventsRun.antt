@@ -4,7 +4,7 @@
 -- `events_stopped`), and no cause: what the loop over the lines starts from (`events_start`) and
 -- leaves (`events_ran`); the frame afterwards, a refusal that changes nothing, and the claim
 -- (`events_claim`); a list of 32 records or more (`meant_enough`), and the first 32 by value are
--- those of the list (`events_entry`); the entry (`entry_long`, `entry_few`, `entry_enough`).
+-- those of the list (`events_entry`, `events_entered`); the entry (`entry_long`, `entry_few`, `entry_enough`).
 -- Assumes nothing.
 use Prim.Native.Nat.{ℕ, ◌≤◌, ◌<◌}
 use native.Mathlib.Omega.{arith}
@@ -15,7 +15,7 @@ use mathlib.Core.List.{List, [], ◌∷◌}
 use lib.ListN.{length, take}
 use lib.Dec.{ltb, leb}
 use Rattle.std.specs.Prelude.{Result, Ok, Err}
-use Rattle.laws.proofs.Comparisons.{le_of, ltb_yes, ltb_no}
+use Rattle.laws.proofs.Comparisons.{le_of, ltb_yes, ltb_no, ge_of}
 use Rattle.station.specs.Head.{Head, valid}
 use Rattle.station.specs.Refusal.{Refusal, out_of_limits, too_short, not_well_formed, text_too_long, try, first_of}
 use Rattle.station.specs.Types.{head_in, refusal_in}
@@ -26,7 +26,8 @@ use Rattle.station.specs.declared.types.Refusal as cause
 use Rattle.station.specs.declared.types.Fault.{Fault}
 use Rattle.station.specs.ReadHead.{fault}
 use Rattle.station.specs.declared.types.Refusal.TheVariants.{TooShort, TextTooLong}
-use Rattle.station.proofs.Theorems.{passed, head_list, writes_out}
+use Rattle.station.proofs.Theorems.{passed, head_list, writes_out, loaded_whole}
+use Rattle.station.specs.Records.{loaded}
 use Rattle.placing.specs.declared.moment.Moment.{Moment}
 use Rattle.placing.specs.State.{State, state_of, well_formed_frame}
 use Rattle.placing.specs.Causes.{cause_in, frame_causes_of}
@@ -189,21 +190,38 @@ module _ (head : record-of-head.Head) (ps : List record-of-preset.Preset) (st : 
       same_outcome st (λ k. answers_written (run_of k st (all_events text)) out) (λ r. stopped_by r st out) (leb head.count 32) (ltb (length ps) 32) (ltb 32768 (length text)) (ltb (length out) 8192)
       (ltb (length st.table) 512) (head_in head (take 32 ps)) (head_in head ps) (λ s few. head_list head ps (le_of head.count 32 few))
 
-  events_entry : {t₁ out₁ : List ℕ} {r : EventsAnswer} → EventsLeft (events_meant (length ps) head (take 32 ps) st text out) t₁ out₁ r → EventsEntry head ps st text out t₁ out₁ r
-  events_entry {t₁} {out₁} {r} d =
+  events_first : {t₁ out₁ : List ℕ} {r : EventsAnswer} → EventsLeft (events_meant (length ps) head (take 32 ps) st text out) t₁ out₁ r → EventsEntry head ps st text out t₁ out₁ r
+  events_first {t₁} {out₁} {r} d =
       let done = subst (λ (o : EventsOutcome). EventsLeft o t₁ out₁ r) meant_list d in
       record { done = done; claim = events_claim (length ps) head ps st text out done }
 
+  -- the same with zeros after a list that is too short, and by its length
+  meant_loaded : events_meant (length ps) head (loaded ps) st text out ≡ events_meant (length ps) head (take 32 ps) st text out
+  unfolding events_meant
+  meant_loaded =
+      same_outcome st (λ k. answers_written (run_of k st (all_events text)) out) (λ r. stopped_by r st out) (leb head.count 32) (ltb (length ps) 32) (ltb 32768 (length text)) (ltb (length out) 8192)
+      (ltb (length st.table) 512) (head_in head (loaded ps)) (head_in head (take 32 ps)) (λ s few. ap (head_in head) (loaded_whole ps (ge_of (length ps) 32 s)))
+
+  pub events_entry : {t₁ out₁ : List ℕ} {r : EventsAnswer} → EventsLeft (events_meant (length ps) head (loaded ps) st text out) t₁ out₁ r → EventsEntry head ps st text out t₁ out₁ r
+  events_entry {t₁} {out₁} {r} d = events_first (subst (λ (o : EventsOutcome). EventsLeft o t₁ out₁ r) meant_loaded d)
+
+  pub events_entered : {n : ℕ} {copied : List record-of-preset.Preset} {t₁ out₁ : List ℕ} {r : EventsAnswer} → n ≡ length ps → copied ≡ loaded ps
+      → EventsLeft (events_meant n head copied st text out) t₁ out₁ r → EventsEntry head ps st text out t₁ out₁ r
+  events_entered {n} {copied} {t₁} {out₁} {r} count load d =
+      events_entry
+      (subst (λ (qs : List record-of-preset.Preset). EventsLeft (events_meant (length ps) head qs st text out) t₁ out₁ r) load
+      (subst (λ (k : ℕ). EventsLeft (events_meant k head copied st text out) t₁ out₁ r) count d))
+
   -- the entry: refused before the list is read, or run with the first 32 records by value
   pub entry_long : {f : Fault} → 32768 < length text → f ≡ fault 0 TextTooLong → EventsEntry head ps st text out st.table out (record { ended = Err f; clock = st.clock; hold = st.hold })
-  entry_long l e = events_entry (events_long (length ps) head (take 32 ps) st text out l e)
+  entry_long l e = events_first (events_long (length ps) head (take 32 ps) st text out l e)
 
   pub entry_few : length text ≤ 32768 → length ps < 32 → EventsEntry head ps st text out st.table out (record { ended = Err (fault 0 TooShort); clock = st.clock; hold = st.hold })
-  entry_few l k = events_entry (events_few (length ps) head (take 32 ps) st text out l k refl)
+  entry_few l k = events_first (events_few (length ps) head (take 32 ps) st text out l k refl)
 
   pub entry_enough : {copied : List record-of-preset.Preset} {t₁ out₁ : List ℕ} {r : EventsAnswer} → 32 ≤ length ps → copied ≡ take 32 ps
       → EventsLeft (events_meant 32 head copied st text out) t₁ out₁ r → EventsEntry head ps st text out t₁ out₁ r
   entry_enough {copied} {t₁} {out₁} {r} l same d =
-      events_entry
+      events_first
       (subst (λ (o : EventsOutcome). EventsLeft o t₁ out₁ r) (sym (meant_enough (length ps) head (take 32 ps) st text out l))
       (subst (λ (qs : List record-of-preset.Preset). EventsLeft (events_meant 32 head qs st text out) t₁ out₁ r) same d))
