@@ -1,4 +1,5 @@
-// One cell, 44 pixels wide and 32 high: its kind's colour, its kind's hatching, which shows where there are no colours, and its letter and number.
+// One cell, 44 pixels wide and 32 high: its kind's colour, its kind's hatching, which shows where
+// there are no colours, and its letter and number.
 ghost use Rattle.std.specs.Prelude.{◌≡◌, not, ◌&&◌, ◌<◌};
 ghost use Rattle.placing.specs.Table.{is_optional};
 
@@ -33,7 +34,8 @@ fn fill(rt: &impl Print, kind: Kind) -> io::Result<()> {
     put(rt, b"\"/>")
 }
 
-// Writes the hatching of a kind: of mandatory cells a thick border inside, of optional ones slanted lines, of a call's level lines; of busy and empty ones none.
+// Writes the hatching of a kind: of mandatory cells a thick border inside, of optional ones slanted
+// lines, of a call's level lines; of busy and empty ones none.
 fn hatching(rt: &impl Print, kind: Kind) -> io::Result<()> {
     match kind {
         Kind::Empty | Kind::Busy => Ok(()),
@@ -61,7 +63,8 @@ fn number_of(rt: &impl Print, cell: Cell) -> io::Result<()> {
     Ok(())
 }
 
-// Writes what stands in a cell: `-` where it is busy, else the kind's letter and the number; nothing where it is empty.
+// Writes what stands in a cell: `-` where it is busy, else the kind's letter and the number;
+// nothing where it is empty.
 fn label(rt: &impl Print, cell: Cell) -> io::Result<()> {
     match Kind::of(cell) {
         Kind::Empty => {}
@@ -73,7 +76,8 @@ fn label(rt: &impl Print, cell: Cell) -> io::Result<()> {
     number_of(rt, cell)
 }
 
-// Writes a cell's label, on a plate of the kind's colour with this upper edge; the label stands on the line `base`.
+// Writes a cell's label, on a plate of the kind's colour with this upper edge; the label stands on
+// the line `base`.
 fn labelled(rt: &impl Print, cell: Cell, plate: usize, base: usize) -> io::Result<()> {
     let kind = Kind::of(cell);
     if kind == Kind::Empty {
@@ -106,7 +110,8 @@ fn lost_mark(rt: &impl Print, was: Cell) -> io::Result<()> {
     put(rt, b"</text><path d=\"M17 6.5h25\" stroke=\"#000\"/>")
 }
 
-// Writes a cell with its upper left corner at the origin, marked where it is lost, by what it was before.
+// Writes a cell with its upper left corner at the origin, marked where it is lost, by what it was
+// before.
 pub fn cell_at_origin(rt: &impl Print, was: Cell, cell: Cell) -> io::Result<()> {
     let kind = Kind::of(cell);
     put(rt, b"<rect width=\"44\" height=\"32")?;

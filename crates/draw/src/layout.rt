@@ -1,5 +1,6 @@
-// How large a picture is, and where its parts are, in pixels. Slots and bridges are counted from 0. A frame has at most 64 slots and 8 bridges; more are taken as so many, so
-// that no sum here is too large.
+// How large a picture is, and where its parts are, in pixels. Slots and bridges are counted from 0.
+// A frame has at most 64 slots and 8 bridges; more are taken as so many, so that no sum here is too
+// large.
 ghost use Rattle.std.specs.Prelude.{◌+◌, ◌*◌, ◌≤◌, min, ◌≡◌};
 
 use crate::lines::shown;
@@ -25,7 +26,8 @@ pub fn column(slot: usize) -> usize
     76 + 44 * slot.min(64)
 }
 
-// The right edge of the slot that is about to begin: what is right of it a call may use. Before the first slot it is the frame's left edge, after the last one its right edge.
+// The right edge of the slot that is about to begin: what is right of it a call may use. Before the
+// first slot it is the frame's left edge, after the last one its right edge.
 pub fn clock_edge(clock: usize, slots: usize) -> usize
     ensures { result ≡ 76 + 44 * min (min clock slots) 64 }
 {
@@ -39,7 +41,8 @@ pub fn row(bridge: usize) -> usize
     70 + 32 * bridge.min(8)
 }
 
-// The width of a picture: the frame has room with the word of a clock right of it, and so have the legend and a caption with the event.
+// The width of a picture: the frame has room with the word of a clock right of it, and so have the
+// legend and a caption with the event.
 pub fn width(slots: usize, event: &[u8]) -> usize
     ensures { 148 + 44 * min slots 64 ≤ result }
 {

@@ -56,7 +56,8 @@ pub fn shown(line: &[u8]) -> usize
     content(line).min(SHOWN)
 }
 
-// A byte as it is shown in a picture: a question mark for whatever is no printed character of ASCII, and for the three that have a meaning in SVG.
+// A byte as it is shown in a picture: a question mark for whatever is no printed character of
+// ASCII, and for the three that have a meaning in SVG.
 pub fn plain(byte: u8) -> u8
     ensures { (32 ≤ result) × (result ≤ 126) }
 {

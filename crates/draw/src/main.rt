@@ -1,6 +1,7 @@
-// The program `draw`: reads a station text from standard input and writes a picture of its frame, in SVG, to standard output: the frame before the last event and after it, one
-// below the other; of a text without events the plan alone; of a refused text its one refused line. Each frame is an `svg` element of its own, with all that it needs, so that
-// it is whole where it is cut out.
+// The program `draw`: reads a station text from standard input and writes a picture of its frame,
+// in SVG, to standard output: the frame before the last event and after it, one below the other; of
+// a text without events the plan alone; of a refused text its one refused line. Each frame is an
+// `svg` element of its own, with all that it needs, so that it is whole where it is cut out.
 #![tactic(auto)]
 
 mod lines; // lines.rt: the last line of a text, and the bytes of a line that are shown
@@ -23,7 +24,8 @@ use station::heads::read_head_by_value;
 use station::types::{NO_HEAD, NO_PRESETS, Station};
 use std::io;
 
-// Draws a frame as the lines before the last event left it, with the clock and the order of ties, and as this event leaves it; the plan where there is none.
+// Draws a frame as the lines before the last event left it, with the clock and the order of ties,
+// and as this event leaves it; the plan where there is none.
 fn draw_frame(
     rt: &impl Print,
     station: Station,

@@ -1,4 +1,5 @@
-// Bytes and numbers to standard output. Each function stops at the first write that fails, and reports it.
+// Bytes and numbers to standard output. Each function stops at the first write that fails, and
+// reports it.
 use crate::lines::{content, plain, shown};
 use std::io;
 

@@ -5,8 +5,8 @@ use crate::output::{around, moved, put};
 use placing::cells::{BUSY, CALL, Cell, MANDATORY, OPTIONAL};
 use std::io;
 
-// What a picture shows: the frame's cells, slot by slot, as they are and as they were before, and the
-// clock.
+// What a picture shows: the frame's cells, slot by slot, as they are and as they were before, and
+// the clock.
 #[derive(Clone, Copy, Debug, PartialEq, Eq, Hash)]
 pub struct View<'a> {
     pub slots: usize,
@@ -52,7 +52,8 @@ pub fn bridge_labels(rt: &impl Print, bridges: usize) -> io::Result<()> {
     Ok(())
 }
 
-// Writes the mark of the clock at the right edge of the slot that is about to begin: that slot is lost to a call, as those before it are.
+// Writes the mark of the clock at the right edge of the slot that is about to begin: that slot is
+// lost to a call, as those before it are.
 pub fn clock_mark(rt: &impl Print, view: View) -> io::Result<()> {
     moved(rt, clock_edge(view.clock, view.slots), 0)?;
     around(

@@ -33,7 +33,8 @@ pub(crate) fn returned(answer: Result<usize, Fault>, count: &mut u64) -> u32
     }
 }
 
-// What an event that is carried out counts: the new clock, the new order of ties (1 for hold), or how many cells were evicted.
+// What an event that is carried out counts: the new clock, the new order of ties (1 for hold), or
+// how many cells were evicted.
 pub(crate) fn counted(answer: Result<Answer, Refusal>) -> Result<usize, Fault>
     ensures number { number_in result ≡ (answer_returned (answer_in answer)).number }
     ensures count { count_in result ≡ value (answer_returned (answer_in answer)) }

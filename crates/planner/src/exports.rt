@@ -1,5 +1,6 @@
-// The functions that firmware in C or Rust calls, over numbers and slices alone. Each answers 0, or the number 1 to 12 of the refusal, and takes every input:
-// short slices and bad records have their numbers. The causes are tried in the order in which a function's comment names them.
+// The functions that firmware in C or Rust calls, over numbers and slices alone. Each answers 0, or
+// the number 1 to 12 of the refusal, and takes every input: short slices and bad records have their
+// numbers. The causes are tried in the order in which a function's comment names them.
 ghost use Rattle.std.specs.Prelude.{◌≤◌, length};
 ghost use Rattle.planner.specs.Exports.{text_on, TextLeaves, TextPromise, event_on, EventLeaves, EventPromise, plan_on, PlanLeaves, PlanPromise, ListingLeaves, ListingWhole, rows_on, RowsLeaves, RowsPromise, RowsWrittenLeaves, RowsWrittenPromise};
 
@@ -18,9 +19,11 @@ use station::rows::read_rows_by_value;
 use station::rows::text::write_rows_by_value;
 use station::types::Refusal;
 
-// Runs a whole text: 10 for more than 32,768 bytes, 8 for a frame below 16 numbers, presets below 128 bytes, an output below 8,192 bytes or a table below 512 cells,
-// then the head's causes, then 5. Where it ran, `end` is the number of bytes of the listing in the output, and frame, presets and table are those of the running
-// frame, with 0 for its reserved number. Where it is refused, `end` is the line at fault, and nothing changes, but for 5, which leaves the head and the presets
+// Runs a whole text: 10 for more than 32,768 bytes, 8 for a frame below 16 numbers, presets below
+// 128 bytes, an output below 8,192 bytes or a table below 512 cells, then the head's causes, then
+// 5. Where it ran, `end` is the number of bytes of the listing in the output, and frame, presets
+// and table are those of the running frame, with 0 for its reserved number. Where it is refused,
+// `end` is the line at fault, and nothing changes, but for 5, which leaves the head and the presets
 // that were read.
 #[unsafe(no_mangle)]
 pub extern "C" fn planner_run_text(
@@ -50,9 +53,11 @@ pub extern "C" fn planner_run_text(
     returned(ended, end)
 }
 
-// One event line, its byte 10 included, on the running frame: 8 for a frame below 16 numbers, presets below 128 bytes or a table below 512 cells, 2 for a head that no
-// text yields, 11, then the causes of the line, of its clock or of its call. `number` is the new clock, how many cells were evicted, or of a tie 1 for hold and 0
-// for place; 0 with a refusal, which changes nothing else.
+// One event line, its byte 10 included, on the running frame: 8 for a frame below 16 numbers,
+// presets below 128 bytes or a table below 512 cells, 2 for a head that no text yields, 11, then
+// the causes of the line, of its clock or of its call. `number` is the new clock, how many cells
+// were evicted, or of a tie 1 for hold and 0 for place; 0 with a refusal, which changes nothing
+// else.
 #[unsafe(no_mangle)]
 pub extern "C" fn planner_event(
     frame: &mut [u64],
@@ -75,9 +80,11 @@ pub extern "C" fn planner_event(
     returned(counted(answer), number)
 }
 
-// Plans a fresh frame: 8 for a frame below 16 numbers, presets below 128 bytes, grants below 32 bytes or a table below 512 cells, 2 for a head that no text yields, 5
-// where the mandatory slots do not fit. The grants of the presets stand at the start of `grants` in file order, with 0 past the last preset up to 32; bytes past
-// those stay. The clock and the order of ties in force are not looked at. A refusal changes nothing.
+// Plans a fresh frame: 8 for a frame below 16 numbers, presets below 128 bytes, grants below 32
+// bytes or a table below 512 cells, 2 for a head that no text yields, 5 where the mandatory slots
+// do not fit. The grants of the presets stand at the start of `grants` in file order, with 0 past
+// the last preset up to 32; bytes past those stay. The clock and the order of ties in force are not
+// looked at. A refusal changes nothing.
 #[unsafe(no_mangle)]
 pub extern "C" fn planner_plan(
     frame: &[u64],
@@ -103,9 +110,10 @@ pub extern "C" fn planner_plan(
     }
 }
 
-// Writes the listing of a whole text at the start of the output, as far as it has room for it: 10 for more than 32,768 bytes, 8 for an output below 8,192 bytes or a table
-// below 512 cells, which change nothing. A refused head or plan is its one refused line. `bytes` is how many bytes were written, and 0 with a refusal. An output of
-// 655,360 bytes has room for every listing.
+// Writes the listing of a whole text at the start of the output, as far as it has room for it: 10
+// for more than 32,768 bytes, 8 for an output below 8,192 bytes or a table below 512 cells, which
+// change nothing. A refused head or plan is its one refused line. `bytes` is how many bytes were
+// written, and 0 with a refusal. An output of 655,360 bytes has room for every listing.
 #[unsafe(no_mangle)]
 pub extern "C" fn planner_listing(
     text: &[u8],
@@ -120,9 +128,11 @@ pub extern "C" fn planner_listing(
     returned(written(listed), bytes)
 }
 
-// Puts the rows of a text in place of the frame's busy times: 10 for more than 32,768 bytes, 8 for a frame below 16 numbers or presets below 128 bytes, 2 for a head that no text
-// yields, then of the first row at fault 12 or 2. Where they are read, the masks of the frame are those of the rows, its other numbers stay, and `row` is how many rows there are. Where
-// they are refused, `row` is the row at fault, 0 before any row, and nothing else changes.
+// Puts the rows of a text in place of the frame's busy times: 10 for more than 32,768 bytes, 8 for
+// a frame below 16 numbers or presets below 128 bytes, 2 for a head that no text yields, then of
+// the first row at fault 12 or 2. Where they are read, the masks of the frame are those of the
+// rows, its other numbers stay, and `row` is how many rows there are. Where they are refused, `row`
+// is the row at fault, 0 before any row, and nothing else changes.
 #[unsafe(no_mangle)]
 pub extern "C" fn planner_read_rows(
     text: &[u8],
@@ -146,8 +156,10 @@ pub extern "C" fn planner_read_rows(
     returned(read, row)
 }
 
-// Writes the rows of the frame's busy times at the start of the output: 8 for a frame below 16 numbers, presets below 128 bytes or an output below 8,192 bytes, 2 for a head that no
-// text yields. `bytes` is how many bytes they have, and 0 with a refusal, which changes nothing else; bytes past them stay.
+// Writes the rows of the frame's busy times at the start of the output: 8 for a frame below 16
+// numbers, presets below 128 bytes or an output below 8,192 bytes, 2 for a head that no text
+// yields. `bytes` is how many bytes they have, and 0 with a refusal, which changes nothing else;
+// bytes past them stay.
 #[unsafe(no_mangle)]
 pub extern "C" fn planner_write_rows(
     frame: &[u64],

@@ -1,5 +1,6 @@
-// The planner for firmware in C or Rust: a static library of eight functions over numbers and slices alone (`bin/build planner`; its header is include/planner.h).
-// What each function promises is in specs/Exports.antt, the layout of what is lent in specs/Layout.antt.
+// The planner for firmware in C or Rust: a static library of eight functions over numbers and
+// slices alone (`bin/build planner`; its header is include/planner.h). What each function promises
+// is in specs/Exports.antt, the layout of what is lent in specs/Layout.antt.
 #![tactic(auto)]
 
 pub mod exports; // exports.rt: the exported functions

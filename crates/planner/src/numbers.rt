@@ -1,5 +1,7 @@
-// The frame that a caller lends as sixteen numbers: its head, its clock and its order of ties out of them by value, and back. One is reserved: it is not read, and 0 is all
-// that is written there. Past the end of the numbers zeros are read and nothing is written, so that each function takes every slice.
+// The frame that a caller lends as sixteen numbers: its head, its clock and its order of ties out
+// of them by value, and back. One is reserved: it is not read, and 0 is all that is written there.
+// Past the end of the numbers zeros are read and nothing is written, so that each function takes
+// every slice.
 ghost use Rattle.std.specs.Prelude.{◌≡◌, [], ◌∷◌};
 ghost use Rattle.std.proofs.lemmas.List.Edits.{sets};
 ghost use Rattle.laws.specs.Sums.{bit};
@@ -12,7 +14,8 @@ use placing::moment::Moment;
 use station::limits::MOST_BRIDGES;
 use station::types::{Fault, Head};
 
-// The places of the clock, of the masks of the busy slots, of the supply, of the head's order of ties and of the one in force.
+// The places of the clock, of the masks of the busy slots, of the supply, of the head's order of
+// ties and of the one in force.
 const CLOCK: usize = 3;
 
 const BUSY: usize = 4;
@@ -66,7 +69,8 @@ pub(crate) fn moment_of(frame: &[u64]) -> Moment
     }
 }
 
-// Writes an order of ties to a place; a number that says it already stays, so that what changes nothing writes nothing.
+// Writes an order of ties to a place; a number that says it already stays, so that what changes
+// nothing writes nothing.
 fn set_tie(frame: &mut [u64], place: usize, hold: bool)
     ensures { frame.new ≡ tie_over place hold frame.old }
 {
@@ -121,8 +125,9 @@ fn save_orders(frame: &mut [u64], kept: bool, hold: bool)
     set_value(frame, 15, 0);
 }
 
-// Writes the head and the clock that a text leaves, and where it ran the order of ties in force and 0 to the reserved place. A refusal leaves those as they are, so that one which
-// leaves the head and the clock too changes nothing.
+// Writes the head and the clock that a text leaves, and where it ran the order of ties in force and
+// 0 to the reserved place. A refusal leaves those as they are, so that one which leaves the head
+// and the clock too changes nothing.
 pub(crate) fn save_run(frame: &mut [u64], ended: Result<usize, Fault>, head: Head, moment: Moment)
     ensures { frame.new ≡ frame_left (end_in ended) head moment.clock moment.hold frame.old }
 {

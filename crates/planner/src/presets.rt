@@ -1,5 +1,6 @@
-// The preset records that a caller lends as bytes, four bytes a record: out of them by value, and back. Past the end of the bytes zeros are read and nothing is
-// written, so that each function takes every slice.
+// The preset records that a caller lends as bytes, four bytes a record: out of them by value, and
+// back. Past the end of the bytes zeros are read and nothing is written, so that each function
+// takes every slice.
 ghost use Rattle.std.specs.Prelude.{◌≡◌, [], ◌∷◌, ◌*◌, ◌<◌};
 ghost use Rattle.std.proofs.lemmas.List.Edits.{sets};
 ghost use Rattle.station.specs.Limits.{most_presets};

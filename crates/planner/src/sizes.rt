@@ -1,4 +1,5 @@
-// How long what a caller lends has to be, counted in its elements, where document 01 says it in others.
+// How long what a caller lends has to be, counted in its elements, where document 01 says it in
+// others.
 use station::limits::LEAST_RECORDS;
 
 // The numbers of a frame.

@@ -1,4 +1,5 @@
-// Lists of numbers that a caller lends: past their end a default is read and nothing is written, so that each function takes every slice.
+// Lists of numbers that a caller lends: past their end a default is read and nothing is written, so
+// that each function takes every slice.
 ghost use Rattle.std.specs.Prelude.{◌≡◌, get_or, set};
 
 // The value at a place; past the end the one that is given.

@@ -13,7 +13,8 @@ pub extern "C" fn planner_version() -> u32
     VERSION
 }
 
-// The same, under a name that has the version in it: a program that refers to it does not link with a library of another version.
+// The same, under a name that has the version in it: a program that refers to it does not link with
+// a library of another version.
 #[unsafe(no_mangle)]
 pub extern "C" fn planner_layout_5() -> u32
     ensures { result ≡ layout_version }

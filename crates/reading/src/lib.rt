@@ -8,10 +8,10 @@ use std::io;
 use std::io::Read;
 
 // Reads until the buffer is full or the input ends, and answers how many bytes it put at the start
-// of the buffer: the first of what the reader had left, as many as the buffer has room for. An error
-// is the reader's own, and leaves the buffer as long as it was: what stands in it then is not said.
-// A loop of its own, since std's `read_to_end` needs a heap and its `read_exact` refuses an input
-// that is shorter than the buffer.
+// of the buffer: the first of what the reader had left, as many as the buffer has room for. An
+// error is the reader's own, and leaves the buffer as long as it was: what stands in it then is not
+// said. A loop of its own, since std's `read_to_end` needs a heap and its `read_exact` refuses an
+// input that is shorter than the buffer.
 pub fn read_full<R: Read>(reader: &mut R, buffer: &mut [u8]) -> io::Result<usize>
     ensures inside { IfOk result (λ n. n ≤ length buffer.new) }
     ensures bytes { IfOk result (λ n. IfSome (R.remaining reader.old)

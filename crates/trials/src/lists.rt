@@ -1,6 +1,8 @@
-// The listing of document 01, its head read into a lent list of preset records and written from it, planned, and its events handed over one by one, then as a text: each entry over a lent
-// list once. Then those on a running frame at other clocks, and the whole text. What each answers is written, and the first eight cells of the table, which are the frame's, after each
-// that changes it. The order of ties is everywhere the earlier line's; ties.rt has the other.
+// The listing of document 01, its head read into a lent list of preset records and written from it,
+// planned, and its events handed over one by one, then as a text: each entry over a lent list once.
+// Then those on a running frame at other clocks, and the whole text. What each answers is written,
+// and the first eight cells of the table, which are the frame's, after each that changes it. The
+// order of ties is everywhere the earlier line's; ties.rt has the other.
 use crate::shown::{show_answer, show_called, show_cells, show_planned, show_run, show_written};
 use frame::event::{event, set_clock};
 use frame::events::run_events;
@@ -100,7 +102,8 @@ pub fn try_slot(rt: &impl Print, lent: &Lent, table: &[Cell; 512], slot: usize) 
     show_written(rt, written, &out)
 }
 
-// A whole text, from records of zeros, where an order of ties is handed in; the order that it leaves.
+// A whole text, from records of zeros, where an order of ties is handed in; the order that it
+// leaves.
 pub fn try_text(rt: &impl Print, text: &[u8], hold: bool) -> io::Result<Moment> {
     let mut read = NOTHING;
     let mut table = [0u16; 512];
@@ -157,8 +160,9 @@ fn try_lines(rt: &impl Print, lent: &Lent) -> io::Result<()> {
     try_slot(rt, lent, &table, 3)
 }
 
-// Its plan once more, and the entries on a running frame at a clock that is lent: a clock, the first call and an event line, then the same line as a text. Document 02, 2026-05: "2 and 11
-// take 0 to S + 1 as the clock's range".
+// Its plan once more, and the entries on a running frame at a clock that is lent: a clock, the
+// first call and an event line, then the same line as a text. Document 02, 2026-05: "2 and 11 take
+// 0 to S + 1 as the clock's range".
 fn try_clock(rt: &impl Print, lent: &Lent, clock: usize) -> io::Result<()> {
     let mut table = [0u16; 512];
     let at = Moment { clock, hold: false };

@@ -1,8 +1,11 @@
-// The frames to try, run. First texts, good and damaged, two that are long and those of standard input: what the reader says of each, and its listing. Then one text through the
-// entries over a lent list of preset records, another one through them under both orders of ties, frames with a supply, and rows in place of a head's busy slots. Then the planner
-// of crates/placing beside a second one, which is written from documents 01 and 02 and tries every placement of small frames, with supplies and without: each line that begins
-// `(differs` gives a case in which the two differ, or in which their answer is not the best one, and the counts stand at the end. What this program writes is compared with the
-// stored output.
+// The frames to try, run. First texts, good and damaged, two that are long and those of standard
+// input: what the reader says of each, and its listing. Then one text through the entries over a
+// lent list of preset records, another one through them under both orders of ties, frames with a
+// supply, and rows in place of a head's busy slots. Then the planner of crates/placing beside a
+// second one, which is written from documents 01 and 02 and tries every placement of small frames,
+// with supplies and without: each line that begins `(differs` gives a case in which the two differ,
+// or in which their answer is not the best one, and the counts stand at the end. What this program
+// writes is compared with the stored output.
 #![tactic(auto)]
 
 pub mod records; // records.rt: the records of heads and calls, and the causes

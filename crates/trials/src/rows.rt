@@ -1,5 +1,6 @@
-// Rows in place of a head's busy slots, good and at fault, through the entries over a lent list of preset records: of each text first how many rows there are, or the row at fault
-// and the cause's number, then the rows that are written of the head that it leaves.
+// Rows in place of a head's busy slots, good and at fault, through the entries over a lent list of
+// preset records: of each text first how many rows there are, or the row at fault and the cause's
+// number, then the rows that are written of the head that it leaves.
 use crate::lists::Lent;
 use crate::shown::show_written;
 use station::entries::{read_rows, write_rows};
@@ -48,7 +49,8 @@ const NO_ROWS: [&[u8]; 10] = [
     b"1,1,1\n",
 ];
 
-// All of them beside a head with a busy slot, the good ones with every slot of a bridge of the longest frame; then a head record that no text yields, beside a text that is too long, and beside
+// All of them beside a head with a busy slot, the good ones with every slot of a bridge of the
+// longest frame; then a head record that no text yields, beside a text that is too long, and beside
 // one without a row.
 pub fn try_rows(rt: &impl Print) -> io::Result<()> {
     println!(rt; "(rows in place)")?;

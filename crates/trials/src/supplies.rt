@@ -1,6 +1,9 @@
-// Frames with a supply through the entries over a lent list of preset records: the plan, then tables that are lent, as no plan leaves them. What each entry answers is written, and
-// the cells. A supply of 1 feeds one motor in each slot; the last slot of a lent table has its optional cell on the second bridge, so that a call for this slot evicts it, takes
-// the first bridge, and leaves the second empty. A table in which a slot has more cells than the supply feeds is refused by 11, a supply of 9 by 2.
+// Frames with a supply through the entries over a lent list of preset records: the plan, then
+// tables that are lent, as no plan leaves them. What each entry answers is written, and the cells.
+// A supply of 1 feeds one motor in each slot; the last slot of a lent table has its optional cell
+// on the second bridge, so that a call for this slot evicts it, takes the first bridge, and leaves
+// the second empty. A table in which a slot has more cells than the supply feeds is refused by 11,
+// a supply of 9 by 2.
 use crate::lists::{Lent, show_plan, try_event, try_head, try_run, try_slot, try_text};
 use crate::shown::{show_answer, show_called, show_cells, show_written};
 use frame::event::set_clock;
@@ -99,8 +102,9 @@ fn try_nine(rt: &impl Print, lent: &Lent) -> io::Result<()> {
     try_table(rt, &nine, table_with(0, 0, 769))
 }
 
-// The head of a text: its plan, a table whose optional cell is evicted and left empty, one with a cell too many in the last slot and one in the first, which is past; then the
-// last of these with a supply that feeds it, and with one of 9.
+// The head of a text: its plan, a table whose optional cell is evicted and left empty, one with a
+// cell too many in the last slot and one in the first, which is past; then the last of these with a
+// supply that feeds it, and with one of 9.
 fn try_tables(rt: &impl Print, lent: &Lent) -> io::Result<()> {
     try_plan(rt, lent)?;
     try_table(rt, lent, table_with(0, 0, 769))?;

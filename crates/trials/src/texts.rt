@@ -1,7 +1,8 @@
 // Texts, good and damaged: of each first what the reader says of its head, then its listing.
 //
-// A line `(accepted n b)` gives the number of the head's lines and bytes, followed by the head written again; a line `(refused n c)` the line and the cause's number.
-// The listing follows a line `(listing)`.
+// A line `(accepted n b)` gives the number of the head's lines and bytes, followed by the head
+// written again; a line `(refused n c)` the line and the cause's number. The listing follows a line
+// `(listing)`.
 use crate::shown::{show_written, write_first};
 use frame::listing::write_listing;
 use station::heads::read_head_by_value;
@@ -12,7 +13,8 @@ use std::io;
 // The byte between two texts, which no text among them has.
 const BETWEEN: u8 = b'#';
 
-// Reads the head of a text and writes what the reader says, and the head again, which must give the bytes that were read.
+// Reads the head of a text and writes what the reader says, and the head again, which must give the
+// bytes that were read.
 fn show_head(rt: &impl Print, text: &[u8]) -> io::Result<()> {
     let mut head = NO_HEAD;
     let mut presets = NO_PRESETS;
@@ -51,7 +53,7 @@ pub fn try_long_texts(rt: &impl Print) -> io::Result<()> {
     try_text(rt, &[0u8; 64])
 }
 
-// Tries each text of the input.
+// Tries each text of the input. std's `split` in a `for` is not covered by the check.
 pub fn try_texts(rt: &impl Print, input: &[u8]) -> io::Result<()> {
     let mut rest = input;
     while let Some(end) = rest.iter().position(|&byte| byte == BETWEEN) {

@@ -1,5 +1,7 @@
-// A text with ties through the entries over a lent list of preset records, the plan by hold and the calls under both orders of ties: two presets and then two jobs share one
-// bridge, and each time the first slot makes their remaining times equal. What each entry answers is written, the order that is in force afterwards, and the cells.
+// A text with ties through the entries over a lent list of preset records, the plan by hold and the
+// calls under both orders of ties: two presets and then two jobs share one bridge, and each time
+// the first slot makes their remaining times equal. What each entry answers is written, the order
+// that is in force afterwards, and the cells.
 use crate::lists::{Lent, first, show_plan, try_event, try_head, try_run, try_text};
 use crate::shown::{show_answer, show_called, show_cells, show_order};
 use frame::event::set_clock;
