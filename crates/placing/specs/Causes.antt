@@ -1,24 +1,20 @@
 -- What the functions that try the causes are held to: the causes of a head record, job records and a lent table, in the order in which they are tried.
 -- Document 01, "Causes".
 -- Assumes nothing.
-use Rattle.std.specs.Prelude.{ℕ, ◌-◌, not, Result, Ok, Err, List, [], ◌∷◌, ◌++◌, length, replicate, ltb}
-use Rattle.std.proofs.Math.Option.{Option, none, some}
+use Rattle.std.specs.Prelude.{ℕ, ◌-◌, not, List, [], ◌∷◌, ◌++◌, length, replicate, ltb}
+use Rattle.std.proofs.Math.Option.{Option}
 use Rattle.station.specs.Limits.{most_jobs, least_cells}
 use Rattle.station.specs.Head.{Job}
 use Rattle.station.specs.Refusal.{Refusal, out_of_limits, too_short, not_well_formed, try}
 use Rattle.station.specs.declared.types.Job as record-of-job
 use Rattle.station.specs.declared.types.Preset as types
 use Rattle.station.specs.declared.types.Head as record-of-head
-use Rattle.station.specs.Types.{head_in, valid_record, refusal_in}
-use Rattle.station.specs.declared.types.Refusal as cause
+use Rattle.station.specs.Types.{head_in, valid_record}
+-- what trying some causes gave
+pub use Rattle.station.specs.WriteHead.{cause_in}
 use Rattle.placing.specs.State.{State, well_formed_frame}
 use Rattle.placing.specs.Valid.{no_job}
 use Rattle.placing.specs.Types.{jobs_in}
-
--- what trying some causes gave
-abbrev pub cause_in : Result Unit cause.Refusal → Option Refusal
-cause_in (Ok u) = none
-cause_in (Err r) = some (refusal_in r)
 
 -- The causes of a lent table and a head record alone: "lent table below 512 cells"; "a head record that no text yields", such as one that counts more
 -- presets than there are records.

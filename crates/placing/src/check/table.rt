@@ -47,7 +47,8 @@ fn cell_fits(v: Cell, busy: bool, numbers: &[u8; 256], counts: &[u16; COUNTS]) -
 // counted, and their numbers get the slot's mark in `last`, so that a number which has it already
 // stands in the slot twice. `held` counts the cells of the slot that have numbers, those that
 // presets and calls hold: where it has reached the motors that the supply feeds, one more is at
-// fault.
+// fault. The busy cells are lent: by value, which was tried, a checked call that is refused takes a
+// tenth longer.
 fn scan(
     grid: &Grid,
     busy: &[u64; MOST_BRIDGES],

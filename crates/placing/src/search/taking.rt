@@ -68,7 +68,8 @@ fn through_ranks(links: &Links, n: usize, demand: &Demand, search: &mut Search)
 }
 
 // The walk over the refinement cells from what the search starts with. Where there is no shortage,
-// no cell is chained.
+// no cell is chained. (That the presets are few is a clause here and no `Lawful`: a call by counts
+// takes any head record.)
 pub(crate) fn walk(
     grid: &Grid,
     station: &Station,
