@@ -38,7 +38,7 @@ impl Kind {
     pub fn of(v: Cell) -> Kind
         ensures { result ≡ kind_in (kind_of v) }
     {
-        match v / 256 {
+        match kind_of(v) {
             0 => Kind::Empty,
             1 => Kind::Busy,
             2 => Kind::Mandatory,
@@ -47,6 +47,14 @@ impl Kind {
             _ => Kind::Other,
         }
     }
+}
+
+// The number of a cell's kind. It stays beside `Kind::of`, since it says the number of a value past
+// the last kind too.
+pub fn kind_of(v: Cell) -> u16
+    ensures { result ≡ kind_of v }
+{
+    v / 256
 }
 
 // The number of a cell, as an index.
