@@ -1,7 +1,8 @@
 -- Laws of the records that are read into the copied and written back.
 --
--- In order: a list read, its records and zeros after them (`loaded_front`), and one of 32 records or more (`loaded_whole`); records that were read and are written back
--- (`saved_loaded`); records written over the first of those read (`saved_over`).
+-- In order: a list read, its records and zeros after them (`loaded_front`), and one of 32 records
+-- or more (`loaded_whole`); records that were read and are written back (`saved_loaded`); records
+-- written over the first of those read (`saved_over`).
 -- Assumes nothing.
 use Prim.Native.Nat.{ℕ, ◌≤◌, min}
 use native.Mathlib.Omega.{arith}
@@ -22,7 +23,8 @@ loading ps n = take n (ps ++ replicate 32 no_record) ++ drop n (replicate 32 no_
 pub loading_all : (ps : List Preset) → loading ps 32 ≡ loaded ps
 loading_all ps = append-nil (loaded ps)
 
--- a list's front, as far as there are so many, and the default after it: the front of the list with the default after it
+-- as many of a list as it has, up to m, and a default after them: the first m of the list with
+-- that default after it
 front_padded : {A : Type 0} (x : A) (l : List A) (m n : ℕ) → n ≡ min (length l) m → take n l ++ drop n (replicate m x) ≡ take m (l ++ replicate m x)
 front_padded x l m n e = same_lists _ _ (grind (arith, places)) (λ k d h. grind (arith, places))
 
