@@ -62,10 +62,6 @@ impl Room<'_> {
         };
         let n = self.free_number(*slot);
         let later = Room { sets, ..self };
-        // A slot in which nothing may be filled leaves one choice, and all eight would be tried.
-        if n == 0 {
-            return later.fits(needs);
-        }
         for choice in CHOICES {
             if taken(choice) <= n
                 && let Some(left) = left_after(needs, choice)
