@@ -1,6 +1,6 @@
 -- `plan::mark_busy` meets its contract. Assumes nothing.
 use Prim.Native.Nat.{ℕ}
-use mathlib.Core.Path.{◌≡◌, sym, ◌∙◌, ap}
+use mathlib.Core.Path.{◌∙◌, ap}
 use mathlib.Core.List.{List, ◌++◌}
 use lib.ListN.{drop, replicate}
 use lib.Seq.{length-take-le}

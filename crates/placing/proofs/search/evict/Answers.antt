@@ -45,10 +45,10 @@ returns-then-search-ne0 c = let a = c.args in
     in_limits h.slots h.bridges h.count (length a.table.now) (rw of.slots at g.few_slots) (rw of.bridges at g.few_bridges) c.if-head-gt-MOST_PRESETS.false (rw of.cells at g.enough) in
     searched_found h a.station.now.presets a.clock a.needs.now a.k a.table.now (within h a.k (length a.table.now) few inside)
     (λ jobs own. (
-    missed_by_walk h a.station.now.presets a.clock a.k a.needs.now a.table.now _ c.starting-search.result inside (omega (arith, few, c)) refl c.of-2.ensures.0.largest c.of-2.ensures.0.total
-    (rw (of.cells, of.bridges, of.fed) at c.starting-search.ensures) (rw of.cells at c.walk.ensures) jobs own c.if-search-ne0.true,
-    (found_by_walk h a.station.now.presets a.clock a.k a.needs.now a.table.now _ c.starting-search.result inside (omega (arith, few, c)) refl c.of-2.ensures.0.largest c.of-2.ensures.0.total
-    (rw (of.cells, of.bridges, of.fed) at c.starting-search.ensures) (rw of.cells at c.walk.ensures) jobs own).1,
+      missed_by_walk h a.station.now.presets a.clock a.k a.needs.now a.table.now _ c.starting-search.result inside (omega (arith, few, c)) refl c.of-2.ensures.0.largest c.of-2.ensures.0.total
+          (rw (of.cells, of.bridges, of.fed) at c.starting-search.ensures) (rw of.cells at c.walk.ensures) jobs own c.if-search-ne0.true,
+      (found_by_walk h a.station.now.presets a.clock a.k a.needs.now a.table.now _ c.starting-search.result inside (omega (arith, few, c)) refl c.of-2.ensures.0.largest c.of-2.ensures.0.total
+          (rw (of.cells, of.bridges, of.fed) at c.starting-search.ensures) (rw of.cells at c.walk.ensures) jobs own).1,
     ))
 
 pub returns : goal.returns
@@ -61,8 +61,8 @@ returns c = let a = c.args in
     in_limits h.slots h.bridges h.count (length a.table.now) (rw of.slots at g.few_slots) (rw of.bridges at g.few_bridges) c.if-head-gt-MOST_PRESETS.false (rw of.cells at g.enough) in
     searched_found h a.station.now.presets a.clock a.needs.now a.k a.table.now (within h a.k (length a.table.now) few inside)
     (λ jobs own. (
-    taken_by_walk h a.station.now.presets a.clock a.k a.needs.now a.table.now _ c.starting-search.result inside (omega (arith, few, c)) refl c.of-2.ensures.0.largest c.of-2.ensures.0.total
-    (rw (of.cells, of.bridges, of.fed) at c.starting-search.ensures) (rw of.cells at c.walk.ensures) jobs own c.if-search-ne0.false,
-    (found_by_walk h a.station.now.presets a.clock a.k a.needs.now a.table.now _ c.starting-search.result inside (omega (arith, few, c)) refl c.of-2.ensures.0.largest c.of-2.ensures.0.total
-    (rw (of.cells, of.bridges, of.fed) at c.starting-search.ensures) (rw of.cells at c.walk.ensures) jobs own).1,
+      taken_by_walk h a.station.now.presets a.clock a.k a.needs.now a.table.now _ c.starting-search.result inside (omega (arith, few, c)) refl c.of-2.ensures.0.largest c.of-2.ensures.0.total
+          (rw (of.cells, of.bridges, of.fed) at c.starting-search.ensures) (rw of.cells at c.walk.ensures) jobs own c.if-search-ne0.false,
+      (found_by_walk h a.station.now.presets a.clock a.k a.needs.now a.table.now _ c.starting-search.result inside (omega (arith, few, c)) refl c.of-2.ensures.0.largest c.of-2.ensures.0.total
+          (rw (of.cells, of.bridges, of.fed) at c.starting-search.ensures) (rw of.cells at c.walk.ensures) jobs own).1,
     ))

@@ -12,14 +12,14 @@ use Rattle.placing.proofs.search.empty.slot_masks.Goals as goal
 pub loop-s-init : goal.loop-s-init
 loop-s-init c = let a = c.args in
     let start : min c.first_slot-s.result a.grid.now.slots ≡ min (first_slot a.clock) a.grid.now.slots = omega (arith, c.first_slot-s.ensures) in (
-  omega arith,
-  record {
-    done = λ q low l. zeros 64 q ∙ sym (slot_mask_before a.grid.now.cells.now a.grid.now.bridges a.clock q (omega (arith, c.first_slot-s.ensures)));
-    under = λ q l. refl;
-    rest = λ q l. refl;
-  },
-  rw (start) (stored_none a.spare.now (λ q. a.grid.now.fed - held_from a.grid.now.cells.now (q * a.grid.now.bridges) a.grid.now.bridges) (min (first_slot a.clock) a.grid.now.slots)),
-)
+      omega arith,
+      record {
+        done = λ q low l. zeros 64 q ∙ sym (slot_mask_before a.grid.now.cells.now a.grid.now.bridges a.clock q (omega (arith, c.first_slot-s.ensures)));
+        under = λ q l. refl;
+        rest = λ q l. refl;
+      },
+      rw (start) (stored_none a.spare.now (λ q. a.grid.now.fed - held_from a.grid.now.cells.now (q * a.grid.now.bridges) a.grid.now.bridges) (min (first_slot a.clock) a.grid.now.slots)),
+    )
 
 pub loop-s-preserved : goal.loop-s-preserved
 loop-s-preserved c = let a = c.args in
