@@ -95,7 +95,8 @@ pub extern "C" fn planner_plan(
     ensures done { PlanLeaves (plan_on frame.now presets.now table.old grants.old) grants.old table.new grants.new result }
     ensures claim { PlanPromise frame.now presets.now table.old table.new result }
 {
-    // 8 is one number for all that is lent: what is tried first need not be copied for.
+    // 8 is one number, whichever part is short: the grants come first, so that no frame is copied
+    // for a refusal.
     if grants.len() < MOST_PRESETS {
         return refusal_number(Refusal::TooShort);
     }
