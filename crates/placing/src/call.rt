@@ -58,7 +58,7 @@ fn carry_out(
     let Moment { clock, hold } = moment;
     let n = call.count;
     let needs = job_needs(call.jobs);
-    let Some(found) = evict(table, station, clock, &needs, n) else {
+    let Ok(found) = evict(table, station, clock, &needs, n) else {
         return Err(Refusal::CallNotFeasible);
     };
     let cells = job_cells(call.jobs);

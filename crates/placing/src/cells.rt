@@ -21,6 +21,15 @@ pub const CALL: Cell = 1024;
 
 pub const VALUES: Cell = 1280;
 
+// The numbers of the kinds that are not empty, as `kind_of` answers them.
+pub const BUSY_KIND: u16 = 1;
+
+pub const MANDATORY_KIND: u16 = 2;
+
+pub const OPTIONAL_KIND: u16 = 3;
+
+pub const CALL_KIND: u16 = 4;
+
 // What a cell holds, in the order of the kinds' numbers. A value past the last kind is of none of
 // them: no well-formed table has one.
 #[derive(Clone, Copy, Debug, PartialEq, Eq, Hash)]
@@ -40,10 +49,10 @@ impl Kind {
     {
         match kind_of(v) {
             0 => Kind::Empty,
-            1 => Kind::Busy,
-            2 => Kind::Mandatory,
-            3 => Kind::Optional,
-            4 => Kind::Call,
+            BUSY_KIND => Kind::Busy,
+            MANDATORY_KIND => Kind::Mandatory,
+            OPTIONAL_KIND => Kind::Optional,
+            CALL_KIND => Kind::Call,
             _ => Kind::Other,
         }
     }

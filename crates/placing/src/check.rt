@@ -23,7 +23,10 @@ pub const FIRST_CLOCK: usize = 0;
 pub fn clock_in(slots: usize, clock: usize) -> bool
     ensures { result ≡ clock_in slots clock }
 {
-    clock.saturating_sub(1) <= slots
+    if clock <= slots {
+        return true;
+    }
+    clock - slots == 1
 }
 
 // Whether the frame is one that 11 lets pass: a well-formed table, and a clock of the frame.

@@ -13,15 +13,23 @@ ghost use Rattle.placing.specs.Claims.{PlanClaim};
 ghost use Rattle.placing.specs.PlanDone.{PlanDone};
 ghost use Rattle.placing.specs.Entries.{PlanEntered};
 ghost use Rattle.placing.specs.Types.{filled};
+ghost use Rattle.placing.specs.method.PlanParts.{busy_to};
 
 use crate::cells::{BUSY, Cell, MANDATORY, OPTIONAL};
 use crate::grants::{Granted, grant};
 use crate::lawful::Lawful;
 use crate::limits::MOST_PLACED;
 use crate::rule::{Work, place};
-use station::check::valid_record;
 use station::limits::{LEAST_CELLS, MOST_PRESETS};
 use station::types::{Head, Preset, Refusal, Station};
+
+// Makes the first `cells` cells of the table busy. What is free is then written by `place`.
+fn mark_busy(table: &mut [Cell], cells: usize)
+    requires { cells ≤ length table.old }
+    ensures { table.new ≡ busy_to table.old cells }
+{
+    table[..cells].fill(BUSY);
+}
 
 // The cell of the kind that begins at `kind` with the number of each preset; 0 after them.
 #[tactic(auto, using(crate::proofs::grants::Arrays::filled_none, crate::proofs::grants::Arrays::filled_more))]
@@ -55,7 +63,7 @@ fn write_plan(lawful: &Lawful, table: &mut [Cell], granted: Granted)
     ensures { table.new ≡ written (station_in lawful.now.station.now) (planned (tie_of lawful.now.station.now.head.hold) (station_in lawful.now.station.now)) table.old }
 {
     let head = &lawful.station.head;
-    table[..head.slots * head.bridges].fill(BUSY);
+    mark_busy(table, head.slots * head.bridges);
     let work = Work {
         needs: granted.needs,
         count: head.count,
@@ -78,11 +86,8 @@ pub fn plan_by_value(station: &Station, table: &mut [Cell]) -> Result<[u8; MOST_
     if table.len() < LEAST_CELLS {
         return Err(Refusal::TooShort);
     }
-    if !valid_record(station) {
-        return Err(Refusal::OutOfLimits);
-    }
+    let granted = grant(station)?;
     let lawful = Lawful { station };
-    let granted = grant(&lawful)?;
     let needs = granted.needs;
     let mandatory = granted.mandatory;
     let grants = grants_of(needs, mandatory, station.head.count);

@@ -21,13 +21,22 @@ use crate::sums::Sums;
 use station::limits::{MOST_BRIDGES, MOST_PRESETS, MOST_SLOTS};
 use station::types::Station;
 
-// What a call that fits evicts: how many cells, and where its jobs may go: over the empty cells
-// above the clock and the evicted ones, nowhere up to the clock and past the frame.
+// What a call evicts: how many cells, and where its jobs may go: over the empty cells above the
+// clock and the evicted ones, nowhere up to the clock and past the frame.
 #[derive(Clone, Copy, Debug, PartialEq, Eq, Hash)]
 pub(crate) struct Evicted {
     pub count: usize,
     pub offer: Offer,
 }
+
+// What is evicted where nothing is looked at.
+const UNFIT: Evicted = Evicted {
+    count: 0,
+    offer: Offer {
+        free: [0; MOST_SLOTS],
+        counts: [0; MOST_SLOTS],
+    },
+};
 
 // What the jobs demand: the sums of their lengths, and the number of slots in which they are to
 // have it.
@@ -68,34 +77,37 @@ fn starting(grid: &Grid, clock: usize, demand: &Demand) -> Search
     }
 }
 
-// The eviction search: for jobs with the first k needs, what the call evicts, and None where it
-// does not fit. Where the frame, the table or k is beyond the limits, nothing is read and the call
-// does not fit.
+// The eviction search: for jobs with the first k needs, what the call evicts. Where it does not fit
+// that is an error: the evicted cells are those that lower the shortage, which then stays above 0.
+// Where the frame, the table or k is beyond the limits, nothing is read and the call does not fit.
 pub(crate) fn evict(
     table: &[Cell],
     station: &Station,
     clock: usize,
     needs: &[u8; MOST_PLACED],
     k: usize,
-) -> Option<Evicted>
+) -> Result<Evicted, Evicted>
     ensures { Searched station.now.head station.now.presets clock needs.now k table.now result }
 {
     let head = &station.head;
     if MOST_PLACED < k || MOST_PRESETS < head.count {
-        return None;
+        return Err(UNFIT);
     }
-    let grid = Grid::of(head, table)?;
+    let Some(grid) = Grid::of(head, table) else {
+        return Err(UNFIT);
+    };
     let demand = Demand {
         slots: head.slots,
         sums: Sums::of(needs, k),
     };
     let mut search = starting(&grid, clock, &demand);
     walk(&grid, station, clock, &demand, &mut search);
-    if search.short != 0 {
-        return None;
-    }
-    Some(Evicted {
+    let found = Evicted {
         count: search.evicted,
         offer: search.offer,
-    })
+    };
+    if search.short != 0 {
+        return Err(found);
+    }
+    Ok(found)
 }

@@ -1,6 +1,6 @@
 -- What `planner_plan` answers and leaves, law by law.
 --
--- In order: what a plan comes to by the causes 8 of the frame, of the presets and of the grants (`on-..`); a plan that is refused by these (`plan_short`, `plan_short_grants`), and that one that is made met none of them (`plan_passes`); a refusal changes nothing, and what is planned is a running frame (`plan_keeps`, `plan_runs`); a plan that is refused, and
+-- In order: what a plan comes to by the causes 8 of the frame, of the presets and of the grants (`on-..`); a plan that is refused by these (`plan_short`, `plan_short_grants`, `plan_few_grants`), and that one that is made met none of them (`plan_passes`); a refusal changes nothing, and what is planned is a running frame (`plan_keeps`, `plan_runs`); a plan that is refused, and
 -- one that is made (`plan_refused`, `plan_made`; `refused_handed`, `made_handed`).
 -- Assumes nothing.
 use Prim.Native.Nat.{ℕ, ◌≤◌, ◌<◌}
@@ -134,6 +134,15 @@ module _ (f p t g : List ℕ) where
 
   pub plan_short_grants : frame_numbers ≤ length f → 128 ≤ length p → length g < 32 → Done t g 8
   plan_short_grants k m s = plan_stopped (on_short_grants k m s)
+
+  -- the same whatever the frame and the presets are
+  pub plan_few_grants : length g < 32 → Done t g 8
+  plan_few_grants s = go (is (ltb (length f) frame_numbers)) (is (ltb (length p) 128))
+    where
+      go : Is (ltb (length f) frame_numbers) → Is (ltb (length p) 128) → Done t g 8
+      go (is_true a) b = plan_short (inl (lt_of (length f) frame_numbers a))
+      go (is_false a) (is_true b) = plan_short (inr (ge_of (length f) frame_numbers a, lt_of (length p) 128 b))
+      go (is_false a) (is_false b) = plan_short_grants (ge_of (length f) frame_numbers a) (ge_of (length p) 128 b) s
 
   module _ {t₁ : List ℕ} {x : Result (List ℕ) cause.Refusal} (k : frame_numbers ≤ length f) (m : 128 ≤ length p) (s : 32 ≤ length g) (d : PlanDone (head_of_numbers f) (records_in p) t t₁ x) where
     abbrev meant : PlanOutcome

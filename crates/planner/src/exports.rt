@@ -95,12 +95,14 @@ pub extern "C" fn planner_plan(
     ensures done { PlanLeaves (plan_on frame.now presets.now table.old grants.old) grants.old table.new grants.new result }
     ensures claim { PlanPromise frame.now presets.now table.old table.new result }
 {
-    let Some(station) = lent_station(frame, presets) else {
-        return refusal_number(Refusal::TooShort);
-    };
+    // 8 is one number, whichever part is short: the grants come first, so that no frame is copied
+    // for a refusal.
     if grants.len() < MOST_PRESETS {
         return refusal_number(Refusal::TooShort);
     }
+    let Some(station) = lent_station(frame, presets) else {
+        return refusal_number(Refusal::TooShort);
+    };
     match plan_by_value(&station, table) {
         Ok(granted) => {
             save_grants(grants, granted);

@@ -1,14 +1,16 @@
 -- Laws of the records that are read into the copied and written back.
 --
--- In order: a list of 32 records or more, read (`loaded_whole`); records that were read and are written back (`saved_loaded`); records written over the first of those
--- read (`saved_over`).
+-- In order: a list read, its records and zeros after them (`loaded_front`), and one of 32 records
+-- or more (`loaded_whole`); records that were read and are written back (`saved_loaded`); records
+-- written over the first of those read (`saved_over`).
 -- Assumes nothing.
-use Prim.Native.Nat.{ℕ, ◌≤◌}
+use Prim.Native.Nat.{ℕ, ◌≤◌, min}
 use native.Mathlib.Omega.{arith}
 use mathlib.Core.Path.{◌≡◌, sym, ◌∙◌, ap}
 use mathlib.Core.List.{List, ◌++◌, append-nil, append_assoc}
 use lib.ListN.{length, take, drop, replicate, length-append, length-take, length-drop, take-append-drop}
 use lib.Seq.{take_all, take-take, take-append-le, drop-append-le}
+use Rattle.std.proofs.lemmas.List.{same_lists, places}
 use Rattle.station.specs.declared.types.Preset.{Preset}
 use Rattle.station.specs.Types.{no_record}
 use Rattle.station.specs.Records.{loaded, reach, saved}
@@ -20,6 +22,15 @@ loading ps n = take n (ps ++ replicate 32 no_record) ++ drop n (replicate 32 no_
 -- all 32
 pub loading_all : (ps : List Preset) → loading ps 32 ≡ loaded ps
 loading_all ps = append-nil (loaded ps)
+
+-- as many of a list as it has, up to m, and a default after them: the first m of the list with
+-- that default after it
+front_padded : {A : Type 0} (x : A) (l : List A) (m n : ℕ) → n ≡ min (length l) m → take n l ++ drop n (replicate m x) ≡ take m (l ++ replicate m x)
+front_padded x l m n e = same_lists _ _ (grind (arith, places)) (λ k d h. grind (arith, places))
+
+-- a list of any length, its records and zeros after them
+pub loaded_front : (ps : List Preset) (n : ℕ) → n ≡ min (length ps) 32 → take n ps ++ drop n (replicate 32 no_record) ≡ loaded ps
+loaded_front ps n e = front_padded no_record ps 32 n e
 
 -- a list of 32 records or more has no zeros put to it
 pub loaded_whole : (ps : List Preset) → 32 ≤ length ps → loaded ps ≡ take 32 ps

@@ -1,7 +1,6 @@
 -- The preset records of a borrowed slice by value, and back. Document 01, "The table": "Presets
--- stand in a lent list of records, in file order." So many presets as 32 a head may have. No
--- function copies records like this any more: the entries take the first 32 where they stand.
--- Assumes nothing.
+-- stand in a lent list of records, in file order." So many presets as 32 a head may have. The
+-- entries take the first 32 where they stand. Assumes nothing.
 use Rattle.std.specs.Prelude.{ℕ, min, List, ◌++◌, length, take, drop, replicate}
 use Rattle.station.specs.Limits.{most_presets}
 use Rattle.station.specs.declared.types.Preset.{Preset}

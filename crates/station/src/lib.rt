@@ -18,3 +18,5 @@ pub mod rows; // rows.rt: rows of comma-separated text in place of a head's busy
 pub mod check; // check.rt: whether a job is within its limits, and whether a head record is one that some text yields
 pub mod output; // output.rt: bytes, words and numbers into a borrowed output
 pub mod write; // write.rt: the one text of a station
+// The borrowed list:
+pub mod records; // records.rt: preset records out of a borrowed list, and back

@@ -39,7 +39,7 @@ pub fn line_at(text: &[u8], at: usize) -> &[u8]
     ensures { result.now ≡ line_of (drop at text.now) }
 {
     if text.len() <= at {
-        return &[];
+        return &text[..0];
     }
     let rest = &text[at..];
     let n = line_length(rest);
@@ -70,8 +70,8 @@ impl<'a> Iterator for Lines<'a> {
         if left.is_empty() {
             return None;
         }
-        let (line, rest) = left.split_at(line_length(left));
-        self.0 = rest;
+        let line = line_at(left, 0);
+        self.0 = &left[line.len()..];
         Some(line)
     }
 }

@@ -77,12 +77,14 @@ pub struct Station {
 }
 
 impl Station {
+    ghost use Rattle.station.specs.Records.{loaded};
+
     // The station of a head and the first 32 records of a list: 8 where the list has fewer. The
     // entries take head and list apart, since C and the programs lend a list of any length.
     pub fn of(head: Head, presets: &[Preset]) -> Result<Station, Refusal>
         ensures { MatchResult result
             (λ s. (most_presets ≤ length presets.now) × (s.head ≡ head)
-            × (s.presets ≡ take most_presets presets.now))
+            × (s.presets ≡ take most_presets presets.now) × (s.presets ≡ loaded presets.now))
             (λ cause. (length presets.now < most_presets) × (cause ≡ Refusal.TooShort)) }
     {
         let records = presets

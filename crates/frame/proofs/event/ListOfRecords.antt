@@ -165,8 +165,8 @@ module _ (head : record-of-head.Head) (ps : List record-of-preset.Preset) (st : 
 module _ (head : record-of-head.Head) (ps : List record-of-preset.Preset) (st : State) (e : Event) where
   -- fewer than 32 records
   pub entry_few : length ps < 32 → EventEntry head ps st e st.table (record { answer = Err TooShort; clock = st.clock; hold = st.hold })
-  entry_few l = event_first head ps st e (event_few (length ps) head (take 32 ps) st e l)
+  entry_few l = event_entry head ps st e (event_few (length ps) head (loaded ps) st e l)
 
   -- with the first 32 of them by value
   pub entry_enough : {copied : List record-of-preset.Preset} {u : List ℕ} {r : result.Outcome} → 32 ≤ length ps → copied ≡ take 32 ps → EventDone head copied st e u r → EventEntry head ps st e u r
-  entry_enough {copied} {u} {r} l same d = event_first head ps st e (event_enough (length ps) head (take 32 ps) st e l (subst (λ (qs : List record-of-preset.Preset). EventDone head qs st e u r) same d))
+  entry_enough {copied} {u} {r} l same d = event_entered head ps st e refl (same ∙ sym (loaded_whole ps l)) (event_enough (length ps) head copied st e l d)

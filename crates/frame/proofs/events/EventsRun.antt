@@ -214,14 +214,13 @@ module _ (head : record-of-head.Head) (ps : List record-of-preset.Preset) (st : 
 
   -- the entry: refused before the list is read, or run with the first 32 records by value
   pub entry_long : {f : Fault} → 32768 < length text → f ≡ fault 0 TextTooLong → EventsEntry head ps st text out st.table out (record { ended = Err f; clock = st.clock; hold = st.hold })
-  entry_long l e = events_first (events_long (length ps) head (take 32 ps) st text out l e)
+  entry_long l e = events_entry (events_long (length ps) head (loaded ps) st text out l e)
 
   pub entry_few : length text ≤ 32768 → length ps < 32 → EventsEntry head ps st text out st.table out (record { ended = Err (fault 0 TooShort); clock = st.clock; hold = st.hold })
-  entry_few l k = events_first (events_few (length ps) head (take 32 ps) st text out l k refl)
+  entry_few l k = events_entry (events_few (length ps) head (loaded ps) st text out l k refl)
 
   pub entry_enough : {copied : List record-of-preset.Preset} {t₁ out₁ : List ℕ} {r : EventsAnswer} → 32 ≤ length ps → copied ≡ take 32 ps
       → EventsLeft (events_meant 32 head copied st text out) t₁ out₁ r → EventsEntry head ps st text out t₁ out₁ r
   entry_enough {copied} {t₁} {out₁} {r} l same d =
-      events_first
-      (subst (λ (o : EventsOutcome). EventsLeft o t₁ out₁ r) (sym (meant_enough (length ps) head (take 32 ps) st text out l))
-      (subst (λ (qs : List record-of-preset.Preset). EventsLeft (events_meant 32 head qs st text out) t₁ out₁ r) same d))
+      events_entered refl (same ∙ sym (loaded_whole ps l))
+      (subst (λ (o : EventsOutcome). EventsLeft o t₁ out₁ r) (sym (meant_enough (length ps) head copied st text out l)) d)

@@ -106,20 +106,20 @@ module _ (h : Head) (jobs : List Job) (st : State) where
             (λ b m. ap (λ (n : ℕ). has_bit n b) (ev.free s l) ∙ has_bit_mask h.bridges (λ a. call_free h st.clock jobs (cell h st.table) s a) b m),
       )
 
-  pub carried_taken : (found : Evicted) → Evicting h st.clock jobs (cell h st.table) found → Valid h → WellFormed h (cell h st.table) → (needs : List ℕ) (k : ℕ) (late : List ℕ) {u : List ℕ}
+  pub carried_taken : (found : Evicted) → call_fits h st.clock jobs (cell h st.table) ≡ true → Evicting h st.clock jobs (cell h st.table) found → Valid h → WellFormed h (cell h st.table) → (needs : List ℕ) (k : ℕ) (late : List ℕ) {u : List ℕ}
       → placeable h.slots h.bridges needs k (length st.table) ≡ true
       → lengths jobs ≡ take k needs
       → ((i : ℕ) → i < length jobs → at late i ≡ call_cell (job_at jobs i).number)
       → u ≡ placed_within (tie_of st.hold) h.slots h.bridges found.offer.free found.offer.counts needs k (replicate 64 0) late late st.table
       → CallCarriedOut h jobs st u (Ok found.count)
-  carried_taken found ev valid formed needs k late {u} limits en el eu =
+  carried_taken found fits ev valid formed needs k late {u} limits en el eu =
       record {
-        answer = ap (λ (n : ℕ). CallAnswer.taken (cost n)) ev.count ∙ sym (ap (λ (o : CallOutcome). o.answer) (carried_yes ev.fits));
+        answer = ap (λ (n : ℕ). CallAnswer.taken (cost n)) ev.count ∙ sym (ap (λ (o : CallOutcome). o.answer) (carried_yes fits));
         table = eu
             ∙ placed_within_lem (tie_of st.hold) h.slots h.bridges found.offer.free found.offer.counts needs k (replicate 64 0) late late st.table limits
             ∙ ap (λ (c : List ℕ). placed_in (tie_of st.hold) h.slots h.bridges found.offer.free found.offer.counts c (replicate 64 0) late late st.table) (sym en)
             ∙ placed_called (tie_of st.hold) h st.clock jobs found.offer.free found.offer.counts (replicate 64 0) late late st.table ev.free (counts_are found ev valid formed) (λ i l. zeros 64 i) el
-            ∙ sym (ap (λ (o : CallOutcome). o.after.table) (carried_yes ev.fits));
+            ∙ sym (ap (λ (o : CallOutcome). o.after.table) (carried_yes fits));
       }
 
 -- ---- the outcome

@@ -3,7 +3,7 @@
 -- the call fits .. the one whose list comes first", is proved of `evicted_set` of specs/Call.antt,
 -- with which it agrees.
 -- Assumes nothing.
-use Rattle.std.specs.Prelude.{ℕ, ◌+◌, ◌*◌, ◌-◌, ◌^◌, ◌/◌, ◌%◌, ◌≤◌, ◌<◌, min, ◌≡◌, Bool, true, false, cond, ◌&&◌, List, [], ◌∷◌, ◌++◌, length, get_or, set, take, ltb, leb, eqb, Option, Some, None}
+use Rattle.std.specs.Prelude.{ℕ, ◌+◌, ◌*◌, ◌-◌, ◌^◌, ◌/◌, ◌%◌, ◌≤◌, ◌<◌, min, ◌≡◌, Bool, true, false, cond, ◌&&◌, List, [], ◌∷◌, ◌++◌, length, get_or, set, take, replicate, ltb, leb, eqb, Option, Some, None, Result, Ok, Err}
 use Rattle.std.specs.Int.Bits.{bit_or}
 use Rattle.std.specs.Int.Count as digits
 use Rattle.laws.specs.Sums.{sum, only, count}
@@ -175,31 +175,35 @@ pub record Linked (links : Links) (bound : ℕ) : Type 0 where
 
 -- ---- the answer
 
--- What the search finds for the head h, the clock, the jobs and the cells t where the call fits:
--- "the number of lost cells"; and for each slot the mask of the bridges that it may use, as "jobs
--- are then placed .. over the empty and lost cells", 0 past the frame, and how many of them are
--- filled at the most: the free number and one for each lost cell.
+-- What the search finds for the head h, the clock, the jobs and the cells t: "the number of lost
+-- cells"; and for each slot the mask of the bridges that it may use, as "jobs are then placed ..
+-- over the empty and lost cells", 0 past the frame, and how many of them are filled at the most:
+-- the free number and one for each lost cell. Where the call does not fit, these are the cells that
+-- lower the shortage.
 pub record Evicting (h : Head) (clock : ℕ) (jobs : List Job) (t : Cells) (r : Evicted) : Type 0 where
-  pub fits : call_fits h clock jobs t ≡ true
   pub count : r.count ≡ ones (evicted_set h clock jobs t)
   pub free : (s : ℕ) → s < h.slots → get_or r.offer.free s 0 ≡ bridge_mask h.bridges (λ b. call_free h clock jobs t s b)
   pub past : (s : ℕ) → h.slots ≤ s → get_or r.offer.free s 0 ≡ 0
   pub counts : (s : ℕ) → s < h.slots → get_or r.offer.counts s 0 ≡ added (free_number_from h clock t) (slots_of (eviction_order h clock t)) (evicted_set h clock jobs t) s
 
--- what it answers: this, or that the call does not fit
-abbrev pub Evicts : Head → ℕ → List Job → Cells → Option Evicted → Type 0
-Evicts h clock jobs t (Some r) = Evicting h clock jobs t r
-Evicts h clock jobs t None = call_fits h clock jobs t ≡ false
+-- what it answers: this, and whether the call fits
+abbrev pub Evicts : Head → ℕ → List Job → Cells → Result Evicted Evicted → Type 0
+Evicts h clock jobs t (Ok r) = (call_fits h clock jobs t ≡ true) × Evicting h clock jobs t r
+Evicts h clock jobs t (Err r) = (call_fits h clock jobs t ≡ false) × Evicting h clock jobs t r
 
 -- What the search can look at: a frame, presets and a lent table within the limits, and no more
 -- jobs than are placed at a time.
 abbrev pub searchable : record-of-head.Head → ℕ → ℕ → Bool
 searchable head k cells = leb k most_placed && sizes_in_limits head.slots head.bridges head.count cells
 
+-- the answer where it cannot: the call does not fit
+abbrev pub unfit : Evicted
+unfit = record { count = 0; offer = record { free = replicate most_slots 0; counts = replicate most_slots 0 } }
+
 -- What `evict` answers for a head record, its preset records, the first k needs and a lent table:
 -- for all jobs of these lengths what the search finds, or that the call does not fit where the
 -- search cannot look at the frame. A head record that some text yields is within the limits.
-pub record Searched (head : record-of-head.Head) (ps : List record-of-preset.Preset) (clock : ℕ) (needs : List ℕ) (k : ℕ) (t : List ℕ) (r : Option Evicted) : Type 0 where
+pub record Searched (head : record-of-head.Head) (ps : List record-of-preset.Preset) (clock : ℕ) (needs : List ℕ) (k : ℕ) (t : List ℕ) (r : Result Evicted Evicted) : Type 0 where
   pub found : searchable head k (length t) ≡ true → (jobs : List Job) → lengths jobs ≡ take k needs
       → Evicts (head_in head ps) clock jobs (cell (head_in head ps) t) r
-  pub stopped : searchable head k (length t) ≡ false → r ≡ None
+  pub stopped : searchable head k (length t) ≡ false → r ≡ Err unfit

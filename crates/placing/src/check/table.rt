@@ -60,23 +60,23 @@ fn scan(
 {
     let mut last = [0u8; 256];
     let mut at = 0;
-    for s in 0..grid.slots {
+    'frame: for s in 0..grid.slots {
         let mark = s as u8 + 1;
         let mut held = 0;
         for b in 0..grid.bridges {
             let v = grid.cells[at];
             let taken = (busy[b] >> s) % 2 == 1;
             if !cell_fits(v, taken, numbers, counts) {
-                return at;
+                break 'frame;
             }
             if MANDATORY <= v {
                 if grid.fed <= held {
-                    return at;
+                    break 'frame;
                 }
                 held += 1;
                 let n = number_in(v);
                 if last[n] == mark {
-                    return at;
+                    break 'frame;
                 }
                 last[n] = mark;
                 let place = usize::from(v - MANDATORY);

@@ -10,6 +10,7 @@ use crate::capacities::{enter_slot, leave_slot};
 use crate::cells::{Cell, is_evictable, is_held};
 use crate::counts::Counts;
 use crate::grid::Grid;
+use crate::search::empty::first_slot;
 use station::limits::MOST_BRIDGES;
 use station::types::Head;
 
@@ -56,7 +57,7 @@ pub(crate) fn count_slots(head: Head, table: &[Cell], clock: usize) -> [u8; MOST
 {
     let mut entries = [0u8; MOST_BRIDGES];
     if let Some(grid) = Grid::of(&head, table) {
-        for s in clock.min(grid.slots)..grid.slots {
+        for s in first_slot(clock, grid.slots)..grid.slots {
             enter_slot(&mut entries, usable_in(&grid, s));
         }
     }
@@ -75,7 +76,7 @@ impl Counts {
         let Some(grid) = Grid::of(&head, table) else {
             return;
         };
-        for s in from.min(grid.slots)..to.min(grid.slots) {
+        for s in first_slot(from, grid.slots)..first_slot(to, grid.slots) {
             leave_slot(&mut self.at_least, usable_in(&grid, s));
         }
     }

@@ -31,14 +31,16 @@ pub(crate) fn enter(levels: &mut [u64; LEVELS], needs: &[u8; MOST_PLACED], k: us
     top
 }
 
-// The highest level from `from` down in which somebody stands, or 0.
+// The highest level from `from` down in which somebody stands, or 0. Here and below the loop goes
+// by the level below the one that is looked at: by `(1..=from).rev()` a plan of few presets takes a
+// quarter longer.
 pub(crate) fn highest(levels: &[u64; LEVELS], from: usize) -> usize
     requires { from < level_count }
     ensures { (result ≤ from) × ((l : ℕ) → result < l → l ≤ from → at levels.now l ≡ 0) }
 {
-    for l in (1..=from).rev() {
-        if levels[l] != 0 {
-            return l;
+    for below in (0..from).rev() {
+        if levels[below + 1] != 0 {
+            return below + 1;
         }
     }
     0
@@ -94,13 +96,13 @@ pub(crate) fn choose(levels: &mut [u64; LEVELS], top: usize, d: usize, held: u64
 {
     let mut served = 0;
     let mut rest = d;
-    for l in (1..=top).rev() {
-        let level = levels[l];
+    for below in (0..top).rev() {
+        let level = levels[below + 1];
         let waiting = level ^ (level & served);
         if waiting != 0 {
             let first = first_held(waiting, held, rest);
-            levels[l] = level ^ first.jobs;
-            levels[l - 1] |= first.jobs;
+            levels[below + 1] = level ^ first.jobs;
+            levels[below] |= first.jobs;
             served |= first.jobs;
             rest = first.more;
             if rest == 0 {

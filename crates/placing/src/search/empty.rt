@@ -1,5 +1,5 @@
 // The empty cells that a call may use: a mask for each slot, and how many motors it has to spare.
-ghost use Rattle.std.specs.Prelude.{ℕ, ◌+◌, ◌*◌, ◌-◌, ◌<◌, ◌≤◌, ◌≡◌, length, get_or, ltb};
+ghost use Rattle.std.specs.Prelude.{ℕ, ◌+◌, ◌*◌, ◌-◌, ◌<◌, ◌≤◌, min, ◌≡◌, length, get_or, ltb};
 ghost use Rattle.laws.specs.Sums.{only};
 ghost use Rattle.placing.specs.method.Search.{first_slot, empty_mask, held_from, slot_mask};
 
@@ -41,6 +41,14 @@ fn found_in(grid: &Grid, slot: usize) -> Found
     }
 }
 
+// The first slot above the clock, counted from 0, and `slots` where there is none. What goes over
+// the slots that a call may use has it from here.
+pub(crate) fn first_slot(clock: usize, slots: usize) -> usize
+    ensures { result ≡ min (first_slot clock) slots }
+{
+    clock.min(slots)
+}
+
 // The masks of the empty cells of the frame's slots above the clock, and 0 elsewhere; `spare` gets
 // for each of these slots how many motors it has to spare.
 pub(crate) fn slot_masks(
@@ -52,7 +60,7 @@ pub(crate) fn slot_masks(
         × ((s : ℕ) → first_slot clock ≤ s → s < grid.now.slots → get_or spare.new s 0 ≡ grid.now.fed - held_from grid.now.cells.now (s * grid.now.bridges) grid.now.bridges) }
 {
     let mut out = [0; MOST_SLOTS];
-    for s in clock..grid.slots {
+    for s in first_slot(clock, grid.slots)..grid.slots {
         let found = found_in(grid, s);
         out[s] = found.empty;
         spare[s] = grid.fed.saturating_sub(found.held);

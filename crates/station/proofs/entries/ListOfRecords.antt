@@ -6,7 +6,7 @@
 -- Assumes nothing.
 use Prim.Native.Nat.{ℕ, ◌≤◌, ◌<◌}
 use native.Mathlib.Omega.{arith}
-use mathlib.Core.Path.{◌≡◌, refl, sym, ◌∙◌, ap}
+use mathlib.Core.Path.{◌≡◌, refl, sym, ◌∙◌, ap, subst}
 use mathlib.Core.Bool.{Bool, true, false}
 use mathlib.Core.Option.{Option, some}
 use mathlib.Core.List.{List, [], ◌∷◌, ◌++◌, map, append_assoc}
@@ -73,19 +73,8 @@ refused_any false t u out = (refl, refl)
 pub head_list : (h : Head) (ps : List Preset) → h.count ≤ 32 → head_in h (take 32 ps) ≡ head_in h ps
 head_list h ps few = rw (take-take h.count 32 ps few) refl
 
--- A count above 32 is refused; else no record past the first 32 is looked at, and the text t of those is the list's, u.
-write_first : (h : Head) (ps : List Preset) (out t u : List ℕ) → 32 ≤ length ps → (h.count ≤ 32 → t ≡ u)
-    → Same (first_of (write_causes h (take 32 ps) out)) (first_of (entry_causes (length ps) h ps out)) t u out
-unfolding first_of
-write_first h ps out t u long same = rw (ltb_no (length ps) 32 long) (go (is (leb h.count 32)))
-  where
-    go : Is (leb h.count 32) → Same (first_of (write_causes h (take 32 ps) out)) (first_of (write_causes h ps out)) t u out
-    go (is_true c) =
-        let few = le_of h.count 32 c in
-        rw (head_list h ps few, same few) (refl, refl)
-    go (is_false c) = rw c (refused_any (ltb (length out) 8192) t u out)
-
--- The same of a list with zeros after it: fewer than 32 records are refused whatever they are.
+-- Fewer than 32 records are refused whatever they are, and so is a count above 32; else no record
+-- past the first 32 is looked at, and the text t of those is the list's, u.
 write_same : (h : Head) (ps : List Preset) (out t u : List ℕ) → (h.count ≤ 32 → 32 ≤ length ps → t ≡ u)
     → Same (first_of (entry_causes (length ps) h (loaded ps) out)) (first_of (entry_causes (length ps) h ps out)) t u out
 unfolding first_of
@@ -98,6 +87,14 @@ write_same h ps out t u same = go (is (ltb (length ps) 32)) (is (leb h.count 32)
         let long = ge_of (length ps) 32 e in
         rw (loaded_whole ps long, head_list h ps few, same few long) (refl, refl)
     go (is_false e) (is_false c) = rw (e, c) (refused_any (ltb (length out) 8192) t u out)
+
+-- the same of the first 32 records of a list that has as many
+write_first : (h : Head) (ps : List Preset) (out t u : List ℕ) → 32 ≤ length ps → (h.count ≤ 32 → t ≡ u)
+    → Same (first_of (write_causes h (take 32 ps) out)) (first_of (entry_causes (length ps) h ps out)) t u out
+write_first h ps out t u long same =
+    subst (λ (c : Option Refusal). Same c (first_of (entry_causes (length ps) h ps out)) t u out)
+    (entry_enough (length ps) h (loaded ps) out long ∙ ap (λ (qs : List Preset). first_of (write_causes h qs out)) (loaded_whole ps long))
+    (write_same h ps out t u (λ few l. same few))
 
 module _ (h : Head) (ps : List Preset) (out : List ℕ) {r : Result ℕ code.Refusal} {after : List ℕ} (long : 32 ≤ length ps) where
   pub write_list : WroteHead h (take 32 ps) out r after → WroteEntry (length ps) h ps out r after

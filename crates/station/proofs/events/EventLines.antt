@@ -65,11 +65,13 @@ module _ (l : List ℕ) (at : ℕ) (at-is : Some at ≡ word_at (bytes "(call ")
       go (some p) q = let z : Err c ≡ Ok (jobs_made p) = rw q at e in absurd cc
 
   pub call_has : (j : Jobs) → Ok j ≡ ok_or o NoForm → call_event j ≡ event_in (form l)
-  call_has j e = go (read_jobs (drop at l)) same ∙ ap event_in (sym call_at)
+  call_has j e =
+      call_read_lem l j (word_stands l (bytes "(call ") 0 at at-is)
+      (had o e ∙ same ∙ ap (λ (n : ℕ). jobs_read (read_jobs (drop n l))) (call_start l at at-is))
     where
-      go : (p : Option CallJobs) → o ≡ jobs_read p → call_event j ≡ event_in (made call_line p)
-      go none q = let z : Ok j ≡ Err NoForm = rw q at e in absurd cc
-      go (some p) q = let z : Ok j ≡ Ok (jobs_made p) = rw q at e in let k : j ≡ jobs_made p = cc in rw k refl
+      had : (p : code.Option Jobs) → Ok j ≡ ok_or p NoForm → Some j ≡ p
+      had code.None q = absurd (let z : Ok j ≡ Err NoForm = q in cc)
+      had (Some k) q = let z : Ok j ≡ Ok k = q in let y : j ≡ k = cc in ap Some y
 
 module _ (hi : ℕ) where
   -- any line by what it says

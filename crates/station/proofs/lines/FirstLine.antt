@@ -92,8 +92,8 @@ lines_empty [] e = refl
 lines_empty (b ∷ t) e = absurd (omega arith)
 
 -- the same for a text that was cut after its first line
-pub lines_split : (t l r : List ℕ) (n : ℕ) → 0 < length t → n ≡ length (line_of t) → l ≡ take n t → r ≡ drop n t → lines t ≡ l ∷ lines r
-lines_split t l r n h e front back = rw (front, back, e, line_front t) (lines_first t h)
+pub lines_split : (t l r : List ℕ) → 0 < length t → l ≡ line_of t → r ≡ drop (length l) t → lines t ≡ l ∷ lines r
+lines_split t l r h front back = rw (back, front) (lines_first t h)
 
 -- the lines from a place on: the line there, and then those after it
 pub lines_at : (t : List ℕ) (i : ℕ) → i < length t → lines (drop i t) ≡ line_of (drop i t) ∷ lines (drop (i + length (line_of (drop i t))) t)

@@ -2,7 +2,8 @@
 --
 -- In order: the busy lines from one bridge on (`busy_lines_step`); the preset lines from one record on (`preset_lines_step`); the supply line (`supply_text`); the
 -- whole text (`head_text`); a cause for which nothing is written (`text_refused`), and a text that was written (`text_written`); where no cause holds (`cause_none`,
--- `none_valid`); the answer and output by the cause (`head_refused`, `head_written`).
+-- `none_valid`); the answer and output by the cause (`too_short_lem`, `out_of_limits_lem`, `head_refused`,
+-- `head_written`).
 -- Assumes nothing.
 use Prim.Native.Nat.{ℕ, zero, suc, ◌≤◌, ◌<◌}
 use native.Mathlib.Omega.{arith}
@@ -14,19 +15,19 @@ use lib.Dec.{ltb}
 use lib.ListN.{length, drop, get_or}
 use lib.Seq.{drop-cons}
 use Rattle.std.specs.Prelude.{Ok, Err}
-use Rattle.laws.proofs.Comparisons.{ltb_yes, ltb_no, ge_of}
-use Rattle.laws.proofs.Tests.{true_of_not}
+use Rattle.laws.proofs.Comparisons.{ltb_yes, ltb_no, lt_of, ge_of}
+use Rattle.laws.proofs.Tests.{Is, is, is_true, is_false, true_of_not}
 use Rattle.station.specs.declared.types.Preset.{Preset}
 use Rattle.station.specs.declared.types.Head.{Head as Record}
 use Rattle.station.specs.declared.types.Refusal as code
-use Rattle.station.specs.declared.types.Refusal.TheVariants.{OutOfLimits, TooShort}
+use Rattle.station.specs.declared.types.Refusal.TheVariants.{NoForm, OutOfLimits, OutOfPlace, NumberUsed, MandatoryNotFeasible, ClockBack, CallNotFeasible, TooShort, TooMany, TextTooLong, NotWellFormed, NoRow}
 use Rattle.station.specs.Head.{Head}
 use Rattle.station.specs.Refusal.{Refusal, out_of_limits, too_short, try, first_of}
 use Rattle.station.specs.Text.{bytes, ◌then◌, join}
 use Rattle.station.specs.Decimal.{digits}
 use Rattle.station.specs.Form.{Form, frame_line, preset_line, supply_line, print}
 use Rattle.station.specs.Writing.{stretches, busy_line_of, busy_lines, supply_lines, tie_lines, forms_of, text_of}
-use Rattle.station.specs.Types.{refusal_in, preset_in, no_record, head_in, valid_record}
+use Rattle.station.specs.Types.{refusal_in, refusal_of, preset_in, no_record, head_in, valid_record}
 use Rattle.station.specs.Wrote.{Wrote}
 use Rattle.station.specs.WriteHead.{written, answer_in, cause_in, write_causes, answer_of, output_of, write_answer, write_output, WroteHead}
 use Rattle.station.proofs.Refusal.{first_none}
@@ -71,6 +72,24 @@ head_text h =
 
 -- ---- the entry's answer and output, by the cause that holds
 
+-- a cause of the code is known by what it stands for
+known : (r : code.Refusal) → refusal_of (refusal_in r) ≡ r
+known NoForm = refl
+known OutOfLimits = refl
+known OutOfPlace = refl
+known NumberUsed = refl
+known MandatoryNotFeasible = refl
+known ClockBack = refl
+known CallNotFeasible = refl
+known TooShort = refl
+known TooMany = refl
+known TextTooLong = refl
+known NotWellFormed = refl
+known NoRow = refl
+
+cause_is : (r s : code.Refusal) → some (refusal_in r) ≡ some (refusal_in s) → r ≡ s
+cause_is r s e = let z : refusal_in r ≡ refusal_in s = cc in sym (known r) ∙ ap refusal_of z ∙ known s
+
 -- nothing is written for a cause
 pub text_refused : (c : Option Refusal) (r : code.Refusal) (t out : List ℕ) → some (refusal_in r) ≡ c
     → (answer_in (Err r) ≡ answer_of c (length t)) × (out ≡ output_of c t out)
@@ -92,18 +111,28 @@ module _ (h : Record) (ps : List Preset) (out : List ℕ) where
       let long = first_none too_short (ltb (length out) 8192) (try out_of_limits (not (valid_record h ps)) ∷ []) (sym e) in
       (ge_of (length out) 8192 long.0, true_of_not (valid_record h ps) (first_none out_of_limits (not (valid_record h ps)) [] long.1).0)
 
-  pub head_refused : (r : code.Refusal) → cause_in (Err r) ≡ first_of (write_causes h ps out) → WroteHead h ps out (Err r) out
+  by_cause : (r : code.Refusal) → some (refusal_in r) ≡ first_of (write_causes h ps out) → WroteHead h ps out (Err r) out
   unfolding write_answer write_output
-  head_refused r e = let both = text_refused (first_of (write_causes h ps out)) r (text_of (head_in h ps)) out e in record { answer = both.0; output = both.1 }
+  by_cause r e = let both = text_refused (first_of (write_causes h ps out)) r (text_of (head_in h ps)) out e in record { answer = both.0; output = both.1 }
 
   -- the two causes, one by one
   pub too_short_lem : length out < 8192 → WroteHead h ps out (Err TooShort) out
   unfolding first_of
-  too_short_lem l = head_refused TooShort (rw (ltb_yes (length out) 8192 l) refl)
+  too_short_lem l = by_cause TooShort (rw (ltb_yes (length out) 8192 l) refl)
 
   pub out_of_limits_lem : 8192 ≤ length out → valid_record h ps ≡ false → WroteHead h ps out (Err OutOfLimits) out
   unfolding first_of
-  out_of_limits_lem l v = head_refused OutOfLimits (rw (ltb_no (length out) 8192 l, v) refl)
+  out_of_limits_lem l v = by_cause OutOfLimits (rw (ltb_no (length out) 8192 l, v) refl)
+
+  -- there is no third
+  pub head_refused : (r : code.Refusal) → cause_in (Err r) ≡ first_of (write_causes h ps out) → WroteHead h ps out (Err r) out
+  unfolding first_of
+  head_refused r e = go (is (ltb (length out) 8192)) (is (valid_record h ps))
+    where
+      go : Is (ltb (length out) 8192) → Is (valid_record h ps) → WroteHead h ps out (Err r) out
+      go (is_true s) v = rw (cause_is r TooShort (rw s at e)) (too_short_lem (lt_of (length out) 8192 s))
+      go (is_false s) (is_false v) = rw (cause_is r OutOfLimits (rw (s, v) at e)) (out_of_limits_lem (ge_of (length out) 8192 s) v)
+      go (is_false s) (is_true v) = absurd (let z : some (refusal_in r) ≡ none = rw (s, v) at e in cc)
 
   pub head_written : (n : ℕ) (after : List ℕ) → none ≡ first_of (write_causes h ps out) → Wrote out 0 (text_of (head_in h ps)) after n → WroteHead h ps out (Ok n) after
   unfolding write_answer write_output

@@ -1,7 +1,6 @@
 -- `plan::plan_by_value` meets its contract: a law for each answer. Assumes nothing.
-use mathlib.Core.Path.{refl, sym, ◌∙◌}
+use mathlib.Core.Path.{refl}
 use Rattle.std.proofs.lemmas.Result.{err_from_is_err_and}
-use Rattle.placing.specs.method.Grants.{invalid}
 use Rattle.placing.proofs.HeadRecord.{count_high, record_valid}
 use Rattle.placing.proofs.plan.PlanAnswers.{meant_short, meant_granted, grants_are, grants_done, plan_refused, plan_not_granted, plan_done}
 use Rattle.placing.proofs.ClaimsHold.{plan_claim}
@@ -9,9 +8,6 @@ use Rattle.placing.proofs.plan.plan_by_value.Goals as goal
 
 pub returns-then-table-lt-LEAST_CELLS-clause-claim : goal.returns-then-table-lt-LEAST_CELLS-clause-claim
 returns-then-table-lt-LEAST_CELLS-clause-claim c = plan_claim _ _
-
-pub returns-then-not-valid_record-clause-claim : goal.returns-then-not-valid_record-clause-claim
-returns-then-not-valid_record-clause-claim c = plan_claim _ _
 
 pub returns-in_err-granted-clause-claim : goal.returns-in_err-granted-clause-claim
 returns-in_err-granted-clause-claim c = plan_claim _ _
@@ -23,14 +19,10 @@ pub returns-then-table-lt-LEAST_CELLS-clause-done : goal.returns-then-table-lt-L
 returns-then-table-lt-LEAST_CELLS-clause-done c =
     let a = c.args in plan_refused a.station.now.head a.station.now.presets a.table.now (meant_short a.station.now.head a.station.now.presets a.table.now c.if-table-lt-LEAST_CELLS.true)
 
-pub returns-then-not-valid_record-clause-done : goal.returns-then-not-valid_record-clause-done
-returns-then-not-valid_record-clause-done c = let a = c.args in
-    plan_not_granted a.station.now.head a.station.now.presets a.table.now c.if-table-lt-LEAST_CELLS.false (invalid (sym c.valid_record.ensures ∙ c.if-not-valid_record.true))
-
 pub invariant_of-lawful : goal.invariant_of-lawful
 invariant_of-lawful c = let h = c.args.station.now.head in
     let ps = c.args.station.now.presets in
-    let valid = sym c.valid_record.ensures ∙ c.if-not-valid_record.false in
+    let valid = c.in_ok-granted.ensures.valid in
     let v = record_valid h ps valid in
     record { valid = valid; few_presets = count_high h ps valid; few_slots = v.slots_high; few_bridges = v.bridges_high }
 

@@ -10,24 +10,24 @@ use Rattle.placing.proofs.check.table.FrameWalk.{fits_below, passed_none, slot_b
 use Rattle.placing.proofs.check.table.scan.Goals as goal
 use Rattle.placing.proofs.check.table.scan.Goals.{else-v-ge-MANDATORY, then-v-ge-MANDATORY+else-grid-held+else-last-n}
 
-pub loop-s-init : goal.loop-s-init
-loop-s-init c = let a = c.args in passed_none a.grid.now.bridges a.grid.now.fed a.busy.now a.numbers.now a.grid.now.cells.now a.counts.now c.requires
+pub frame-init : goal.frame-init
+frame-init c = let a = c.args in passed_none a.grid.now.bridges a.grid.now.fed a.busy.now a.numbers.now a.grid.now.cells.now a.counts.now c.requires
 
 pub loop-b-init : goal.loop-b-init
 loop-b-init c = let a = c.args in
-    let f = c.loop-s in
+    let f = c.frame in
     slot_begun a.grid.now.bridges a.grid.now.fed a.busy.now a.numbers.now a.grid.now.cells.now f.s f.at f.counts f.last f.invariant
 
 pub offset_bounds-grid-at : goal.offset_bounds-grid-at
 offset_bounds-grid-at c =
     let below_end : c.loop-b.at < 512 =
-    omega (arith, c.loop-b.invariant.place, place_lt c.loop-s.s c.loop-b.b c.args.grid.now.bridges 512 (omega arith) (omega arith) (omega arith) (omega arith)) in
+    omega (arith, c.loop-b.invariant.place, place_lt c.frame.s c.loop-b.b c.args.grid.now.bridges 512 (omega arith) (omega arith) (omega arith) (omega arith)) in
     omega (arith, below_end)
 
 pub bounds-grid-at : goal.bounds-grid-at
 bounds-grid-at c =
     let below_end : c.loop-b.at < 512 =
-    omega (arith, c.loop-b.invariant.place, place_lt c.loop-s.s c.loop-b.b c.args.grid.now.bridges 512 (omega arith) (omega arith) (omega arith) (omega arith)) in
+    omega (arith, c.loop-b.invariant.place, place_lt c.frame.s c.loop-b.b c.args.grid.now.bridges 512 (omega arith) (omega arith) (omega arith) (omega arith)) in
     omega (arith, below_end)
 
 pub offset_bounds-counts-place : goal.offset_bounds-counts-place
@@ -45,7 +45,7 @@ bounds-counts-place c =
 pub overflow_add-counts : goal.overflow_add-counts
 overflow_add-counts c =
     let below_end : c.loop-b.at < 512 =
-    omega (arith, c.loop-b.invariant.place, place_lt c.loop-s.s c.loop-b.b c.args.grid.now.bridges 512 (omega arith) (omega arith) (omega arith) (omega arith)) in
+    omega (arith, c.loop-b.invariant.place, place_lt c.frame.s c.loop-b.b c.args.grid.now.bridges 512 (omega arith) (omega arith) (omega arith) (omega arith)) in
     rw (c.from-place.ensures, c.loop-b.invariant.counted) (omega (
       arith,
       tally_le c.args.grid.now.cells.now (get_or c.args.grid.now.cells.now c.loop-b.at 0 - 512) c.loop-b.at,
@@ -61,7 +61,7 @@ bounds-counts-place-then-v-ge-MANDATORY c =
 pub overflow_add-at : goal.overflow_add-at
 overflow_add-at c =
     let below_end : c.loop-b.at < 512 =
-    omega (arith, c.loop-b.invariant.place, place_lt c.loop-s.s c.loop-b.b c.args.grid.now.bridges 512 (omega arith) (omega arith) (omega arith) (omega arith)) in
+    omega (arith, c.loop-b.invariant.place, place_lt c.frame.s c.loop-b.b c.args.grid.now.bridges 512 (omega arith) (omega arith) (omega arith) (omega arith)) in
     omega (arith, below_end)
 
 pub loop-b-preserved : goal.loop-b-preserved
@@ -71,20 +71,20 @@ loop-b-preserved c = let a = c.args in
     elim c.if-v-ge-MANDATORY.branch [
       | then-v-ge-MANDATORY+else-grid-held+else-last-n w ↦ rw (w.counts-is, w.last-is, w.held-is, w.number_in-n.ensures.0, w.from-place.ensures)
           (walked_more a.grid.now.bridges a.grid.now.fed a.busy.now a.numbers.now a.grid.now.cells.now
-          c.loop-s.s l.b l.at l.counts l.last l.held l.invariant (omega arith) fits w.if-v-ge-MANDATORY.true w.if-grid-held.false (rw w.number_in-n.ensures.0 at w.if-last-n.false))
+          c.frame.s l.b l.at l.counts l.last l.held l.invariant (omega arith) fits w.if-v-ge-MANDATORY.true w.if-grid-held.false (rw w.number_in-n.ensures.0 at w.if-last-n.false))
       | else-v-ge-MANDATORY w ↦ rw (w.counts-is, w.last-is, w.held-is)
           (walked_skip a.grid.now.bridges a.grid.now.fed a.busy.now a.numbers.now a.grid.now.cells.now
-          c.loop-s.s l.b l.at l.counts l.last l.held l.invariant (omega arith) fits w.if-v-ge-MANDATORY.false)
+          c.frame.s l.b l.at l.counts l.last l.held l.invariant (omega arith) fits w.if-v-ge-MANDATORY.false)
     ]
 
-pub loop-s-preserved : goal.loop-s-preserved
-loop-s-preserved c = let a = c.args in
+pub frame-preserved : goal.frame-preserved
+frame-preserved c = let a = c.args in
     let l = c.loop-b in
-    slot_done a.grid.now.bridges a.grid.now.fed a.busy.now a.numbers.now a.grid.now.cells.now c.loop-s.s l.b l.at l.counts l.last l.held l.invariant (omega arith)
+    slot_done a.grid.now.bridges a.grid.now.fed a.busy.now a.numbers.now a.grid.now.cells.now c.frame.s l.b l.at l.counts l.last l.held l.invariant (omega arith)
 
-pub returns : goal.returns
-returns c = let a = c.args in
-    let f = c.loop-s in (
+pub returns-after-frame : goal.returns-after-frame
+returns-after-frame c = let a = c.args in
+    let f = c.frame in (
       (no_fault a.grid.now.bridges a.grid.now.fed a.busy.now a.numbers.now a.grid.now.cells.now
           a.grid.now.slots f.s f.at f.counts f.last f.invariant (omega arith)),
       f.invariant.counted,
@@ -94,7 +94,7 @@ pub returns-then-not-cell_fits : goal.returns-then-not-cell_fits
 returns-then-not-cell_fits c = let a = c.args in
     let l = c.loop-b in (
       (cell_unfit a.grid.now.bridges a.grid.now.fed a.busy.now a.numbers.now a.grid.now.cells.now
-          c.loop-s.s l.b l.at l.counts l.last l.held l.invariant a.grid.now.slots (omega arith) (omega arith)
+          c.frame.s l.b l.at l.counts l.last l.held l.invariant a.grid.now.slots (omega arith) (omega arith)
           (sym c.cell_fits.ensures ∙ c.if-not-cell_fits.true)),
       l.invariant.counted,
     )
@@ -103,7 +103,7 @@ pub returns-then-grid-held : goal.returns-then-grid-held
 returns-then-grid-held c = let a = c.args in
     let l = c.loop-b in (
       (no_motor_left a.grid.now.bridges a.grid.now.fed a.busy.now a.numbers.now a.grid.now.cells.now
-          c.loop-s.s l.b l.at l.counts l.last l.held l.invariant a.grid.now.slots (omega arith) (omega arith)
+          c.frame.s l.b l.at l.counts l.last l.held l.invariant a.grid.now.slots (omega arith) (omega arith)
           c.if-v-ge-MANDATORY.true c.if-grid-held.true),
       l.invariant.counted,
     )
@@ -112,7 +112,7 @@ pub returns-then-last-n : goal.returns-then-last-n
 returns-then-last-n c = let a = c.args in
     let l = c.loop-b in (
       (number_twice a.grid.now.bridges a.grid.now.fed a.busy.now a.numbers.now a.grid.now.cells.now
-          c.loop-s.s l.b l.at l.counts l.last l.held l.invariant a.grid.now.slots (omega arith) (omega arith)
+          c.frame.s l.b l.at l.counts l.last l.held l.invariant a.grid.now.slots (omega arith) (omega arith)
           c.if-v-ge-MANDATORY.true (rw c.number_in-n.ensures.0 at c.if-last-n.true)),
       l.invariant.counted,
     )

@@ -6,5 +6,5 @@ use Rattle.placing.proofs.check.table.scan.Given as goal
 abbrev pub invariant-loop-b : goal.invariant-loop-b
 invariant-loop-b l = Walked l.grid.bridges l.grid.fed l.busy l.numbers l.grid.cells.now l.s l.b l.at l.counts l.last l.held
 
-abbrev pub invariant-loop-s : goal.invariant-loop-s
-invariant-loop-s l = Passed l.grid.bridges l.grid.fed l.busy l.numbers l.grid.cells.now l.s l.at l.counts l.last
+abbrev pub invariant-frame : goal.invariant-frame
+invariant-frame l = Passed l.grid.bridges l.grid.fed l.busy l.numbers l.grid.cells.now l.s l.at l.counts l.last

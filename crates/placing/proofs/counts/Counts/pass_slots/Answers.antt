@@ -9,7 +9,7 @@ use Rattle.placing.proofs.counts.Counts.pass_slots.Goals as goal
 
 pub loop-s-init : goal.loop-s-init
 loop-s-init c = let g = c.in-Some.grid in
-    (refl, refl, λ up right. rw c.min-s.ensures ((entries_past g.cells.now g.slots g.bridges g.fed c.args.from).0 right))
+    (refl, refl, λ up right. rw c.first_slot-s.ensures ((entries_past g.cells.now g.slots g.bridges g.fed c.args.from).0 right))
 
 pub loop-s-preserved : goal.loop-s-preserved
 loop-s-preserved c = let l = c.loop-s in
@@ -18,7 +18,7 @@ loop-s-preserved c = let l = c.loop-s in
       l.invariant.1,
       λ up right.
           let r = l.invariant.2 up right in
-          pass_slot g.cells.now g.slots g.bridges g.fed l.s (omega (arith, c.loop-s-test.true, c.min-s-end.ensures)) r
+          pass_slot g.cells.now g.slots g.bridges g.fed l.s (omega (arith, c.loop-s-test.true, c.first_slot-s-end.ensures)) r
           c.usable_in.ensures.0 c.leave_slot.ensures.0 (c.leave_slot.ensures.1 r.long),
     )
 
@@ -28,6 +28,6 @@ returns-clause-passed c = λ e up.
     let a = c.args in
     let g = c.in-Some.grid in
     let of = c.in-Some.ensures in
-    let same : l.s ≡ min a.to g.slots = omega (arith, up, l.auto.s-end, c.loop-s-test.false, c.min-s.ensures, c.min-s-end.ensures) in
+    let same : l.s ≡ min a.to g.slots = omega (arith, up, l.auto.s-end, c.loop-s-test.false, c.first_slot-s.ensures, c.first_slot-s-end.ensures) in
     rw (of.cells, of.slots, of.bridges, of.fed) at (λ (right : AtLeast c.args.self.now.at_least g.slots (slot_free g.cells.now g.bridges g.fed a.from)). (entries_past g.cells.now g.slots g.bridges g.fed a.to).1
     (subst (λ (k : ℕ). AtLeast l.self.at_least g.slots (slot_free g.cells.now g.bridges g.fed k)) same (l.invariant.2 up right)))

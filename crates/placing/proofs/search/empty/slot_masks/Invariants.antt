@@ -7,7 +7,6 @@ use Rattle.laws.proofs.Stores.{Stored}
 use Rattle.placing.specs.method.Search.{first_slot, held_from, slot_mask}
 use Rattle.placing.proofs.search.empty.slot_masks.Given as goal
 
--- (a clock past the frame is where the loop then stands)
 abbrev pub invariant-loop-s : goal.invariant-loop-s
 invariant-loop-s l = (length l.out ≡ 64)
     × Stored (replicate 64 0) (slot_mask l.grid.cells.now l.grid.bridges l.clock) 0 (min l.s l.grid.slots) l.out

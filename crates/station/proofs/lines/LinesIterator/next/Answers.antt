@@ -1,8 +1,10 @@
 -- The iterator over the lines of a text meets its contract: the first line of what is left comes, and the others are left.
 -- Assumes nothing.
-use Rattle.std.proofs.Common.{◌≡◌, ◌<◌, ◌∷◌, length, ap, arith}
+use Rattle.std.proofs.Common.{◌≡◌, ℕ, ◌-◌, ◌<◌, List, ◌∷◌, length, take, drop, ap, arith}
 use Rattle.std.proofs.lemmas.Bool.Decides.{nat_tests}
+use Rattle.std.proofs.lemmas.List.{take_rest}
 use Rattle.station.specs.Text.{lines}
+use Rattle.station.specs.Line.{line_of}
 use Rattle.station.proofs.lines.FirstLine.{line_length, lines_empty, lines_split}
 use Rattle.station.proofs.lines.LinesIterator.next.Goals as goal
 
@@ -12,20 +14,25 @@ returns-then-is_empty-clause-steps c =
     let e = lines_empty c.args.self.now.0.now none in
     (e, e)
 
-pub split_at-requires : goal.split_at-requires
-split_at-requires c = omega (arith, c.line_length.ensures, line_length c.args.self.now.0.now)
+pub slice_bounds-self-count : goal.slice_bounds-self-count
+slice_bounds-self-count c = omega (arith, ap length c.line_at-line.ensures, line_length c.args.self.now.0.now)
 
--- the first line comes off
-split : (c : goal.After-rest-2-1) → lines c.args.self.now.0.now ≡ c.split_at.result.0.now ∷ lines c.split_at.result.1.now
-split c =
-    let some : 0 < length c.args.self.now.0.now = grind (arith, nat_tests) in
-    lines_split c.args.self.now.0.now c.split_at.result.0.now c.split_at.result.1.now c.line_length.result some c.line_length.ensures
-    c.split_at.ensures.front c.split_at.ensures.back
+pub slice_bounds-self-start : goal.slice_bounds-self-start
+slice_bounds-self-start c = omega (arith, ap length c.line_at-line.ensures, line_length c.args.self.now.0.now)
+
+-- the first line comes off, and what follows it by its length is left
+comes_off : (t l : List ℕ) → 0 < length t → l ≡ line_of t → lines t ≡ l ∷ lines (take (length t - length l) (drop (length l) t))
+comes_off t l some e = lines_split t l (take (length t - length l) (drop (length l) t)) some e (take_rest t (length l))
 
 pub returns-clause-steps : goal.returns-clause-steps
-returns-clause-steps c = split c
+returns-clause-steps c =
+    let some : 0 < length c.args.self.now.0.now = grind (arith, nat_tests) in
+    comes_off c.args.self.now.0.now c.line_at-line.result.now some c.line_at-line.ensures
 
 pub returns-clause-goes : goal.returns-clause-goes
 returns-clause-goes c =
-    let fewer : length (lines c.split_at.result.1.now) < length (lines c.args.self.now.0.now) = omega (arith, ap length (split c)) in
+    let t = c.args.self.now.0.now in
+    let l = c.line_at-line.result.now in
+    let some : 0 < length t = grind (arith, nat_tests) in
+    let fewer : length (lines (take (length t - length l) (drop (length l) t))) < length (lines t) = omega (arith, ap length (comes_off t l some c.line_at-line.ensures)) in
     record { on = λ _. (tt, tt, fewer); keeps = tt; rests = λ _. tt }
