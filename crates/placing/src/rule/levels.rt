@@ -97,8 +97,8 @@ pub(crate) fn choose(levels: &mut [u64; LEVELS], top: usize, d: usize, held: u64
     let mut served = 0;
     let mut rest = d;
     let mut l = top;
-    // From one level in which somebody waits to the next: to pass over the others in a loop of
-    // their own takes a quarter less for a plan of few presets.
+    // From one level in which somebody waits to the next: with every level looked at in this loop,
+    // a plan of few presets takes a quarter longer.
     while 0 < l {
         let level = levels[l];
         let first = first_held(level ^ (level & served), held, rest);
