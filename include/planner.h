@@ -56,7 +56,7 @@
 #define PLANNER_TEXT_BYTES 32768     /* the longest text, of a station or of rows */
 #define PLANNER_ROWS_BYTES 2240      /* the longest rows that planner_write_rows writes */
 #define PLANNER_LISTING_BYTES 655360 /* an output that is so long has room for every listing */
-#define PLANNER_STACK_SEEN 19000     /* see above: measured, not proved */
+#define PLANNER_STACK_SEEN 20500     /* see above: measured, not proved */
 
 /*
  * Each function answers PLANNER_ACCEPTED or the number of a refusal. Causes are tried in the order in which a function's comment names them, and the first that holds is the answer.

@@ -85,7 +85,7 @@ pub(crate) fn place(
     let mut top = enter(&mut levels, &work.needs, work.count);
     let mut held = 0;
     for s in 0..head.slots {
-        top = highest(&levels, top);
+        top = highest(&levels, top, 0);
         if top == 0 && clean <= s {
             return;
         }

@@ -31,16 +31,16 @@ pub(crate) fn enter(levels: &mut [u64; LEVELS], needs: &[u8; MOST_PLACED], k: us
     top
 }
 
-// The highest level from `from` down in which somebody stands, or 0. Here and below the loop goes
-// by the level below the one that is looked at: by `(1..=from).rev()` a plan of few presets takes a
-// quarter longer.
-pub(crate) fn highest(levels: &[u64; LEVELS], from: usize) -> usize
+// The highest level from `from` down in which somebody stands that is not in the mask `served`, or
+// 0.
+pub(crate) fn highest(levels: &[u64; LEVELS], from: usize, served: u64) -> usize
     requires { from < level_count }
-    ensures { (result ≤ from) × ((l : ℕ) → result < l → l ≤ from → at levels.now l ≡ 0) }
+    ensures { (result ≤ from) × ((l : ℕ) → result < l → l ≤ from → without (at levels.now l) served ≡ 0) }
 {
-    for below in (0..from).rev() {
-        if levels[below + 1] != 0 {
-            return below + 1;
+    for l in (1..=from).rev() {
+        let level = levels[l];
+        if level ^ (level & served) != 0 {
+            return l;
         }
     }
     0
@@ -96,19 +96,20 @@ pub(crate) fn choose(levels: &mut [u64; LEVELS], top: usize, d: usize, held: u64
 {
     let mut served = 0;
     let mut rest = d;
-    for below in (0..top).rev() {
-        let level = levels[below + 1];
-        let waiting = level ^ (level & served);
-        if waiting != 0 {
-            let first = first_held(waiting, held, rest);
-            levels[below + 1] = level ^ first.jobs;
-            levels[below] |= first.jobs;
-            served |= first.jobs;
-            rest = first.more;
-            if rest == 0 {
-                return served;
-            }
+    let mut l = top;
+    // From one level in which somebody waits to the next: with every level looked at in this loop,
+    // a plan of few presets takes a quarter longer.
+    while 0 < l {
+        let level = levels[l];
+        let first = first_held(level ^ (level & served), held, rest);
+        levels[l] = level ^ first.jobs;
+        levels[l - 1] |= first.jobs;
+        served |= first.jobs;
+        rest = first.more;
+        if rest == 0 {
+            return served;
         }
+        l = highest(levels, l - 1, served);
     }
     served
 }

@@ -136,13 +136,13 @@ none_at_level t c h l i r some high m empty other e =
 
 -- where all levels above r are empty, nobody needs more than r
 pub most_of : (t : List ℕ) (c : ℕ → ℕ) (top r : ℕ) → Levelled t c → top < 65 → ((i : ℕ) → i < 64 → c i ≤ top)
-    → ((l : ℕ) → r < l → l ≤ top → at t l ≡ 0) → (i : ℕ) → i < 64 → c i ≤ r
+    → ((l : ℕ) → r < l → l ≤ top → without (at t l) 0 ≡ 0) → (i : ℕ) → i < 64 → c i ≤ r
 most_of t c top r h high most empty i m = go (is (ltb r (c i)))
   where
     go : Is (ltb r (c i)) → c i ≤ r
     go (is_true e) =
         let l : r < c i = lt_of r (c i) e in
-        absurd (none_at_level t c h (c i) i 0 (omega (arith, l)) (omega (arith, high, most i m)) m (ap (λ (n : ℕ). without n 0) (empty (c i) l (most i m))) (has_bit_zero i) refl)
+        absurd (none_at_level t c h (c i) i 0 (omega (arith, l)) (omega (arith, high, most i m)) m (empty (c i) l (most i m)) (has_bit_zero i) refl)
     go (is_false e) = ge_of r (c i) e
 
 -- some of the jobs of level l, those of the mask `got`, move to the level below

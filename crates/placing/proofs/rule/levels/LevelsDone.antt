@@ -68,24 +68,23 @@ module _ (tie : ℕ → ℕ → Bool) (c : ℕ → ℕ) (d : ℕ) (t : List ℕ)
   still : (i : ℕ) → i < 64 → c i ≤ l → has_bit r i ≡ false
   still i m low = not-true (has_bit r i) (λ e. omega (arith, low, above i m e))
 
-  -- nobody that got no cell stands in level l
-  pub gone_empty : without (at t l) r ≡ 0 → Gone tie c d t (l - 1) rest r
-  gone_empty empty =
+  -- nobody that got no cell stands in the levels from l down to l'
+  pub gone_empty : (l' : ℕ) → l' ≤ l → ((q : ℕ) → l' < q → q ≤ l → without (at t q) r ≡ 0) → Gone tie c d t l' rest r
+  gone_empty l' less empty =
       record {
         levels = so_far.levels;
         picked = λ i m. so_far.picked i m ∙ ap (λ (x : Bool). x && chosen tie 64 c d i) (same i m);
-        cells = omega (arith, so_far.cells, count_ext 64 (λ j. ltb l (c j)) (λ j. ltb (l - 1) (c j)) same);
+        cells = omega (arith, so_far.cells, count_ext 64 (λ j. ltb l (c j)) (λ j. ltb l' (c j)) same);
       }
     where
-      same : (i : ℕ) → i < 64 → ltb l (c i) ≡ ltb (l - 1) (c i)
-      same i m = ltb_iff l (c i) (l - 1) (c i) (λ q. omega (arith, q)) (λ q. further q (is (ltb l (c i))))
+      same : (i : ℕ) → i < 64 → ltb l (c i) ≡ ltb l' (c i)
+      same i m = ltb_iff l (c i) l' (c i) (λ q. omega (arith, less, q)) (λ q. further q (is (ltb l (c i))))
         where
-          further : l - 1 < c i → Is (ltb l (c i)) → l < c i
+          further : l' < c i → Is (ltb l (c i)) → l < c i
           further q (is_true e) = lt_of l (c i) e
           further q (is_false e) =
               let low : c i ≤ l = ge_of l (c i) e in
-              let here : l ≡ c i = omega arith in
-              absurd (none_at_level t (λ j. c j - bit (has_bit r j)) so_far.levels (c i) i r (omega (arith, q)) (omega (arith, low, high)) m (rw here at empty)
+              absurd (none_at_level t (λ j. c j - bit (has_bit r j)) so_far.levels (c i) i r (omega (arith, q)) (omega (arith, low, high)) m (empty (c i) q low)
               (still i m low) (omega (arith, ap bit (still i m low))))
 
   -- every level, or as many as there were cells for

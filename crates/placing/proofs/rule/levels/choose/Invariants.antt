@@ -8,5 +8,8 @@ use Rattle.placing.specs.method.Rule.{Levelled}
 use Rattle.placing.proofs.rule.levels.LevelsDone.{Gone}
 use Rattle.placing.proofs.rule.levels.choose.Given as goal
 
-abbrev pub invariant-loop-below : goal.invariant-loop-below
-invariant-loop-below l = (length l.levels ≡ 65) × ((c : ℕ → ℕ) → Levelled l.initial.levels c → ((i : ℕ) → i < 64 → c i ≤ l.top) → Gone (tie_hold 0 (has_bit l.held)) c l.d l.levels l.below l.rest l.served)
+abbrev pub invariant-loop-l : goal.invariant-loop-l
+invariant-loop-l l = (l.l ≤ l.top) × (length l.levels ≡ 65) × ((c : ℕ → ℕ) → Levelled l.initial.levels c → ((i : ℕ) → i < 64 → c i ≤ l.top) → Gone (tie_hold 0 (has_bit l.held)) c l.d l.levels l.l l.rest l.served)
+
+abbrev pub decreases-loop-l : goal.decreases-loop-l
+decreases-loop-l l = l.l
