@@ -6,7 +6,7 @@
 -- sides, each a list of cases and one fact: the causes' numbers (`cause_numbers`); the limits of a head's lines at both edges, and the causes of a line two at
 -- a time in the listed order (`edges_read`), the tie line and its places (`ties_read`, `ties_written`), the supply line and its places (`supplies_read`, `supplies_written`),
 -- the causes of a 33rd preset (`used_before_33`, `outside_before_33`); head records at the edges (`edges_valid`, `record_32`, `record_33`); what the entries over a list of records
--- try (`entries_read`, `entries_written`).
+-- try (`entries_read`, `entries_written`), and what is copied out of a list and back (`records_loaded`, `records_saved`).
 -- Assumes nothing.
 use Prim.Native.Nat.{ℕ, zero, suc}
 use Prim.Native.String.{String}
@@ -27,9 +27,10 @@ use Rattle.station.specs.Reading.{Reading, accepted, refused, head_of, read_from
 use Rattle.station.specs.declared.types.Preset as record-of-preset
 use Rattle.station.specs.declared.types.Head as record-of-head
 use Rattle.station.specs.declared.types.Refusal.TheVariants as code
-use Rattle.station.specs.Types.{refusal_in, valid_record}
+use Rattle.station.specs.Types.{refusal_in, valid_record, no_record}
 use Rattle.station.specs.WriteHead as write
 use Rattle.station.specs.Entries.{entry_reading, entry_answer}
+use Rattle.station.specs.Records.{loaded, saved}
 
 -- ---- what computes: `unfolding reads` opens all that reading a text needs, and so the others
 
@@ -422,3 +423,23 @@ pub entries_written : (entry_answer 32 (counting 0) [] (replicate 8192 0) ≡ wr
     × (entry_answer 32 (feeding 9) [] (replicate 8191 0) ≡ write.refused 0 too_short)
 unfolding writes valid has_number all_in_limits all_distinct masks_in first_of
 entries_written = (refl, refl, refl, refl, refl, refl, refl, refl, refl)
+
+-- ---- preset records copied out of a list, and back
+
+abbrev numbered : ℕ → record-of-preset.Preset
+numbered n = record { number = n; priority = 3; mandatory = 5; optional = 2 }
+
+-- zeros after the records of a short list, and none past the 32nd
+pub records_loaded : (loaded (numbered 7 ∷ numbered 5 ∷ []) ≡ numbered 7 ∷ numbered 5 ∷ replicate 30 no_record)
+    × (loaded (replicate 31 (numbered 7) ++ numbered 5 ∷ numbered 9 ∷ []) ≡ replicate 31 (numbered 7) ++ numbered 5 ∷ [])
+records_loaded = (refl, refl)
+
+-- Only the first n go back, in their order, and only as far as the list and the copied have them:
+-- none, two, more than a list of three has; and of 40 no more than the 32 that were copied.
+pub records_saved : (list : List record-of-preset.Preset) → list ≡ numbered 7 ∷ numbered 5 ∷ numbered 9 ∷ []
+    → (copied : List record-of-preset.Preset) → copied ≡ numbered 4 ∷ numbered 1 ∷ numbered 8 ∷ replicate 29 (numbered 2)
+    → (saved list copied 0 ≡ list)
+    × (saved list copied 2 ≡ numbered 4 ∷ numbered 1 ∷ numbered 9 ∷ [])
+    × (saved list copied 4 ≡ numbered 4 ∷ numbered 1 ∷ numbered 8 ∷ [])
+    × (saved (replicate 33 (numbered 6)) copied 40 ≡ copied ++ numbered 6 ∷ [])
+records_saved list l copied c = rw (l, c) (refl, refl, refl, refl)
